@@ -1,0 +1,57 @@
+-- What a request does to the two lent tables, whatever their cells and its figures: the answer, and the tables afterwards.
+use mathlib.Core.Bool.{not}
+use mathlib.Core.List.{List, [], _∷_, _++_}
+use mathlib.Core.Option.{Option, none, some}
+use lib.IntN.{ℤ}
+use Rattle.rules.specs.Refusal.{Test, test, firstRefusal}
+use Rattle.rules.specs.Reply.{refusedBy}
+use Rattle.rules.specs.Request.{Request, trade, separate, transfer, merge, lineage}
+use Rattle.rules.specs.Books.{View, viewOf}
+use Rattle.rules.specs.Plan.{Plan, booking, question, bookingTests, booked}
+use Rattle.rules.specs.Trade.{tradePlan}
+use Rattle.rules.specs.Separation.{separationPlan}
+use Rattle.rules.specs.Transfer.{transferPlan}
+use Rattle.rules.specs.Merge.{mergePlan, sourcesOf, pairsOf}
+use Rattle.rules.specs.Lineage.{lineagePlan}
+use Rattle.rules.specs.Tables.{Tables, booksOf, writeBooks, soundRecords, soundPositions}
+use Rattle.rules.specs.declared.Reply.{Reply}
+
+-- Each request's plan, from what it sees.
+unfoldable pub planOf : View → Request → Plan
+planOf v (trade id account series side quantity price) =
+    tradePlan id account series side quantity price (v .greatestSuffix id) (v .positionAt account series)
+planOf v (separate id suffix account series parts) =
+    separationPlan id suffix account series parts (v .recordAt id suffix) (v .greatestSuffix id)
+planOf v (transfer id suffix from to series) =
+    transferPlan id suffix from to series (v .recordAt id suffix) (v .greatestSuffix id) (v .positionAt from series) (v .positionAt to series)
+planOf v (merge id account series pairs) =
+    mergePlan id account series pairs (v .greatestSuffix id) (sourcesOf v (pairsOf pairs)) (v .positionAt account series)
+planOf v (lineage id suffix) = lineagePlan id suffix (v .recordAt id)
+
+-- Document 01's table of refusals for this plan, in its order. 1: "records table not sound". 2: "positions table not sound (not for lineage)".
+unfoldable pub refusals : Tables → Plan → List Test
+refusals t (booking tests effects) =
+    test 1 (not (soundRecords (t .records)))
+    ∷ test 2 (not (soundPositions (t .positions)))
+    ∷ tests ++ bookingTests (booksOf t) effects
+refusals t (question tests reply) = test 1 (not (soundRecords (t .records))) ∷ tests
+
+pub record Answer : Type 0 where
+  pub reply : Reply
+  pub tables : Tables
+
+-- What an accepted request answers and leaves. A question never writes.
+unfoldable pub accepted : Tables → Plan → Answer
+accepted t (booking tests effects) = record { reply = effects .reply; tables = writeBooks t (booked effects (booksOf t)) }
+accepted t (question tests reply) = record { reply = reply; tables = t }
+
+-- "A refused request changes nothing."
+unfoldable pub answer : Option Test → Tables → Answer → Answer
+answer none t done = done
+answer (some refusal) t done = record { reply = refusedBy refusal; tables = t }
+
+-- "A request is accepted when no refusal number applies to it"; otherwise the first that applies is given.
+unfoldable pub handle : Tables → Request → Answer
+handle t r =
+    let plan : Plan = planOf (viewOf (booksOf t)) r in
+    answer (firstRefusal (refusals t plan)) t (accepted t plan)

@@ -1,0 +1,51 @@
+-- What a request asks of the books and would change in them, and the refusals that come from the change itself.
+use Prim.Native.Nat.{ℕ, _+_}
+use mathlib.Core.Bool.{Bool, not}
+use mathlib.Core.List.{List, [], _∷_, _++_, map}
+use lib.Dec.{ltb}
+use lib.ListN.{length}
+use lib.IntN.{ℤ, pos}
+use lib.Signed.{ltZ}
+use Rattle.rules.specs.Figures.{greatestOfSuffixes}
+use Rattle.rules.specs.Keyed.{upsertAll, absentFrom}
+use Rattle.rules.specs.Rows.{recordKey, positionKey, soundPosition}
+use Rattle.rules.specs.Refusal.{Test, test, anyOf, allOf}
+use Rattle.rules.specs.Books.{Books}
+use Rattle.rules.specs.declared.Record.{Record}
+use Rattle.rules.specs.declared.Position.{Position}
+use Rattle.rules.specs.declared.Reply.{Reply}
+
+-- What an accepted request does: named records in their new status, new rows, the position rows that it needs as they will stand, and its answer.
+pub record Effects : Type 0 where
+  pub changed : List Record
+  pub added : List Record
+  pub positions : List Position
+  pub reply : Reply
+
+-- A request that books has its own tests (3 to 12) and its effects; a question has its own tests and its answer.
+pub data Plan : Type 0 where
+  booking : List Test → Effects → Plan
+  question : List Test → Reply → Plan
+
+unfoldable pub suffixIsAbove : Record → Bool
+suffixIsAbove r = ltZ greatestOfSuffixes (r .suffix)
+
+-- 13: "an id would need a suffix above 65,535"
+-- 14: "row count plus the request's new rows exceeds the records room"
+-- 15: "row count plus the needed absent rows exceeds the positions room"
+-- 16: "long, short or cash would leave its range"
+unfoldable pub bookingTests : Books → Effects → List Test
+bookingTests b e =
+    test 13 (anyOf (map suffixIsAbove (e .added)))
+    ∷ test 14 (ltb (b .recordsRoom) (length (b .records) + length (e .added)))
+    ∷ test 15 (ltb (b .positionsRoom) (length (b .positions) + absentFrom positionKey (b .positions) (e .positions)))
+    ∷ test 16 (not (allOf (map soundPosition (e .positions))))
+    ∷ []
+
+-- The books after the effects: each row replaces the one with its key, or goes where its key belongs.
+unfoldable pub booked : Effects → Books → Books
+booked e b = record {
+    records = upsertAll recordKey (e .changed ++ e .added) (b .records);
+    positions = upsertAll positionKey (e .positions) (b .positions);
+    recordsRoom = b .recordsRoom;
+    positionsRoom = b .positionsRoom }

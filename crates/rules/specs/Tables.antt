@@ -1,0 +1,83 @@
+-- The two lent tables as cells: their layouts, when they are sound, and their rows.
+use Prim.Native.Nat.{ℕ, _+_}
+use mathlib.Core.Bool.{Bool, _&&_}
+use mathlib.Core.List.{List, [], _∷_, map}
+use lib.IntN.{ℤ, pos}
+use lib.ListN.{getD}
+use Rattle.rules.specs.Keyed.{Key, rising}
+use Rattle.rules.specs.Rows.{recordKey, positionKey, soundRecord, soundPosition}
+use Rattle.rules.specs.Refusal.{allOf}
+use Rattle.rules.specs.Books.{Books}
+use Rattle.rules.specs.Layout.{Layout, roomOf, rowsOf, countIsSound, write}
+use Rattle.rules.specs.declared.Record.{Record}
+use Rattle.rules.specs.declared.Position.{Position}
+
+-- "each row has 13 cells: id, suffix, parent, type, status, account, series, side code, quantity, price, long booked, short booked, into"
+abbrev pub recordAt : List ℤ → ℕ → Record
+recordAt cells at = record {
+    id = getD cells at (pos 0);
+    suffix = getD cells (at + 1) (pos 0);
+    parent = getD cells (at + 2) (pos 0);
+    kind = getD cells (at + 3) (pos 0);
+    status = getD cells (at + 4) (pos 0);
+    account = getD cells (at + 5) (pos 0);
+    series = getD cells (at + 6) (pos 0);
+    side = getD cells (at + 7) (pos 0);
+    quantity = getD cells (at + 8) (pos 0);
+    price = getD cells (at + 9) (pos 0);
+    long = getD cells (at + 10) (pos 0);
+    short = getD cells (at + 11) (pos 0);
+    into = getD cells (at + 12) (pos 0) }
+
+unfoldable pub recordCells : Record → List ℤ
+recordCells r =
+    r .id ∷ r .suffix ∷ r .parent ∷ r .kind ∷ r .status ∷ r .account ∷ r .series
+    ∷ r .side ∷ r .quantity ∷ r .price ∷ r .long ∷ r .short ∷ r .into ∷ []
+
+-- "each row has 5 cells: account, series, long, short, cash"
+abbrev pub positionAt : List ℤ → ℕ → Position
+positionAt cells at = record {
+    account = getD cells at (pos 0);
+    series = getD cells (at + 1) (pos 0);
+    long = getD cells (at + 2) (pos 0);
+    short = getD cells (at + 3) (pos 0);
+    cash = getD cells (at + 4) (pos 0) }
+
+unfoldable pub positionCells : Position → List ℤ
+positionCells p = p .account ∷ p .series ∷ p .long ∷ p .short ∷ p .cash ∷ []
+
+-- "Room ... at most 4,096"; for positions "Room likewise, at most 1,024"
+abbrev pub recordsLayout : Layout Record
+recordsLayout = record { header = 1; width = 13; most = 4096; get = recordAt; put = recordCells }
+
+abbrev pub positionsLayout : Layout Position
+positionsLayout = record { header = 1; width = 5; most = 1024; get = positionAt; put = positionCells }
+
+-- "the slice has a cell 0, the count lies between 0 and the room, rows strictly rise", each row sound
+unfoldable pub soundTable : {Row : Type 0} → Layout Row → (Row → Key) → (Row → Bool) → List ℤ → Bool
+soundTable l key soundRow cells =
+    countIsSound l cells && rising key (rowsOf l cells) && allOf (map soundRow (rowsOf l cells))
+
+unfoldable pub soundRecords : List ℤ → Bool
+soundRecords cells = soundTable recordsLayout recordKey soundRecord cells
+
+unfoldable pub soundPositions : List ℤ → Bool
+soundPositions cells = soundTable positionsLayout positionKey soundPosition cells
+
+-- The two lent tables.
+pub record Tables : Type 0 where
+  pub records : List ℤ
+  pub positions : List ℤ
+
+-- Their rows and rooms.
+unfoldable pub booksOf : Tables → Books
+booksOf t = record {
+    records = rowsOf recordsLayout (t .records);
+    positions = rowsOf positionsLayout (t .positions);
+    recordsRoom = roomOf recordsLayout (t .records);
+    positionsRoom = roomOf positionsLayout (t .positions) }
+
+unfoldable pub writeBooks : Tables → Books → Tables
+writeBooks t b = record {
+    records = write recordsLayout (t .records) (b .records);
+    positions = write positionsLayout (t .positions) (b .positions) }

@@ -1,0 +1,41 @@
+-- Document 01, "Touching".
+use mathlib.Core.Bool.{Bool, true, false, _||_}
+use mathlib.Core.List.{List, [], _∷_, map}
+use lib.IntN.{ℤ}
+use Rattle.integers.specs.Order.{eqZ}
+use Rattle.rules.specs.Keyed.{Key}
+use Rattle.rules.specs.Rows.{keyOf}
+use Rattle.rules.specs.Request.{Request, trade, separate, transfer, merge, lineage}
+use Rattle.rules.specs.Merge.{pairsOf, isAmong}
+
+-- "A request's ids are all it names, new ones included"
+unfoldable pub idsOf : Request → List ℤ
+idsOf (trade id account series side quantity price) = id ∷ []
+idsOf (separate id suffix account series parts) = id ∷ []
+idsOf (transfer id suffix from to series) = id ∷ []
+idsOf (merge id account series pairs) = id ∷ map (λ (k : Key). k .major) (pairsOf pairs)
+idsOf (lineage id suffix) = id ∷ []
+
+-- "its positions are each account it names with its series"; "Lineage is a request here and has no position."
+unfoldable pub positionsOf : Request → List Key
+positionsOf (trade id account series side quantity price) = keyOf account series ∷ []
+positionsOf (separate id suffix account series parts) = keyOf account series ∷ []
+positionsOf (transfer id suffix from to series) = keyOf from series ∷ keyOf to series ∷ []
+positionsOf (merge id account series pairs) = keyOf account series ∷ []
+positionsOf (lineage id suffix) = []
+
+unfoldable pub isNamedIn : ℤ → List ℤ → Bool
+isNamedIn id [] = false
+isNamedIn id (e ∷ rest) = eqZ id e || isNamedIn id rest
+
+unfoldable pub shareId : List ℤ → List ℤ → Bool
+shareId [] others = false
+shareId (id ∷ rest) others = isNamedIn id others || shareId rest others
+
+unfoldable pub sharePosition : List Key → List Key → Bool
+sharePosition [] others = false
+sharePosition (k ∷ rest) others = isAmong k others || sharePosition rest others
+
+-- "Two requests touch if they share an id or a position."
+unfoldable pub touch : Request → Request → Bool
+touch a b = shareId (idsOf a) (idsOf b) || sharePosition (positionsOf a) (positionsOf b)
