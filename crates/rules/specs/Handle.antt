@@ -7,7 +7,7 @@ use Rattle.rules.specs.Refusal.{Test, test, firstRefusal}
 use Rattle.rules.specs.Reply.{refusedBy}
 use Rattle.rules.specs.Request.{Request, trade, separate, transfer, merge, lineage}
 use Rattle.rules.specs.Books.{View, viewOf}
-use Rattle.rules.specs.Plan.{Plan, booking, question, bookingTests, booked}
+use Rattle.rules.specs.Plan.{Plan, booking, question, planTests, planReply, booked}
 use Rattle.rules.specs.Trade.{tradePlan}
 use Rattle.rules.specs.Separation.{separationPlan}
 use Rattle.rules.specs.Transfer.{transferPlan}
@@ -28,22 +28,23 @@ planOf v (merge id account series pairs) =
     mergePlan id account series pairs (v .greatestSuffix id) (sourcesOf v (pairsOf pairs)) (v .positionAt account series)
 planOf v (lineage id suffix) = lineagePlan id suffix (v .recordAt id)
 
--- Document 01's table of refusals for this plan, in its order. 1: "records table not sound". 2: "positions table not sound (not for lineage)".
+-- 1: "records table not sound". 2: "positions table not sound (not for lineage)".
+unfoldable pub soundnessTests : Tables → Plan → List Test
+soundnessTests t (booking tests effects) = test 1 (not (soundRecords (t .records))) ∷ test 2 (not (soundPositions (t .positions))) ∷ []
+soundnessTests t (question tests reply) = test 1 (not (soundRecords (t .records))) ∷ []
+
+-- Document 01's table of refusals for this plan, in its order.
 unfoldable pub refusals : Tables → Plan → List Test
-refusals t (booking tests effects) =
-    test 1 (not (soundRecords (t .records)))
-    ∷ test 2 (not (soundPositions (t .positions)))
-    ∷ tests ++ bookingTests (booksOf t) effects
-refusals t (question tests reply) = test 1 (not (soundRecords (t .records))) ∷ tests
+refusals t plan = soundnessTests t plan ++ planTests (booksOf t) plan
 
 pub record Answer : Type 0 where
   pub reply : Reply
   pub tables : Tables
 
--- What an accepted request answers and leaves. A question never writes.
-unfoldable pub accepted : Tables → Plan → Answer
-accepted t (booking tests effects) = record { reply = effects .reply; tables = writeBooks t (booked effects (booksOf t)) }
-accepted t (question tests reply) = record { reply = reply; tables = t }
+-- The tables that an accepted request leaves. A question never writes.
+unfoldable pub planTables : Plan → Tables → Tables
+planTables (booking tests effects) t = writeBooks t (booked effects (booksOf t))
+planTables (question tests reply) t = t
 
 -- "A refused request changes nothing."
 unfoldable pub answer : Option Test → Tables → Answer → Answer
@@ -54,4 +55,4 @@ answer (some refusal) t done = record { reply = refusedBy refusal; tables = t }
 unfoldable pub handle : Tables → Request → Answer
 handle t r =
     let plan : Plan = planOf (viewOf (booksOf t)) r in
-    answer (firstRefusal (refusals t plan)) t (accepted t plan)
+    answer (firstRefusal (refusals t plan)) t (record { reply = planReply plan; tables = planTables plan t })

@@ -42,6 +42,11 @@ bookingTests b e =
     ∷ test 16 (not (allOf (map soundPosition (e .positions))))
     ∷ []
 
+-- The refusals from 3 on, in the order of document 01's table.
+unfoldable pub planTests : Books → Plan → List Test
+planTests b (booking tests effects) = tests ++ bookingTests b effects
+planTests b (question tests reply) = tests
+
 -- The books after the effects: each row replaces the one with its key, or goes where its key belongs.
 unfoldable pub booked : Effects → Books → Books
 booked e b = record {
@@ -49,3 +54,12 @@ booked e b = record {
     positions = upsertAll positionKey (e .positions) (b .positions);
     recordsRoom = b .recordsRoom;
     positionsRoom = b .positionsRoom }
+
+-- The books and the answer where no refusal applies. A question never writes.
+unfoldable pub planBooks : Plan → Books → Books
+planBooks (booking tests effects) b = booked effects b
+planBooks (question tests reply) b = b
+
+unfoldable pub planReply : Plan → Reply
+planReply (booking tests effects) = effects .reply
+planReply (question tests reply) = reply

@@ -1,0 +1,1 @@
+// Laws of how rows lie in a lent table, over any width: no code.

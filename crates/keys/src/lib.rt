@@ -1,0 +1,1 @@
+// Laws of keyed tables, over any row: no code.
