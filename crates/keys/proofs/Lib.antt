@@ -1,3 +1,5 @@
 pub mod Split
 pub mod Equal
 pub mod KeyOrder
+pub mod Clauses
+pub mod Lookup

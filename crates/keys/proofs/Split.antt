@@ -1,7 +1,8 @@
--- A test is true or false, and what `&&` and `||` say of their parts. Assumes nothing.
+-- A test is true or false, what `&&` and `||` say of their parts, and a lookup that finds nothing or something. Assumes nothing.
 use mathlib.Core.Path.{_≡_, refl, sym, _∙_, ap}
 use mathlib.Core.Bool.{Bool, true, false, cond, _&&_, _||_, not, true≢false}
 use mathlib.Core.Logic.{_⊎_, inl, inr}
+use mathlib.Core.Option.{Option, none, some, Option·none-ne-some, Option·some-injective}
 
 pub split : (b : Bool) → (b ≡ true) ⊎ (b ≡ false)
 split true = inl refl
@@ -59,3 +60,18 @@ cond-true x y p = ap (λ (b : Bool). cond b x y) p
 
 pub cond-false {ℓ} : {A : Type ℓ} {b : Bool} (x y : A) → b ≡ false → cond b x y ≡ y
 cond-false x y p = ap (λ (b : Bool). cond b x y) p
+
+-- A lookup finds nothing or a row.
+pub data Found {A : Type 0} (o : Option A) : Type 0 where
+  absent : o ≡ none → Found o
+  present : (x : A) → o ≡ some x → Found o
+
+pub found : {A : Type 0} (o : Option A) → Found o
+found none = absent refl
+found (some x) = present x refl
+
+pub none-some {ℓ} : {X : Type ℓ} {A : Type 0} {o : Option A} {x : A} → o ≡ none → o ≡ some x → X
+none-some {x} p q = absurd (Option·none-ne-some x (sym p ∙ q))
+
+pub some-inj : {A : Type 0} {o : Option A} {x y : A} → o ≡ some x → o ≡ some y → x ≡ y
+some-inj {x} {y} p q = Option·some-injective x y (sym p ∙ q)
