@@ -3,3 +3,5 @@ pub mod Equal
 pub mod KeyOrder
 pub mod Clauses
 pub mod Lookup
+pub mod Commute
+pub mod Rising
