@@ -5,3 +5,5 @@ pub mod Clauses
 pub mod Lookup
 pub mod Commute
 pub mod Rising
+pub mod Greatest
+pub mod Folds
