@@ -88,8 +88,6 @@ module _ {Row : Type 0} (key : Row → Key) where
   found-greatest m s [] x f = none-some (find-nil key (keyOf m s)) f
   found-greatest m s (r ∷ rest) x f = go (found-greatest m s rest x) (split (eqZ (key r .major) m)) (split (same (key r) (keyOf m s)))
     where
-      Result : List Row → Type 0
-      Result t = (g : ℤ) × (greatest key m t ≡ some g) × (leZ s g ≡ true)
       wider : eqZ (key r .major) m ≡ true → ((g : ℤ) × (greatest key m rest ≡ some g) × (leZ s g ≡ true)) →
           (g : ℤ) × (greatest key m (r ∷ rest) ≡ some g) × (leZ s g ≡ true)
       wider e w =

@@ -7,3 +7,4 @@ pub mod Commute
 pub mod Rising
 pub mod Greatest
 pub mod Folds
+pub mod Counts
