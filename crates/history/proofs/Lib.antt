@@ -1,2 +1,5 @@
 pub mod Places
 pub mod Replay
+pub mod Named
+pub mod Refusals
+pub mod Locality

@@ -39,6 +39,10 @@ module _ {Row : Type 0} (key : Row → Key) where
   only-append p [] ys h k = k
   only-append p (r ∷ rest) ys h k = only-intro p r (rest ++ ys) (only-head p r rest h) (only-append p rest ys (only-tail p r rest h) k)
 
+  pub only-weaken : (p q : Key → Bool) (rs : List Row) → ((k : Key) → p k ≡ true → q k ≡ true) → Only p rs → Only q rs
+  only-weaken p q [] w h = allOf-nil
+  only-weaken p q (r ∷ rest) w h = only-intro q r rest (w (key r) (only-head p r rest h)) (only-weaken p q rest w (only-tail p r rest h))
+
   pub upsertAll-append : (xs ys t : List Row) → upsertAll key (xs ++ ys) t ≡ upsertAll key ys (upsertAll key xs t)
   upsertAll-append [] ys t = ap (λ (x : List Row). upsertAll key ys x) (sym (upsertAll-nil key t))
   upsertAll-append (r ∷ rest) ys t =
