@@ -3,3 +3,5 @@ pub mod Replay
 pub mod Named
 pub mod Refusals
 pub mod Locality
+pub mod Effects
+pub mod OwnKeys
