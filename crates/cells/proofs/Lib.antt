@@ -4,3 +4,6 @@ pub mod Encode
 pub mod Both
 pub mod Count
 pub mod Write
+pub mod Shift
+pub mod Sound
+pub mod RowCells

@@ -5,7 +5,7 @@ use native.Mathlib.Omega.{arith}
 use mathlib.Core.Path.{_≡_, refl, sym, ap, _∙_}
 use mathlib.Core.List.{List, [], _∷_, _++_, append-assoc}
 use lib.ListN.{length, take, drop, length-append, length-take, length-drop, take-append-drop}
-use lib.Seq.{drop-drop, drop-append-add}
+use lib.Seq.{drop-drop, drop-append-add, length-take-le}
 
 module _ {ℓ} {A : Type ℓ} where
 
@@ -25,3 +25,12 @@ module _ {ℓ} {A : Type ℓ} where
   drop-past xs ys n m e h =
       let u : m ≡ length xs + (m - n) = omega arith in
       ap (λ (j : ℕ). drop j (xs ++ ys)) u ∙ drop-append-add xs ys (m - n)
+
+  -- Lengths after one item goes in before item k, or in its place.
+  pub length-inserted : (rows : List A) (k : ℕ) (new : A) → k ≤ length rows → length (take k rows ++ (new ∷ drop k rows)) ≡ suc (length rows)
+  length-inserted rows k new h =
+      length-append (take k rows) (new ∷ drop k rows) ∙ omega (arith, length-take-le k rows h, length-drop k rows)
+
+  pub length-replaced : (rows : List A) (k : ℕ) (new : A) → k < length rows → length (take k rows ++ (new ∷ drop (suc k) rows)) ≡ length rows
+  length-replaced rows k new h =
+      length-append (take k rows) (new ∷ drop (suc k) rows) ∙ omega (arith, length-take-le k rows (omega arith), length-drop (suc k) rows)
