@@ -7,3 +7,6 @@ pub mod Write
 pub mod Shift
 pub mod Sound
 pub mod RowCells
+pub mod SoundCells
+pub mod BookCells
+pub mod SoundBookCells
