@@ -1,17 +1,13 @@
 -- Books written into the two tables are the books read again; of two writings that never shrink the second alone is seen; sound tables are what their own books write.
 -- Assumes nothing.
-use Prim.Native.Nat.{ℕ, _≤_}
+use Prim.Native.Nat.{_≤_}
 use mathlib.Core.Path.{_≡_, refl, sym, ap, _∙_}
 use mathlib.Core.Bool.{true}
-use mathlib.Core.List.{List}
-use lib.IntN.{ℤ}
 use lib.ListN.{length}
 use Rattle.rules.specs.Books.{Books}
 use Rattle.rules.specs.Layout.{roomOf, rowsOf, countIsSound, write}
 use Rattle.rules.specs.Tables.{Tables, recordsLayout, positionsLayout, booksOf, writeBooks}
 use Rattle.cells.specs.Fitting.{Fitting}
-use Rattle.rules.specs.declared.Record.{Record}
-use Rattle.rules.specs.declared.Position.{Position}
 use Rattle.cells.proofs.Write.{length-write, room-write, rows-write, write-write, write-own}
 use Rattle.cells.proofs.RowCells.{records-lawful, positions-lawful}
 

@@ -1,15 +1,15 @@
 -- Room, count and rows of a table, over any lawful layout: what a sound count says, and how rows within the room lie within the cells.
 -- Assumes nothing.
-use Prim.Native.Nat.{ℕ, zero, suc, _+_, _-_, _*_, _/_, _≤_, _<_, min}
+use Prim.Native.Nat.{ℕ, _+_, _-_, _*_, _/_, _≤_, min}
 use native.Mathlib.Nat.{le-div-iff-mul-le, min-le-right, min-le-left, le-trans, le-min}
+use native.Mathlib.Numerals.{one-add}
 use native.Mathlib.Omega.{arith}
 use mathlib.Core.Path.{_≡_, refl, sym, ap, _∙_}
-use mathlib.Core.Bool.{Bool, true, false, _&&_}
-use mathlib.Core.List.{List, [], _∷_, _++_}
+use mathlib.Core.Bool.{true}
+use mathlib.Core.List.{List, [], _∷_}
 use lib.Dec.{leb}
 use lib.IntN.{ℤ, pos, negsuc, natAbs}
-use lib.Signed.{leZ}
-use lib.ListN.{length, take, drop, getD}
+use lib.ListN.{length, take, drop}
 use borrow.Author.Tests.{leb-true, le-leb}
 use Rattle.integers.specs.Order.{inRange}
 use Rattle.rules.specs.Layout.{Layout, countOf, decode, roomOf, rowsOf, countIsSound}
@@ -26,6 +26,11 @@ within (negsuc n) room e = let z : _≡_ {A = ℕ} 0 1 = cc in absurd (omega ari
 pub pos-within : (n room : ℕ) → n ≤ room → inRange (pos 0) (pos room) (pos n) ≡ true
 unfolding inRange
 pos-within n room h = both (leb 0 n) (leb n room) (le-leb 0 n (omega arith)) (le-leb n room h)
+
+-- The count and the cells after it are the first cells of the table.
+pub count-then : (cells : List ℤ) (m : ℕ) → 1 ≤ length cells → countOf cells ∷ take m (drop 1 cells) ≡ take (1 + m) cells
+count-then [] m h = absurd (omega arith)
+count-then (c ∷ rest) m h = ap (λ (j : ℕ). take j (c ∷ rest)) (sym (one-add m))
 
 module _ {Row : Type 0} (l : Layout Row) where
 

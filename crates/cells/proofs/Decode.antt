@@ -1,9 +1,9 @@
 -- Rows read from cells: how many they are, the first of them, and the rows read as two runs. Nothing is asked of how one row is read.
 -- Each by recursion on the number of rows. Assumes nothing.
 use Prim.Native.Nat.{ℕ, zero, suc, _+_, _-_, _*_, _≤_, _<_}
-use native.Mathlib.Nat.{zero-add, suc-add, add-zero, add-assoc, zero-mul, suc-mul, sub-zero, suc-sub-suc, add-comm, le-of-suc-le-suc}
+use native.Mathlib.Nat.{zero-add, suc-add, add-zero, zero-mul, suc-mul, le-of-suc-le-suc}
 use native.Mathlib.Omega.{arith}
-use mathlib.Core.Path.{_≡_, refl, sym, ap, _∙_}
+use mathlib.Core.Path.{_≡_, refl, ap, _∙_}
 use mathlib.Core.List.{List, [], _∷_, _++_}
 use lib.IntN.{ℤ}
 use lib.ListN.{length, take, drop, getD}

@@ -1,12 +1,11 @@
 -- One row put into a table before row k, or in place of row k, as cells: what code that shifts cells leaves. Over any lawful layout.
 -- With n rows, from cell 1 on. Assumes nothing.
-use Prim.Native.Nat.{ℕ, zero, suc, _+_, _-_, _*_, _≤_, _<_}
-use native.Mathlib.Nat.{mul-le-mul-right, add-mul, suc-mul}
-use native.Mathlib.Numerals.{one-add}
+use Prim.Native.Nat.{ℕ, suc, _+_, _-_, _*_, _≤_, _<_}
+use native.Mathlib.Nat.{mul-le-mul-right, add-mul}
 use native.Mathlib.Omega.{arith}
-use mathlib.Core.Path.{_≡_, refl, sym, ap, _∙_}
+use mathlib.Core.Path.{_≡_, sym, ap, _∙_}
 use mathlib.Core.Bool.{true}
-use mathlib.Core.List.{List, [], _∷_, _++_, append-assoc}
+use mathlib.Core.List.{List, _∷_, _++_, append-assoc}
 use lib.IntN.{ℤ, pos}
 use lib.ListN.{length, take, drop, take-append-drop}
 use lib.Seq.{drop-drop}
@@ -15,7 +14,7 @@ use Rattle.cells.specs.Lawful.{Lawful}
 use Rattle.cells.proofs.Parts.{length-inserted, length-replaced}
 use Rattle.cells.proofs.Decode.{length-decode, take-decode, drop-decode}
 use Rattle.cells.proofs.Encode.{encode-cons, encode-append, encode-decode}
-use Rattle.cells.proofs.Count.{rowsOf-decode, sound-count-cell, sound-count, sound-rows-cells}
+use Rattle.cells.proofs.Count.{count-then, rowsOf-decode, sound-count, sound-rows-cells}
 use Rattle.cells.proofs.Write.{write-cells}
 
 -- Rows k to n are the cells of rows k to n.
@@ -92,11 +91,7 @@ module _ {Row : Type 0} (l : Layout Row) (lawful : Lawful l) (cells : List ℤ) 
       ∙ ap (λ (c : List ℤ). pos n ∷ c) regroup
       ∙ ap (λ (c : List ℤ). pos n ∷ (before ++ (l .put new ++ c))) (take-append-drop m rest)
       ∙ ap (λ (z : ℤ). z ∷ (before ++ (l .put new ++ rest))) (sym count)
-      ∙ ap (λ (c : List ℤ). c ++ (l .put new ++ rest)) (first-cell cells (k * w) cell)
-    where
-      first-cell : (xs : List ℤ) (m : ℕ) → 1 ≤ length xs → countOf xs ∷ take m (drop 1 xs) ≡ take (1 + m) xs
-      first-cell [] m h = absurd (omega arith)
-      first-cell (x ∷ xs) m h = ap (λ (j : ℕ). take j (x ∷ xs)) (sym (one-add m))
+      ∙ ap (λ (c : List ℤ). c ++ (l .put new ++ rest)) (count-then cells (k * w) cell)
 
 module _ {Row : Type 0} (l : Layout Row) (lawful : Lawful l) (cells : List ℤ) (sound : countIsSound l cells ≡ true) where
 

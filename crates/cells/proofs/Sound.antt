@@ -1,6 +1,6 @@
 -- A sound table: its count is sound, its rows rise, and each row is sound; each way. And a table written with such rows is sound, over any lawful layout.
 -- Assumes nothing.
-use Prim.Native.Nat.{ℕ, _≤_}
+use Prim.Native.Nat.{_≤_}
 use mathlib.Core.Path.{_≡_}
 use mathlib.Core.Bool.{Bool, true, _&&_}
 use mathlib.Core.List.{List, map}

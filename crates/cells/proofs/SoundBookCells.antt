@@ -1,8 +1,8 @@
 -- Sound tables have books that rise, are sound and fit; and sound books that fit leave sound tables. Assumes nothing.
-use Prim.Native.Nat.{ℕ, _≤_}
-use mathlib.Core.Path.{_≡_, refl, sym, ap, _∙_}
+use Prim.Native.Nat.{_≤_}
+use mathlib.Core.Path.{_≡_, refl}
 use mathlib.Core.Bool.{true}
-use mathlib.Core.List.{List, map}
+use mathlib.Core.List.{map}
 use lib.ListN.{length}
 use Rattle.rules.specs.Keyed.{rising}
 use Rattle.rules.specs.Refusal.{allOf}
@@ -10,7 +10,6 @@ use Rattle.rules.specs.Rows.{recordKey, positionKey, soundRecord, soundPosition
 use Rattle.rules.specs.Books.{Books}
 use Rattle.rules.specs.Tables.{Tables, soundRecords, soundPositions, booksOf, writeBooks}
 use Rattle.cells.specs.Fitting.{Fitting}
-use Rattle.cells.specs.SoundTable.{SoundRecords, SoundPositions}
 use Rattle.cells.proofs.SoundCells.{records-known, positions-known, write-sound-records, write-sound-positions}
 use Rattle.cells.proofs.BookCells.{records-within, positions-within, written-records, written-positions, write-own-books}
 

@@ -1,20 +1,20 @@
 -- Rows written into a table, over any lawful layout: the table keeps its length and room, its rows are the rows written, a later writing of no fewer rows
 -- is all that is seen, and a sound table is what its own rows write. Assumes nothing.
-use Prim.Native.Nat.{ℕ, zero, suc, _+_, _-_, _*_, _≤_, _<_}
+use Prim.Native.Nat.{ℕ, suc, _+_, _-_, _*_, _≤_}
 use native.Mathlib.Nat.{mul-le-mul-right}
 use native.Mathlib.Numerals.{one-add}
 use native.Mathlib.Omega.{arith}
 use mathlib.Core.Path.{_≡_, refl, sym, ap, _∙_}
 use mathlib.Core.Bool.{true}
-use mathlib.Core.List.{List, [], _∷_, _++_, append-assoc}
-use lib.IntN.{ℤ, pos, natAbs}
-use lib.ListN.{length, take, drop, getD, length-append, length-drop}
+use mathlib.Core.List.{List, [], _∷_, _++_}
+use lib.IntN.{ℤ, pos}
+use lib.ListN.{length, take, drop, length-append, length-drop, take-append-drop}
 use lib.Seq.{drop-drop}
-use Rattle.rules.specs.Layout.{Layout, countOf, decode, encode, roomOf, rowsOf, countIsSound, write}
+use Rattle.rules.specs.Layout.{Layout, countOf, encode, roomOf, rowsOf, countIsSound, write}
 use Rattle.cells.specs.Lawful.{Lawful}
-use Rattle.cells.proofs.Parts.{around, drop-past}
+use Rattle.cells.proofs.Parts.{drop-past}
 use Rattle.cells.proofs.Encode.{length-encode, encode-decode, decode-encode}
-use Rattle.cells.proofs.Count.{room-by-length, fits-cells, rowsOf-count, rowsOf-decode, count-sound, sound-count-cell, sound-count, sound-rows-fit, sound-rows-cells}
+use Rattle.cells.proofs.Count.{count-then, room-by-length, fits-cells, rowsOf-count, rowsOf-decode, count-sound, sound-count-cell, sound-count, sound-rows-cells}
 
 module _ {Row : Type 0} (l : Layout Row) where
 
@@ -78,11 +78,8 @@ module _ {Row : Type 0} (l : Layout Row) (lawful : Lawful l) where
       write-cells cells (rowsOf l cells)
       ∙ ap (λ (c : List ℤ). pos n ∷ (c ++ drop (1 + n * w) cells)) own
       ∙ ap (λ (z : ℤ). z ∷ (take (n * w) (drop 1 cells) ++ drop (1 + n * w) cells)) (sym (sound-count l lawful cells sound))
-      ∙ first-cell cells (n * w) (sound-count-cell l lawful cells sound)
-    where
-      first-cell : (xs : List ℤ) (m : ℕ) → 1 ≤ length xs → countOf xs ∷ (take m (drop 1 xs) ++ drop (1 + m) xs) ≡ xs
-      first-cell [] m h = absurd (omega arith)
-      first-cell (x ∷ xs) m h = around (x ∷ xs) 1 m
+      ∙ ap (λ (c : List ℤ). c ++ drop (1 + n * w) cells) (count-then cells (n * w) (sound-count-cell l lawful cells sound))
+      ∙ take-append-drop (1 + n * w) cells
 
   -- The count of a written table is sound, where the rows fit.
   pub write-sound-count : (cells : List ℤ) (rows : List Row) → 1 ≤ length cells → length rows ≤ roomOf l cells → countIsSound l (write l cells rows) ≡ true
