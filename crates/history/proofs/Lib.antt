@@ -5,3 +5,6 @@ pub mod Refusals
 pub mod Locality
 pub mod Effects
 pub mod OwnKeys
+pub mod Unseen
+pub mod Room
+pub mod Exchange
