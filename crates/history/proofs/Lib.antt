@@ -8,3 +8,4 @@ pub mod OwnKeys
 pub mod Unseen
 pub mod Room
 pub mod Exchange
+pub mod Accepted
