@@ -9,3 +9,5 @@ pub mod Unseen
 pub mod Room
 pub mod Exchange
 pub mod Accepted
+pub mod Step
+pub mod TableExchange
