@@ -11,3 +11,4 @@ pub mod Exchange
 pub mod Accepted
 pub mod Step
 pub mod TableExchange
+pub mod Demand3

@@ -2,7 +2,7 @@
 use Prim.Native.Nat.{ℕ, _<_}
 use mathlib.Core.Path.{_≡_}
 use mathlib.Core.Bool.{Bool, true, cond, not}
-use mathlib.Core.List.{List, [], _∷_}
+use mathlib.Core.List.{List, [], _∷_, map}
 use mathlib.Core.Option.{Option, some}
 use lib.ListN.{length, getElem?}
 use Rattle.rules.specs.Keyed.{isSome}
@@ -22,6 +22,9 @@ isAccepted t r = not (isSome (firstRefusal (refusals t (planOf (viewOf (booksOf 
 pub record Entry : Type 0 where
   pub request : Request
   pub reply : Reply
+
+abbrev pub requestsOf : List Entry → List Request
+requestsOf entries = map (λ (e : Entry). e .request) entries
 
 -- The requests handed in one after the other from these tables: those that are accepted, in their order. "A refused request may stand anywhere in the first list."
 unfoldable pub acceptedEntries : Tables → List Request → List Entry
