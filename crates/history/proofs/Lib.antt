@@ -12,3 +12,4 @@ pub mod Accepted
 pub mod Step
 pub mod TableExchange
 pub mod Demand3
+pub mod ByPlaces
