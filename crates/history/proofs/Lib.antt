@@ -13,3 +13,4 @@ pub mod Step
 pub mod TableExchange
 pub mod Demand3
 pub mod ByPlaces
+pub mod Samples
