@@ -1,18 +1,17 @@
 -- A request on the two tables, where it is accepted and where it is refused: a refused one changes no cell; an accepted one's answer and tables are those of its plan, and
 -- its tests hold of the rows. Only a question is accepted on tables that are not both sound, and it writes nothing. Assumes nothing.
 use mathlib.Core.Path.{_≡_, refl, sym, _∙_, ap}
-use mathlib.Core.Bool.{Bool, true, false, not}
-use mathlib.Core.List.{List, [], _∷_, _++_}
+use mathlib.Core.Bool.{true, false, not}
+use mathlib.Core.List.{[]}
 use mathlib.Core.Logic.{_⊎_, inl, inr}
 use mathlib.Core.Option.{Option, none, some}
 use borrow.Author.Tests.{not-true, not-false}
 use Rattle.rules.specs.Keyed.{isSome}
-use Rattle.rules.specs.Refusal.{Test, test, firstRefusal}
+use Rattle.rules.specs.Refusal.{Test, firstRefusal}
 use Rattle.rules.specs.Request.{Request}
-use Rattle.rules.specs.Books.{viewOf}
 use Rattle.rules.specs.Plan.{Plan, booking, question, planTests, planReply}
 use Rattle.rules.specs.Tables.{Tables, soundRecords, soundPositions, booksOf}
-use Rattle.rules.specs.Handle.{planOf, soundnessTests, refusals, Answer, planTables, answer, handle}
+use Rattle.rules.specs.Handle.{soundnessTests, refusals, planTables, answer, handle}
 use Rattle.soundness.specs.SoundBooks.{planOn, Accepts}
 use Rattle.keys.proofs.Counts.{isSome-absent, isSome-present}
 use Rattle.keys.proofs.Clauses.{isSome-none}

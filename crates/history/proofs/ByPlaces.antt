@@ -1,15 +1,15 @@
 -- A reordering written as the list of old places, checked by computation: no place twice, each within the old list, as many as it has, and of two places whose items touch
 -- the smaller first. Such a list gives a reordering. Assumes nothing.
-use Prim.Native.Nat.{ℕ, zero, suc, _<_, _≤_}
+use Prim.Native.Nat.{ℕ, zero, suc, _<_}
 use mathlib.Core.Path.{_≡_, refl, sym, _∙_, ap, subst}
 use mathlib.Core.Bool.{Bool, true, false, not, _&&_, _||_}
 use mathlib.Core.List.{List, [], _∷_, map}
 use mathlib.Core.Logic.{_⊎_, inl, inr}
-use mathlib.Core.Option.{Option, none, some}
+use mathlib.Core.Option.{Option, some}
 use lib.Dec.{eqb, ltb}
 use lib.ListN.{length, getD, getElem?, length-map, List·getD-map}
 use native.Mathlib.Omega.{arith}
-use borrow.Author.Tests.{ltb-true, ltb-false, eqb-true, eqb-false, not-true, eq-eqb}
+use borrow.Author.Tests.{ltb-true, ltb-false, eqb-true, eqb-false, not-true}
 use Rattle.rules.specs.Refusal.{allOf}
 use Rattle.keys.proofs.Split.{split, clash, and-left, and-right, or-cases, some-inj}
 use Rattle.keys.proofs.Clauses.{allOf-head, allOf-tail}

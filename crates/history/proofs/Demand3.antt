@@ -5,21 +5,21 @@
 -- refuses, or does nothing, is shut out by the rules themselves (demand 2), and not by this theorem, which such a program would satisfy.
 --
 -- By the exchange of neighbours (TableExchange), carried to any reordering (Replay). Assumes the laws of soundness that stand as parameters.
-use Prim.Native.Nat.{ℕ, _+_, _<_}
-use mathlib.Core.Path.{_≡_, refl, sym, _∙_, ap, ap₂, subst}
+use Prim.Native.Nat.{_+_}
+use mathlib.Core.Path.{_≡_, refl, sym, _∙_, ap₂, subst}
 use mathlib.Core.Bool.{Bool, true, false}
-use mathlib.Core.List.{List, [], _∷_, map}
+use mathlib.Core.List.{List, [], _∷_}
 use mathlib.Core.Logic.{_⊎_, inl, inr}
-use lib.ListN.{length, getElem?}
+use lib.ListN.{length}
 use Rattle.rules.specs.Keyed.{absentFrom}
 use Rattle.rules.specs.Rows.{positionKey}
 use Rattle.rules.specs.Refusal.{Test}
 use Rattle.rules.specs.Request.{Request}
 use Rattle.rules.specs.Books.{Books}
-use Rattle.rules.specs.Plan.{Plan, booking, Effects, booked}
+use Rattle.rules.specs.Plan.{booking, Effects, booked}
 use Rattle.rules.specs.Tables.{Tables}
-use Rattle.rules.specs.Handle.{Answer, handle}
-use Rattle.rules.specs.Run.{Run, afterReply, run}
+use Rattle.rules.specs.Handle.{handle}
+use Rattle.rules.specs.Run.{afterReply, run}
 use Rattle.soundness.specs.SoundBooks.{SoundBooks, planOn, Accepts, after}
 use Rattle.keys.proofs.Split.{split, cond-true, cond-false}
 use Rattle.history.specs.History.{isAccepted, Entry, requestsOf, acceptedEntries, entriesTouch, Reordering}

@@ -4,8 +4,7 @@ use mathlib.Core.List.{List, []}
 use Rattle.rules.specs.Rows.{recordKey, positionKey}
 use Rattle.rules.specs.Refusal.{Test}
 use Rattle.rules.specs.Books.{Books}
-use Rattle.rules.specs.Plan.{Plan, booking, question, Effects, booked, planBooks, planReply}
-use Rattle.rules.specs.declared.Reply.{Reply}
+use Rattle.rules.specs.Plan.{Plan, booking, question, Effects, booked, planBooks}
 use Rattle.keys.proofs.Clauses.{upsertAll-nil}
 
 abbrev pub effectsOf : Plan → Effects

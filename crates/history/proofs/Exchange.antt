@@ -1,11 +1,11 @@
 -- The exchange, on rows: of two neighbouring accepted requests that don't touch, the second is accepted first with the same plan, the first after it with the same plan,
 -- and the books at the end are the same. Room is the delicate point: what the two add together is the same in either order, and tables never shrink.
 -- Assumes the laws of soundness that stand as parameters: sound books stay sound, and an accepted request adds as many rows as its tests 14 and 15 counted.
-use Prim.Native.Nat.{ℕ, _+_, _≤_}
+use Prim.Native.Nat.{_+_}
 use mathlib.Core.Path.{_≡_, refl, sym, _∙_, ap, subst}
-use mathlib.Core.Bool.{Bool, true, false}
+use mathlib.Core.Bool.{false}
 use mathlib.Core.List.{List, [], _++_}
-use mathlib.Core.Option.{Option, none}
+use mathlib.Core.Option.{none}
 use lib.ListN.{length}
 use native.Mathlib.Omega.{arith}
 use Rattle.rules.specs.Keyed.{absentFrom, upsertAll}

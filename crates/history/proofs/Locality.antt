@@ -1,8 +1,7 @@
 -- Locality: a request's plan is the same in two views that agree at the ids and positions that it names. One short proof for each kind of request, since each plan
 -- is a function of the values that it reads. Assumes nothing.
-use Prim.Native.Nat.{ℕ}
-use mathlib.Core.Path.{_≡_, refl, sym, _∙_, ap, ap₂, fun-ext}
-use mathlib.Core.Bool.{Bool, true, false}
+use mathlib.Core.Path.{_≡_, refl, _∙_, ap, ap₂, fun-ext}
+use mathlib.Core.Bool.{true}
 use mathlib.Core.List.{List, [], _∷_, map}
 use mathlib.Core.Option.{Option}
 use lib.IntN.{ℤ}
@@ -10,7 +9,6 @@ use Rattle.rules.specs.Keyed.{Key}
 use Rattle.rules.specs.Rows.{keyOf}
 use Rattle.rules.specs.Request.{Request, trade, separate, transfer, merge, lineage}
 use Rattle.rules.specs.Books.{View}
-use Rattle.rules.specs.Plan.{Plan}
 use Rattle.rules.specs.Trade.{tradePlan}
 use Rattle.rules.specs.Separation.{separationPlan}
 use Rattle.rules.specs.Transfer.{transferPlan}

@@ -10,18 +10,17 @@ use mathlib.Core.List.{List, [], _∷_, _++_, map}
 use mathlib.Core.Option.{Option, none, some}
 use lib.IntN.{ℤ, pos, _+ℤ_}
 use borrow.Author.Tests.{not-false}
-use Rattle.rules.specs.Figures.{separationKind, transferKind, mergeKind}
 use Rattle.rules.specs.Keyed.{Key, isSome, find}
 use Rattle.rules.specs.Rows.{keyOf, recordKey, positionKey, orZeros, zeroPosition, moved, adjustedRecord, inverseRecord, adjustableRecord, newRecord}
 use Rattle.rules.specs.NamedRecord.{theRecord, nextSuffix}
-use Rattle.rules.specs.Refusal.{Test, firstRefusal, anyOf}
+use Rattle.rules.specs.Refusal.{firstRefusal, anyOf}
 use Rattle.rules.specs.Request.{Request, trade, separate, transfer, merge, lineage}
 use Rattle.rules.specs.Books.{Books, View, viewOf}
-use Rattle.rules.specs.Plan.{Plan, booking, question, Effects}
+use Rattle.rules.specs.Plan.{Effects}
 use Rattle.rules.specs.Trade.{tradePlan}
 use Rattle.rules.specs.Separation.{separationPlan, partRecords}
 use Rattle.rules.specs.Transfer.{transferPlan}
-use Rattle.rules.specs.Merge.{Source, mergePlan, sourcesOf, pairsOf, isAmong, isMissing, recordsOf, timesIn, mergeInverses, mergedRecord}
+use Rattle.rules.specs.Merge.{Source, mergePlan, sourcesOf, pairsOf, isAmong, isMissing, recordsOf, mergeInverses, mergedRecord}
 use Rattle.rules.specs.Lineage.{lineagePlan}
 use Rattle.rules.specs.Touching.{idsOf, positionsOf, isNamedIn}
 use Rattle.rules.specs.Handle.{planOf}
@@ -30,7 +29,7 @@ use Rattle.rules.specs.declared.Position.{Position}
 use Rattle.keys.proofs.Clauses.{allOf-nil}
 use Rattle.keys.proofs.Lookup.{find-key}
 use Rattle.keys.proofs.Counts.{isSome-present}
-use Rattle.keys.proofs.Folds.{Only, only-intro, only-append}
+use Rattle.keys.proofs.Folds.{Only, only-intro}
 use Rattle.history.proofs.Named.{named-here, named-later, among-here, among-later}
 use Rattle.history.proofs.Refusals.{test-passes, rest-passes, each-passes, any-head, any-tail}
 use Rattle.history.proofs.Effects.{effectsOf, ownTests}

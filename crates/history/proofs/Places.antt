@@ -1,15 +1,15 @@
 -- Places in a list when one item is taken out, and: a map of the first n places into themselves that takes no two to one place reaches every place.
 -- By induction. Assumes nothing.
 use Prim.Native.Nat.{ℕ, zero, suc, pred, _<_, _≤_}
-use mathlib.Core.Path.{_≡_, refl, sym, _∙_, ap, subst}
-use mathlib.Core.Bool.{Bool, true, false, cond}
+use mathlib.Core.Path.{_≡_, refl, sym, _∙_, ap}
+use mathlib.Core.Bool.{true, false, cond}
 use mathlib.Core.List.{List, [], _∷_}
 use mathlib.Core.Logic.{_⊎_, inl, inr}
-use mathlib.Core.Option.{Option, none, some, Option·none-ne-some}
+use mathlib.Core.Option.{some, Option·none-ne-some}
 use lib.Dec.{ltb, eqb}
 use lib.ListN.{length, getElem?}
 use native.Mathlib.Omega.{arith}
-use borrow.Author.Tests.{ltb-true, ltb-false, lt-ltb, le-ltb, eqb-true, eqb-false}
+use borrow.Author.Tests.{ltb-true, ltb-false, eqb-true, eqb-false}
 use Rattle.keys.proofs.Split.{split, cond-true, cond-false}
 
 -- The place of an item after the item at place p is taken out.

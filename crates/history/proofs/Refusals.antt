@@ -1,12 +1,11 @@
 -- No refusal of a list applies exactly where none of its parts does. By the definitions. Assumes nothing.
-use mathlib.Core.Path.{_≡_, refl, sym, _∙_, ap}
-use mathlib.Core.Bool.{Bool, true, false, cond, not, _||_}
+use mathlib.Core.Path.{_≡_, refl, sym, _∙_}
+use mathlib.Core.Bool.{Bool, false}
 use mathlib.Core.List.{List, [], _∷_, _++_}
-use mathlib.Core.Option.{Option, none, some}
+use mathlib.Core.Option.{none, some}
 use Prim.Native.Nat.{ℕ}
-use Rattle.rules.specs.Keyed.{isSome}
 use Rattle.rules.specs.Refusal.{Test, test, testEach, anyOf, firstRefusal}
-use Rattle.keys.proofs.Split.{clash, is-false, none-some, cond-true, cond-false, or-false-left, or-false-right}
+use Rattle.keys.proofs.Split.{is-false, none-some, cond-true, cond-false, or-false-left, or-false-right}
 
 pub no-refusal : firstRefusal [] ≡ none
 unfolding firstRefusal

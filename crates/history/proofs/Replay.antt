@@ -5,12 +5,12 @@ use Prim.Native.Nat.{ℕ, zero, suc, _<_}
 use mathlib.Core.Path.{_≡_, refl, sym, _∙_, ap, subst}
 use mathlib.Core.Bool.{Bool, true, false}
 use mathlib.Core.List.{List, [], _∷_}
-use mathlib.Core.Option.{Option, none, some}
+use mathlib.Core.Option.{some}
 use lib.ListN.{length, getElem?}
 use native.Mathlib.Omega.{arith}
 use Rattle.keys.proofs.Split.{is-false, none-some, some-inj}
 use Rattle.history.specs.History.{Reordering}
-use Rattle.history.proofs.Places.{closer, closer-within, closer-once, closer-order, reached, without, length-without, at-without, item-at, within-list}
+use Rattle.history.proofs.Places.{closer, closer-within, closer-once, closer-order, reached, without, length-without, at-without, within-list}
 
 module _ {State Item : Type 0} (does : State → Item → Type 0) (next : State → Item → State) where
 

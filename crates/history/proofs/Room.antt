@@ -1,17 +1,17 @@
 -- Of all tests from 3 on only the two room tests, 14 and 15, look at the books beside the plan. So a plan that is accepted on some books is accepted on any others with
 -- room for its rows. Assumes nothing.
-use Prim.Native.Nat.{ℕ, _+_, _≤_}
-use mathlib.Core.Path.{_≡_, refl, sym, _∙_, ap}
-use mathlib.Core.Bool.{Bool, true, false, not}
-use mathlib.Core.List.{List, [], _∷_, _++_, map}
-use mathlib.Core.Option.{Option, none}
+use Prim.Native.Nat.{_+_, _≤_}
+use mathlib.Core.Path.{_≡_}
+use mathlib.Core.Bool.{not}
+use mathlib.Core.List.{[], map}
+use mathlib.Core.Option.{none}
 use lib.Dec.{ltb}
 use lib.ListN.{length}
 use native.Mathlib.Omega.{arith}
 use borrow.Author.Tests.{ltb-false, le-ltb}
 use Rattle.rules.specs.Keyed.{absentFrom}
 use Rattle.rules.specs.Rows.{positionKey, soundPosition}
-use Rattle.rules.specs.Refusal.{Test, test, anyOf, allOf, firstRefusal}
+use Rattle.rules.specs.Refusal.{anyOf, allOf, firstRefusal}
 use Rattle.rules.specs.Books.{Books}
 use Rattle.rules.specs.Plan.{Plan, booking, question, Effects, suffixIsAbove, bookingTests, planTests}
 use Rattle.soundness.specs.SoundBooks.{SoundBooks}

@@ -1,11 +1,9 @@
 -- The theorem is not hollow: a history of all five kinds with refused requests among them has the accepted entries stated, another order of them is a reordering, and it goes through with
 -- the same answers to the same cells. And a pair that touches does not: exchanged, it answers otherwise. By computation. Assumes nothing.
-use Prim.Native.Nat.{ℕ}
 use mathlib.Core.Path.{_≡_, refl}
 use mathlib.Core.Bool.{true}
 use mathlib.Core.List.{List, [], _∷_}
 use lib.IntN.{pos}
-use Rattle.rules.specs.Request.{Request}
 use Rattle.rules.specs.Touching.{idsOf, positionsOf, isNamedIn, shareId, sharePosition, touch}
 use Rattle.integers.specs.Order.{eqZ, inRange}
 use Rattle.integers.specs.Average.{floorDiv, averageOf, residualOf}
@@ -21,12 +19,11 @@ use Rattle.rules.specs.Plan.{suffixIsAbove, bookingTests, planTests, booked, pl
 use Rattle.rules.specs.Refusal.{test, anyOf, allOf, firstPlace, testEach, firstRefusal}
 use Rattle.rules.specs.Reply.{refusedBy}
 use Rattle.rules.specs.Rows.{validKind, validStatus, validSignedQuantity, validBooked, validInto, validParent, soundRecord, soundPosition, zeroPosition, orZeros, moved, adjustedRecord, newRecord, inverseRecord, adjustableRecord}
-use Rattle.rules.specs.Run.{afterReply, run, Run}
+use Rattle.rules.specs.Run.{afterReply, run}
 use Rattle.rules.specs.Separation.{sumOf, separationFigures, partRecords, separationPlan}
 use Rattle.rules.specs.Tables.{recordCells, positionCells, soundTable, soundRecords, soundPositions, booksOf, writeBooks}
 use Rattle.rules.specs.Trade.{tradeFigures, openAgainst, smaller, closedBy, longBooked, shortBooked, isClosingError, tradeKind, tradeReply, tradePlan}
 use Rattle.rules.specs.Transfer.{transferFigures, inLong, inShort, holdsTooLittle, transferPlan}
-use Rattle.rules.specs.declared.Reply.{Reply}
 use Rattle.rules.specs.declared.Reply.the-variants.{Booked, ClosingError}
 use Rattle.history.specs.History.{Entry, isAccepted, acceptedEntries, entriesTouch, requestsOf, Reordering}
 use Rattle.history.specs.Sample.{start, trade1, history, entry, accepted, places, finish, buy, sell}

@@ -1,18 +1,18 @@
 -- One accepted request on sound tables, in terms of the books: the tables afterwards are the old ones with the new books written, and their books are the new books.
 -- They are sound again. Assumes the laws of soundness that stand as parameters.
-use Prim.Native.Nat.{ℕ, _≤_}
+use Prim.Native.Nat.{_≤_}
 use mathlib.Core.Path.{_≡_, refl, sym, _∙_, ap, subst}
-use mathlib.Core.Bool.{Bool, true}
-use mathlib.Core.List.{List, _++_}
+use mathlib.Core.Bool.{true}
+use mathlib.Core.List.{_++_}
 use lib.ListN.{length}
 use native.Mathlib.Omega.{arith}
 use Rattle.rules.specs.Rows.{recordKey, positionKey}
 use Rattle.rules.specs.Request.{Request}
 use Rattle.rules.specs.Books.{Books}
 use Rattle.rules.specs.Plan.{Plan, booking, question, booked, planBooks}
-use Rattle.rules.specs.Tables.{Tables, soundRecords, soundPositions, booksOf, writeBooks}
+use Rattle.rules.specs.Tables.{Tables, booksOf, writeBooks}
 use Rattle.rules.specs.Handle.{planTables, handle}
-use Rattle.soundness.specs.SoundBooks.{SoundBooks, planOn, Accepts, after}
+use Rattle.soundness.specs.SoundBooks.{SoundBooks, Accepts, after}
 use Rattle.cells.specs.Fitting.{Fitting}
 use Rattle.cells.proofs.BookCells.{books-written}
 use Rattle.cells.proofs.SoundBookCells.{books-records-rise, books-records-sound, books-records-fit, books-positions-rise, books-positions-sound, books-positions-fit, fitting, write-sound-own, sound-written-records, sound-written-positions}

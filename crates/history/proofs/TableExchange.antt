@@ -1,9 +1,9 @@
 -- The exchange, on the two tables, sound or not: of two neighbouring accepted requests that don't touch, each is accepted with the same answer in the other order, and every cell
 -- is the same at the end. On sound tables by the exchange on rows, what is written twice being what is written last; on others both requests are questions.
 -- Assumes the laws of soundness that stand as parameters.
-use Prim.Native.Nat.{ℕ, _+_, _≤_}
-use mathlib.Core.Path.{_≡_, refl, sym, _∙_, ap, subst}
-use mathlib.Core.Bool.{Bool, true, false}
+use Prim.Native.Nat.{_+_}
+use mathlib.Core.Path.{_≡_, sym, _∙_, ap, subst}
+use mathlib.Core.Bool.{true, false}
 use mathlib.Core.List.{List}
 use mathlib.Core.Logic.{_⊎_, inl, inr}
 use lib.ListN.{length}
@@ -12,14 +12,14 @@ use Rattle.rules.specs.Rows.{positionKey}
 use Rattle.rules.specs.Refusal.{Test}
 use Rattle.rules.specs.Request.{Request}
 use Rattle.rules.specs.Books.{Books}
-use Rattle.rules.specs.Plan.{Plan, booking, Effects, booked, planReply}
+use Rattle.rules.specs.Plan.{booking, Effects, booked, planReply}
 use Rattle.rules.specs.Tables.{Tables, booksOf, writeBooks}
 use Rattle.rules.specs.Touching.{touch}
 use Rattle.rules.specs.Handle.{handle}
 use Rattle.soundness.specs.SoundBooks.{SoundBooks, planOn, Accepts, after}
 use Rattle.cells.proofs.BookCells.{write-books-twice}
 use Rattle.history.specs.History.{isAccepted}
-use Rattle.history.proofs.Accepted.{SoundTables, planAt, accepted-reply, accepted-rows, rows-accepted, sound-or-same}
+use Rattle.history.proofs.Accepted.{SoundTables, accepted-reply, accepted-rows, rows-accepted, sound-or-same}
 use Rattle.history.proofs.Exchange.{Exchanged, exchange}
 use Rattle.history.proofs.Step.{sound-books, Later, later, step-tables, step-books, step-sound}
 

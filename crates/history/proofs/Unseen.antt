@@ -1,13 +1,12 @@
 -- Rows put under the keys of one request are not seen by a request that is apart from it: the views before and after agree where the other looks, and as many of its
 -- position rows are absent. Rows of two requests that are apart may be put in either order. Assumes nothing.
-use Prim.Native.Nat.{ℕ}
-use mathlib.Core.Path.{_≡_, refl, sym, _∙_, ap, subst}
-use mathlib.Core.Bool.{Bool, true, false, not}
-use mathlib.Core.List.{List, [], _∷_, _++_}
+use mathlib.Core.Path.{_≡_, sym, ap, subst}
+use mathlib.Core.Bool.{false, not}
+use mathlib.Core.List.{_++_}
 use mathlib.Core.Option.{Option}
 use lib.IntN.{ℤ}
 use Rattle.integers.specs.Order.{eqZ}
-use Rattle.rules.specs.Keyed.{Key, find, greatest, upsertAll, absentFrom}
+use Rattle.rules.specs.Keyed.{Key, absentFrom}
 use Rattle.rules.specs.Rows.{keyOf, recordKey, positionKey, orZeros}
 use Rattle.rules.specs.Request.{Request}
 use Rattle.rules.specs.Books.{Books, viewOf}
@@ -17,7 +16,7 @@ use Rattle.rules.specs.Touching.{idsOf, positionsOf, isNamedIn}
 use Rattle.rules.specs.declared.Position.{Position}
 use Rattle.keys.proofs.Split.{clash, is-false}
 use Rattle.keys.proofs.Equal.{eqZ-true}
-use Rattle.keys.proofs.Folds.{Only, only-weaken, find-upsertAll-other, greatest-upsertAll-other, upsertAll-commute}
+use Rattle.keys.proofs.Folds.{only-weaken, find-upsertAll-other, greatest-upsertAll-other, upsertAll-commute}
 use Rattle.keys.proofs.Counts.{absentFrom-upsertAll}
 use Rattle.history.proofs.Named.{Apart}
 use Rattle.history.proofs.Locality.{Agree}

@@ -3,7 +3,7 @@ use Prim.Native.Nat.{ℕ, _<_}
 use mathlib.Core.Path.{_≡_}
 use mathlib.Core.Bool.{Bool, true, cond, not}
 use mathlib.Core.List.{List, [], _∷_, map}
-use mathlib.Core.Option.{Option, some}
+use mathlib.Core.Option.{some}
 use lib.ListN.{length, getElem?}
 use Rattle.rules.specs.Keyed.{isSome}
 use Rattle.rules.specs.Refusal.{firstRefusal}
@@ -11,7 +11,7 @@ use Rattle.rules.specs.Request.{Request}
 use Rattle.rules.specs.Books.{viewOf}
 use Rattle.rules.specs.Tables.{Tables, booksOf}
 use Rattle.rules.specs.Touching.{touch}
-use Rattle.rules.specs.Handle.{planOf, refusals, Answer, handle}
+use Rattle.rules.specs.Handle.{planOf, refusals, handle}
 use Rattle.rules.specs.declared.Reply.{Reply}
 
 -- "A request is accepted when no refusal number applies to it."

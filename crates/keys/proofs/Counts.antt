@@ -1,8 +1,8 @@
 -- How many rows puts add: rows whose keys are there add none, rows of different keys that are absent add their number, and rows of different keys
 -- add as many as the table lacks. By induction on the rows that are put. Assumes nothing.
-use Prim.Native.Nat.{ℕ, suc, _+_, _≤_}
+use Prim.Native.Nat.{ℕ, suc, _+_}
 use mathlib.Core.Path.{_≡_, refl, sym, _∙_, ap, subst}
-use mathlib.Core.Bool.{Bool, true, false, not, cond, _&&_}
+use mathlib.Core.Bool.{Bool, true, false, not, _&&_}
 use mathlib.Core.List.{List, [], _∷_, _++_, map}
 use mathlib.Core.Logic.{_⊎_, inl, inr}
 use mathlib.Core.Option.{Option, none, some}
@@ -12,8 +12,8 @@ use borrow.Author.Tests.{not-true}
 use Rattle.rules.specs.Keyed.{Key, same, isSome, rising, find, upsert, upsertAll, absentFrom}
 use Rattle.rules.specs.Refusal.{allOf}
 use Rattle.keys.proofs.Split.{split, clash, is-false, Found, absent, present, found, and-intro, and-left, and-right}
-use Rattle.keys.proofs.KeyOrder.{same-eq, same-sym, eq-same}
-use Rattle.keys.proofs.Clauses.{allOf-nil, allOf-intro, allOf-head, allOf-tail, isSome-none, isSome-some, upsertAll-nil, upsertAll-cons, absentFrom-nil, absentFrom-new, absentFrom-old}
+use Rattle.keys.proofs.KeyOrder.{same-eq}
+use Rattle.keys.proofs.Clauses.{allOf-nil, allOf-intro, isSome-none, isSome-some, upsertAll-nil, upsertAll-cons, absentFrom-nil, absentFrom-new, absentFrom-old}
 use Rattle.keys.proofs.Lookup.{find-upsert, find-upsert-other}
 use Rattle.keys.proofs.Rising.{upsert-rises, upsert-adds, upsert-replaces}
 use Rattle.keys.proofs.Folds.{Only, only-head, only-tail, upsertAll-append, find-upsertAll-other}
