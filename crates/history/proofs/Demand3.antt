@@ -73,6 +73,12 @@ own-order touches items = record {
     same = λ j l. refl;
     kept = λ i j x y l f g t. l }
 
+-- In the order of the first list itself, with the refused requests left out.
+pub without-refused : (t : Tables) (requests : List Request) →
+    (acceptedEntries t (requestsOf (acceptedEntries t requests)) ≡ acceptedEntries t requests)
+    × (run t (requestsOf (acceptedEntries t requests)) .tables ≡ run t requests .tables)
+without-refused t requests = replayed (acceptedEntries t requests) t (run t requests .tables) (history-replays t requests)
+
 module _
     (stays-sound : (b : Books) → SoundBooks b → (r : Request) → Accepts b r → SoundBooks (after b r))
     (records-growth : (b : Books) → SoundBooks b → (r : Request) → Accepts b r → (tests : List Test) (e : Effects) → planOn b r ≡ booking tests e →
@@ -93,9 +99,3 @@ module _
   demand-3 t requests new order =
       replayed new t (run t requests .tables)
       (replay-reordered Does next entriesTouch entries-exchanged new (acceptedEntries t requests) t (run t requests .tables) order (history-replays t requests))
-
-  -- The order of the first list itself: the refused requests may be left out.
-  pub without-refused : (t : Tables) (requests : List Request) →
-      (acceptedEntries t (requestsOf (acceptedEntries t requests)) ≡ acceptedEntries t requests)
-      × (run t (requestsOf (acceptedEntries t requests)) .tables ≡ run t requests .tables)
-  without-refused t requests = demand-3 t requests (acceptedEntries t requests) (own-order entriesTouch (acceptedEntries t requests))

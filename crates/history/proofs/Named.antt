@@ -1,4 +1,4 @@
--- Two requests that don't touch name no id and no position in common. By induction on what they name. Assumes nothing.
+-- Two requests that don't touch name no id and no position in common, and the other way round; so touching is symmetric. By induction on what they name. Assumes nothing.
 use mathlib.Core.Path.{_≡_, refl, sym, subst}
 use mathlib.Core.Bool.{true, false}
 use mathlib.Core.List.{List, [], _∷_}
@@ -9,7 +9,7 @@ use Rattle.rules.specs.Keyed.{Key, same}
 use Rattle.rules.specs.Merge.{isAmong}
 use Rattle.rules.specs.Request.{Request}
 use Rattle.rules.specs.Touching.{idsOf, positionsOf, isNamedIn, shareId, sharePosition, touch}
-use Rattle.keys.proofs.Split.{clash, is-false, or-left, or-right, or-cases, or-false-left, or-false-right}
+use Rattle.keys.proofs.Split.{clash, is-false, is-true, both-ways, or-false, or-left, or-right, or-cases, or-false-left, or-false-right}
 use Rattle.keys.proofs.Equal.{eqZ-refl, eqZ-true}
 use Rattle.keys.proofs.KeyOrder.{same-refl, same-eq}
 
@@ -63,3 +63,24 @@ pub apart-turned : (a b : Request) → Apart a b → Apart b a
 apart-turned a b d = record {
     ids = λ id n. is-false (isNamedIn id (idsOf a)) (λ t. clash n (d .ids id t));
     positions = λ k n. is-false (isAmong k (positionsOf a)) (λ t. clash n (d .positions k t)) }
+
+-- Requests that have nothing in common don't touch.
+ids-unshared : (xs ys : List ℤ) → ((id : ℤ) → isNamedIn id xs ≡ true → isNamedIn id ys ≡ false) → shareId xs ys ≡ false
+unfolding shareId
+ids-unshared [] ys h = refl
+ids-unshared (x ∷ rest) ys h = or-false (h x (named-here x rest)) (ids-unshared rest ys (λ id n. h id (named-later id x rest n)))
+
+positions-unshared : (xs ys : List Key) → ((k : Key) → isAmong k xs ≡ true → isAmong k ys ≡ false) → sharePosition xs ys ≡ false
+unfolding sharePosition
+positions-unshared [] ys h = refl
+positions-unshared (x ∷ rest) ys h = or-false (h x (among-here x rest)) (positions-unshared rest ys (λ k n. h k (among-later k x rest n)))
+
+pub apart-untouched : (a b : Request) → Apart a b → touch a b ≡ false
+unfolding touch
+apart-untouched a b d = or-false (ids-unshared (idsOf a) (idsOf b) (d .ids)) (positions-unshared (positionsOf a) (positionsOf b) (d .positions))
+
+pub touch-symmetric : (a b : Request) → touch a b ≡ touch b a
+touch-symmetric a b = both-ways (touch a b) (touch b a) (turned a b) (turned b a)
+  where
+    turned : (x y : Request) → touch x y ≡ true → touch y x ≡ true
+    turned x y t = is-true (touch y x) (λ f. clash t (apart-untouched x y (apart-turned y x (untouched-apart y x f))))

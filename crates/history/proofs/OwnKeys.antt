@@ -1,9 +1,9 @@
 -- Keys only: an accepted request puts rows of no other ids and positions than it names. For each kind of request; a named record has the id that it was asked by, and
 -- refusal 5 says that it is there. Assumes nothing.
 --
--- What a new kind of request has to bring: a clause of `local` (Locality), its plan is the same in views that agree where it looks, and a clause of `own-keys` here; and in
--- the crate soundness its growth and that books stay sound. All else is proved once for every plan. A request that touches everything brings no clause of use here: it is
--- never exchanged.
+-- What a new kind of request has to bring for demand 3: a clause of `local` (Locality), that its plan is the same in views that agree where it looks; a clause of `own-rows` below;
+-- and in the crate soundness that it adds as many rows as tests 14 and 15 counted and leaves sound books sound. All else is proved once, for every plan. A request that touches
+-- every other is never exchanged: none of these is asked of it, and they are then stated of the other kinds.
 use mathlib.Core.Path.{_≡_, refl, sym, _∙_, ap, subst}
 use mathlib.Core.Bool.{Bool, true, false, not}
 use mathlib.Core.List.{List, [], _∷_, _++_, map}
