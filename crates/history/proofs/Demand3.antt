@@ -4,24 +4,17 @@
 -- The claim is about one list of any length. Refused requests may stand anywhere in the first list. Both runs are of `handle`, the rules of document 01: a program that always
 -- refuses, or does nothing, is shut out by the rules themselves (demand 2), and not by this theorem, which such a program would satisfy.
 --
--- By the exchange of neighbours (TableExchange), carried to any reordering (Replay). Assumes the laws of soundness that stand as parameters.
-use Prim.Native.Nat.{_+_}
+-- By the exchange of neighbours (TableExchange), carried to any reordering (Replay). Assumes the laws of soundness.
 use mathlib.Core.Path.{_≡_, refl, sym, _∙_, ap₂, subst}
 use mathlib.Core.Bool.{Bool, true, false}
 use mathlib.Core.List.{List, [], _∷_}
 use mathlib.Core.Logic.{_⊎_, inl, inr}
-use lib.ListN.{length}
-use Rattle.rules.specs.Keyed.{absentFrom}
-use Rattle.rules.specs.Rows.{positionKey}
-use Rattle.rules.specs.Refusal.{Test}
 use Rattle.rules.specs.Request.{Request}
-use Rattle.rules.specs.Books.{Books}
-use Rattle.rules.specs.Plan.{booking, Effects, booked}
 use Rattle.rules.specs.Tables.{Tables}
 use Rattle.rules.specs.Handle.{handle}
 use Rattle.rules.specs.Run.{afterReply, run}
-use Rattle.soundness.specs.SoundBooks.{SoundBooks, planOn, Accepts, after}
 use Rattle.keys.proofs.Split.{split, cond-true, cond-false}
+use Rattle.history.proofs.SoundnessLaws.{SoundnessLaws}
 use Rattle.history.specs.History.{isAccepted, Entry, requestsOf, acceptedEntries, entriesTouch, Reordering}
 use Rattle.history.proofs.Accepted.{refused-tables}
 use Rattle.history.proofs.Replay.{Replays, replay-reordered}
@@ -79,19 +72,14 @@ pub without-refused : (t : Tables) (requests : List Request) →
     × (run t (requestsOf (acceptedEntries t requests)) .tables ≡ run t requests .tables)
 without-refused t requests = replayed (acceptedEntries t requests) t (run t requests .tables) (history-replays t requests)
 
-module _
-    (stays-sound : (b : Books) → SoundBooks b → (r : Request) → Accepts b r → SoundBooks (after b r))
-    (records-growth : (b : Books) → SoundBooks b → (r : Request) → Accepts b r → (tests : List Test) (e : Effects) → planOn b r ≡ booking tests e →
-      length (booked e b .records) ≡ length (b .records) + length (e .added))
-    (positions-growth : (b : Books) → SoundBooks b → (r : Request) → Accepts b r → (tests : List Test) (e : Effects) → planOn b r ≡ booking tests e →
-      length (booked e b .positions) ≡ length (b .positions) + absentFrom positionKey (b .positions) (e .positions)) where
+module _ (laws : SoundnessLaws) where
 
   entries-exchanged : (t : Tables) (x y : Entry) → entriesTouch y x ≡ false → Does t x → Does (next t x) y →
       (Does t y) × (Does (next t y) x) × (next (next t y) x ≡ next (next t x) y)
   unfolding entriesTouch
   entries-exchanged t x y free ok-x ok-y =
       let w : TablesExchanged t (x .request) (y .request) =
-          tables-exchanged stays-sound records-growth positions-growth t (x .request) (y .request) free (ok-x .0) (ok-y .0) in
+          tables-exchanged laws t (x .request) (y .request) free (ok-x .0) (ok-y .0) in
       ((w .second-accepted, w .second-reply ∙ ok-y .1), (w .first-accepted, w .first-reply ∙ ok-x .1), w .same-tables)
 
   pub demand-3 : (t : Tables) (requests : List Request) (new : List Entry) → Reordering entriesTouch (acceptedEntries t requests) new →

@@ -1,6 +1,6 @@
 -- The exchange, on rows: of two neighbouring accepted requests that don't touch, the second is accepted first with the same plan, the first after it with the same plan,
 -- and the books at the end are the same. Room is the delicate point: what the two add together is the same in either order, and tables never shrink.
--- Assumes the laws of soundness that stand as parameters: sound books stay sound, and an accepted request adds as many rows as its tests 14 and 15 counted.
+-- Assumes the laws of soundness.
 use Prim.Native.Nat.{_+_}
 use mathlib.Core.Path.{_≡_, refl, sym, _∙_, ap, subst}
 use mathlib.Core.Bool.{false}
@@ -10,7 +10,7 @@ use lib.ListN.{length}
 use native.Mathlib.Omega.{arith}
 use Rattle.rules.specs.Keyed.{absentFrom, upsertAll}
 use Rattle.rules.specs.Rows.{recordKey, positionKey}
-use Rattle.rules.specs.Refusal.{Test, firstRefusal}
+use Rattle.rules.specs.Refusal.{firstRefusal}
 use Rattle.rules.specs.Request.{Request}
 use Rattle.rules.specs.Books.{Books, viewOf}
 use Rattle.rules.specs.Plan.{Plan, booking, question, Effects, booked, planTests, planBooks}
@@ -20,6 +20,7 @@ use Rattle.rules.specs.declared.Record.{Record}
 use Rattle.rules.specs.declared.Position.{Position}
 use Rattle.keys.proofs.Clauses.{upsertAll-nil, absentFrom-nil}
 use Rattle.keys.proofs.Folds.{upsertAll-longer}
+use Rattle.history.proofs.SoundnessLaws.{SoundnessLaws}
 use Rattle.history.proofs.Named.{Apart, untouched-apart, apart-turned}
 use Rattle.history.proofs.Locality.{local}
 use Rattle.history.proofs.Effects.{effectsOf, books-effects}
@@ -35,12 +36,7 @@ pub record Exchanged (b : Books) (x y : Request) : Type 0 where
   pub first-accepted : Accepts (after b y) x
   pub same-end : after (after b y) x ≡ after (after b x) y
 
-module _
-    (stays-sound : (b : Books) → SoundBooks b → (r : Request) → Accepts b r → SoundBooks (after b r))
-    (records-growth : (b : Books) → SoundBooks b → (r : Request) → Accepts b r → (tests : List Test) (e : Effects) → planOn b r ≡ booking tests e →
-      length (booked e b .records) ≡ length (b .records) + length (e .added))
-    (positions-growth : (b : Books) → SoundBooks b → (r : Request) → Accepts b r → (tests : List Test) (e : Effects) → planOn b r ≡ booking tests e →
-      length (booked e b .positions) ≡ length (b .positions) + absentFrom positionKey (b .positions) (e .positions)) where
+module _ (laws : SoundnessLaws) where
 
   -- What an accepted request adds, whatever its plan: a question adds none.
   record Grows (b : Books) (e : Effects) : Type 0 where
@@ -52,7 +48,7 @@ module _
   grows b sound r ok = go (planOn b r) refl
     where
       go : (p : Plan) → planOn b r ≡ p → Grows b (effectsOf p)
-      go (booking tests e) q = record { records = records-growth b sound r ok tests e q; positions = positions-growth b sound r ok tests e q }
+      go (booking tests e) q = record { records = laws .records-grow b sound r ok tests e q; positions = laws .positions-grow b sound r ok tests e q }
       go (question tests reply) q =
           let none-added : length (upsertAll recordKey [] (b .records)) ≡ length (b .records) = ap (λ (l : List Record). length l) (upsertAll-nil recordKey (b .records)) in
           let none-moved : length (upsertAll positionKey [] (b .positions)) ≡ length (b .positions) = ap (λ (l : List Position). length l) (upsertAll-nil positionKey (b .positions)) in
@@ -93,7 +89,7 @@ module _
         let later-y : firstRefusal (planTests (booked e b) q) ≡ none =
             subst (λ (r : Plan). firstRefusal (planTests (booked e b) r) ≡ none) (sym plan-y) (subst (λ (c : Books). Accepts c y) after-x ok-y) in
         let own-y : OwnKeys y f = own-keys (viewOf b) (view-true b) y (own-pass (booked e b) q later-y) in
-        let sound-later : SoundBooks (booked e b) = subst (λ (c : Books). SoundBooks c) after-x (stays-sound b sound x ok-x) in
+        let sound-later : SoundBooks (booked e b) = subst (λ (c : Books). SoundBooks c) after-x (laws .stays-sound b sound x ok-x) in
         let room : Room (booked e b) f = has-room (booked e b) sound-later q later-y in
         let unseen : absentFrom positionKey (booked e b .positions) (f .positions) ≡ absentFrom positionKey (b .positions) (f .positions) = absent-after b x y apart e own-x f own-y in
         let unseen′ : absentFrom positionKey (booked f b .positions) (e .positions) ≡ absentFrom positionKey (b .positions) (e .positions) = absent-after b y x turned f own-y e own-x in

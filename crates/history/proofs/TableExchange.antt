@@ -1,23 +1,18 @@
 -- The exchange, on the two tables, sound or not: of two neighbouring accepted requests that don't touch, each is accepted with the same answer in the other order, and every cell
 -- is the same at the end. On sound tables by the exchange on rows, what is written twice being what is written last; on others both requests are questions.
--- Assumes the laws of soundness that stand as parameters.
-use Prim.Native.Nat.{_+_}
+-- Assumes the laws of soundness.
 use mathlib.Core.Path.{_≡_, sym, _∙_, ap, subst}
 use mathlib.Core.Bool.{true, false}
-use mathlib.Core.List.{List}
 use mathlib.Core.Logic.{_⊎_, inl, inr}
-use lib.ListN.{length}
-use Rattle.rules.specs.Keyed.{absentFrom}
-use Rattle.rules.specs.Rows.{positionKey}
-use Rattle.rules.specs.Refusal.{Test}
 use Rattle.rules.specs.Request.{Request}
 use Rattle.rules.specs.Books.{Books}
-use Rattle.rules.specs.Plan.{booking, Effects, booked, planReply}
+use Rattle.rules.specs.Plan.{planReply}
 use Rattle.rules.specs.Tables.{Tables, booksOf, writeBooks}
 use Rattle.rules.specs.Touching.{touch}
 use Rattle.rules.specs.Handle.{handle}
-use Rattle.soundness.specs.SoundBooks.{SoundBooks, planOn, Accepts, after}
+use Rattle.soundness.specs.SoundBooks.{planOn, Accepts, after}
 use Rattle.cells.proofs.BookCells.{write-books-twice}
+use Rattle.history.proofs.SoundnessLaws.{SoundnessLaws}
 use Rattle.history.specs.History.{isAccepted}
 use Rattle.history.proofs.Accepted.{SoundTables, accepted-reply, accepted-rows, rows-accepted, sound-or-same}
 use Rattle.history.proofs.Exchange.{Exchanged, exchange}
@@ -31,12 +26,7 @@ pub record TablesExchanged (t : Tables) (x y : Request) : Type 0 where
   pub first-reply : handle (handle t y .tables) x .reply ≡ handle t x .reply
   pub same-tables : handle (handle t y .tables) x .tables ≡ handle (handle t x .tables) y .tables
 
-module _
-    (stays-sound : (b : Books) → SoundBooks b → (r : Request) → Accepts b r → SoundBooks (after b r))
-    (records-growth : (b : Books) → SoundBooks b → (r : Request) → Accepts b r → (tests : List Test) (e : Effects) → planOn b r ≡ booking tests e →
-      length (booked e b .records) ≡ length (b .records) + length (e .added))
-    (positions-growth : (b : Books) → SoundBooks b → (r : Request) → Accepts b r → (tests : List Test) (e : Effects) → planOn b r ≡ booking tests e →
-      length (booked e b .positions) ≡ length (b .positions) + absentFrom positionKey (b .positions) (e .positions)) where
+module _ (laws : SoundnessLaws) where
 
   -- Two requests, one after the other, write what the second leaves.
   two-steps : (t : Tables) (sound : SoundTables t) (x y : Request) → isAccepted t x ≡ true → isAccepted (handle t x .tables) y ≡ true →
@@ -44,22 +34,22 @@ module _
   two-steps t sound x y ok-x ok-y =
       let b : Books = booksOf t in
       let grown : Later (after b x) (after (after b x) y) = later (after b x) (planOn (after b x) y) in
-      step-tables stays-sound (handle t x .tables) (step-sound stays-sound t sound x ok-x) y ok-y
-      ∙ ap (λ (c : Books). writeBooks (handle t x .tables) (after c y)) (step-books stays-sound t sound x ok-x)
-      ∙ ap (λ (u : Tables). writeBooks u (after (after b x) y)) (step-tables stays-sound t sound x ok-x)
+      step-tables laws (handle t x .tables) (step-sound laws t sound x ok-x) y ok-y
+      ∙ ap (λ (c : Books). writeBooks (handle t x .tables) (after c y)) (step-books laws t sound x ok-x)
+      ∙ ap (λ (u : Tables). writeBooks u (after (after b x) y)) (step-tables laws t sound x ok-x)
       ∙ write-books-twice t (after b x) (after (after b x) y) (grown .more-records) (grown .more-positions)
 
   on-sound : (t : Tables) → SoundTables t → (x y : Request) → touch y x ≡ false → isAccepted t x ≡ true → isAccepted (handle t x .tables) y ≡ true → TablesExchanged t x y
   on-sound t sound x y free ok-x ok-y =
       let b : Books = booksOf t in
-      let books-x : booksOf (handle t x .tables) ≡ after b x = step-books stays-sound t sound x ok-x in
+      let books-x : booksOf (handle t x .tables) ≡ after b x = step-books laws t sound x ok-x in
       let swapped : Exchanged b x y =
-          exchange stays-sound records-growth positions-growth b (sound-books t sound) x y free (accepted-rows t x ok-x)
+          exchange laws b (sound-books t sound) x y free (accepted-rows t x ok-x)
           (subst (λ (c : Books). Accepts c y) books-x (accepted-rows (handle t x .tables) y ok-y)) in
       let first-y : isAccepted t y ≡ true = rows-accepted t y sound (swapped .second-accepted) in
-      let books-y : booksOf (handle t y .tables) ≡ after b y = step-books stays-sound t sound y first-y in
+      let books-y : booksOf (handle t y .tables) ≡ after b y = step-books laws t sound y first-y in
       let later-x : isAccepted (handle t y .tables) x ≡ true =
-          rows-accepted (handle t y .tables) x (step-sound stays-sound t sound y first-y) (subst (λ (c : Books). Accepts c x) (sym books-y) (swapped .first-accepted)) in
+          rows-accepted (handle t y .tables) x (step-sound laws t sound y first-y) (subst (λ (c : Books). Accepts c x) (sym books-y) (swapped .first-accepted)) in
       record {
           second-accepted = first-y;
           second-reply =
