@@ -2,7 +2,7 @@
 -- By induction on the tests. Assumes nothing.
 use Prim.Native.Nat.{ℕ, _+_, _≤_}
 use mathlib.Core.Path.{_≡_, refl, sym, _∙_}
-use mathlib.Core.Bool.{Bool, true, false, cond, not, _||_}
+use mathlib.Core.Bool.{Bool, true, false, cond, not, _&&_, _||_}
 use mathlib.Core.List.{List, [], _∷_, _++_, map}
 use mathlib.Core.Logic.{_⊎_, inl, inr}
 use mathlib.Core.Option.{Option, none, some}
@@ -14,7 +14,7 @@ use Rattle.rules.specs.Rows.{positionKey, soundPosition}
 use Rattle.rules.specs.Refusal.{Test, test, anyOf, allOf, firstRefusal}
 use Rattle.rules.specs.Books.{Books}
 use Rattle.rules.specs.Plan.{Effects, Plan, booking, suffixIsAbove, bookingTests, planTests}
-use Rattle.keys.proofs.Split.{split, none-some, or-false-left, or-false-right, cond-true, cond-false}
+use Rattle.keys.proofs.Split.{split, none-some, and-left, and-right, or-false-left, or-false-right, cond-true, cond-false}
 
 -- ---- lists of tests
 
@@ -40,7 +40,10 @@ pub passed-then : (xs ys : List Test) → Passed (xs ++ ys) → Passed ys
 passed-then [] ys h = h
 passed-then (t ∷ rest) ys h = passed-then rest ys (h .1)
 
--- ---- tests over a list of rows
+-- ---- tests of several figures, and over a list of rows
+
+pub both : (a b : Bool) → (a && b) ≡ true → (a ≡ true) × (b ≡ true)
+both a b h = (and-left a b h, and-right a b h)
 
 pub anyOf-head : (b : Bool) (rest : List Bool) → anyOf (b ∷ rest) ≡ false → b ≡ false
 unfolding anyOf

@@ -6,4 +6,5 @@ pub mod SoundRows
 pub mod NamedRecord
 pub mod LaterRows
 pub mod BookingFacts
+pub mod Trade
 pub mod MergeAccepted

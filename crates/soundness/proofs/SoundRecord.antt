@@ -1,10 +1,11 @@
 -- A sound record, figure by figure, and back to the one test of it. By the laws of `&&`. Assumes nothing.
-use mathlib.Core.Path.{_≡_, refl}
-use mathlib.Core.Bool.{Bool, true, _&&_}
+use mathlib.Core.Path.{_≡_}
+use mathlib.Core.Bool.{Bool, true}
 use Rattle.rules.specs.Figures.{validId, validSuffix, validAccount, validSeries, validPrice, validSide}
 use Rattle.rules.specs.Rows.{validKind, validStatus, validSignedQuantity, validBooked, validInto, validParent, soundRecord}
 use Rattle.rules.specs.declared.Record.{Record}
-use Rattle.keys.proofs.Split.{and-intro, and-left, and-right}
+use Rattle.keys.proofs.Split.{and-intro}
+use Rattle.soundness.proofs.Accepted.{both}
 
 pub record SoundRecord (r : Record) : Type 0 where
   pub id : validId (r .id) ≡ true
@@ -27,9 +28,6 @@ unfolding soundRecord
 sound-record r s =
     and-intro (and-intro (and-intro (and-intro (and-intro (and-intro (and-intro (and-intro (and-intro (and-intro (and-intro (and-intro (and-intro
     (s .id) (s .suffix)) (s .parent)) (s .kind)) (s .status)) (s .account)) (s .series)) (s .side)) (s .quantity)) (s .price)) (s .long)) (s .short)) (s .into)) (s .parent-below)
-
-both : (a b : Bool) → (a && b) ≡ true → (a ≡ true) × (b ≡ true)
-both a b h = (and-left a b h, and-right a b h)
 
 pub record-sound : (r : Record) → soundRecord r ≡ true → SoundRecord r
 unfolding soundRecord
