@@ -3,9 +3,9 @@
 use mathlib.Core.Path.{_≡_, refl, sym, ap, subst}
 use mathlib.Core.Bool.{Bool, true, false, not}
 use mathlib.Core.List.{List, [], _∷_, _++_, map}
-use lib.IntN.{ℤ, pos}
+use lib.IntN.{ℤ, pos, _+ℤ_}
 use lib.Signed.{leZ, _≤ℤ_, _<ℤ_}
-use Rattle.integers.proofs.Linear.{zarith}
+use Rattle.integers.proofs.Linear.{zarith, +-lin}
 use Rattle.integers.proofs.Order.{leZ-le, le-leZ}
 use Rattle.rules.specs.Keyed.{Key, same}
 use Rattle.rules.specs.Rows.{recordKey}
@@ -15,6 +15,9 @@ use Rattle.keys.proofs.Folds.{Only, only-head, only-tail, only-intro, only-appe
 use Rattle.keys.proofs.Counts.{distinct, distinct-nil, distinct-head, distinct-tail, distinct-intro, lacksAll, lacksAll-intro}
 use Rattle.keys.proofs.KeyOrder.{same-ne}
 use Rattle.soundness.proofs.NamedRecord.{nextOf, free-from-next}
+
+pub below-next : (z : ℤ) → z <ℤ (z +ℤ pos 1)
+below-next z = omega (zarith, +-lin z (pos 1))
 
 -- The suffix is at least a number that the id tells.
 unfoldable pub atLeastOf : (ℤ → ℤ) → Key → Bool

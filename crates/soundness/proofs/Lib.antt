@@ -7,4 +7,6 @@ pub mod NamedRecord
 pub mod LaterRows
 pub mod BookingFacts
 pub mod Trade
+pub mod Separation
+pub mod Transfer
 pub mod MergeAccepted

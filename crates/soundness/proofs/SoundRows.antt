@@ -6,7 +6,7 @@ use lib.IntN.{ℤ, pos, negℤ}
 use lib.Signed.{_≤ℤ_, _<ℤ_}
 use Rattle.integers.specs.Order.{eqZ, inRange}
 use Rattle.integers.proofs.Linear.{zarith}
-use Rattle.rules.specs.Figures.{validId, validSuffix, validAccount, validSeries, validPrice, validSide, validQuantity, mostQuantity, greatestOfSuffixes, adjustable, adjusted, inverse}
+use Rattle.rules.specs.Figures.{magnitudeAtMost, validId, validSuffix, validAccount, validSeries, validPrice, validSide, validQuantity, mostQuantity, greatestOfSuffixes, adjustable, adjusted, inverse}
 use Rattle.rules.specs.Rows.{validKind, validStatus, validSignedQuantity, validBooked, validInto, validParent, soundRecord, adjustedRecord, newRecord, inverseRecord, adjustableRecord}
 use Rattle.rules.specs.Plan.{suffixIsAbove}
 use Rattle.rules.specs.declared.Record.{Record}
@@ -42,6 +42,10 @@ parent-zero = refl
 pub into-zero : validInto (pos 0) ≡ true
 unfolding validInto eqZ
 into-zero = refl
+
+pub nothing-booked : validBooked (pos 0) ≡ true
+unfolding validBooked magnitudeAtMost inRange
+nothing-booked = refl
 
 -- The quantity of a sound record of status 0.
 pub quantity-of : (r : Record) → SoundRecord r → r .status ≡ adjustable → (pos 1 ≤ℤ r .quantity) × (r .quantity ≤ℤ pos mostQuantity)
