@@ -15,6 +15,7 @@ use Rattle.rules.specs.Refusal.{Test, test, anyOf, allOf, firstRefusal}
 use Rattle.rules.specs.Books.{Books}
 use Rattle.rules.specs.Plan.{Effects, Plan, booking, suffixIsAbove, bookingTests, planTests}
 use Rattle.keys.proofs.Split.{split, none-some, and-left, and-right, or-false-left, or-false-right, cond-true, cond-false}
+use Rattle.keys.proofs.Clauses.{allOf-intro, allOf-head, allOf-tail}
 
 -- ---- lists of tests
 
@@ -52,6 +53,19 @@ anyOf-head b rest h = or-false-left b (anyOf rest) h
 pub anyOf-tail : (b : Bool) (rest : List Bool) → anyOf (b ∷ rest) ≡ false → anyOf rest ≡ false
 unfolding anyOf
 anyOf-tail b rest h = or-false-right b (anyOf rest) h
+
+pub anyOf-first : {A : Type 0} (p : A → Bool) (xs ys : List A) → anyOf (map p (xs ++ ys)) ≡ false → anyOf (map p xs) ≡ false
+unfolding anyOf
+anyOf-first p [] ys h = refl
+anyOf-first p (x ∷ rest) ys h =
+    let h₀ : p x ≡ false = anyOf-head (p x) (map p (rest ++ ys)) h in
+    let h₁ : anyOf (map p rest) ≡ false = anyOf-first p rest ys (anyOf-tail (p x) (map p (rest ++ ys)) h) in
+    rw (h₀, h₁)
+
+pub allOf-append : {A : Type 0} (p : A → Bool) (xs ys : List A) → allOf (map p xs) ≡ true → allOf (map p ys) ≡ true → allOf (map p (xs ++ ys)) ≡ true
+allOf-append p [] ys h k = k
+allOf-append p (x ∷ rest) ys h k =
+    allOf-intro (p x) (map p (rest ++ ys)) (allOf-head (p x) (map p rest) h) (allOf-append p rest ys (allOf-tail (p x) (map p rest) h) k)
 
 -- ---- plans that book
 

@@ -6,7 +6,7 @@ use mathlib.Core.List.{List, [], _∷_, _++_, map}
 use lib.IntN.{ℤ, pos, _+ℤ_}
 use lib.Signed.{leZ, _≤ℤ_, _<ℤ_}
 use Rattle.integers.proofs.Linear.{zarith, +-lin}
-use Rattle.integers.proofs.Order.{leZ-le, le-leZ}
+use Rattle.integers.proofs.Order.{leZ-le, le-leZ, ≤ℤ-trans}
 use Rattle.rules.specs.Keyed.{Key, same}
 use Rattle.rules.specs.Rows.{recordKey}
 use Rattle.rules.specs.declared.Record.{Record}
@@ -30,6 +30,14 @@ at-least least r h = le-leZ h
 pub is-at-least : (least : ℤ → ℤ) (r : Record) → atLeastOf least (recordKey r) ≡ true → least (r .id) ≤ℤ r .suffix
 unfolding atLeastOf
 is-at-least least r h = leZ-le (least (r .id)) (r .suffix) h
+
+-- From a greater number on is from a smaller one on.
+pub later-weaker : (least lower : ℤ → ℤ) → ((id : ℤ) → lower id ≤ℤ least id) → (rs : List Record) → Only recordKey (atLeastOf least) rs → Only recordKey (atLeastOf lower) rs
+later-weaker least lower h [] o = allOf-nil
+later-weaker least lower h (r ∷ rest) o =
+    only-intro recordKey (atLeastOf lower) r rest
+    (at-least lower r (≤ℤ-trans (h (r .id)) (is-at-least least r (only-head recordKey (atLeastOf least) r rest o))))
+    (later-weaker least lower h rest (only-tail recordKey (atLeastOf least) r rest o))
 
 pub later-absent : (t rs : List Record) → Only recordKey (atLeastOf (nextOf t)) rs → lacksAll recordKey t rs ≡ true
 later-absent t [] o = allOf-nil

@@ -10,3 +10,9 @@ pub mod Trade
 pub mod Separation
 pub mod Transfer
 pub mod MergeAccepted
+pub mod MergeSources
+pub mod MergeInverses
+pub mod Merge
+pub mod Requests
+pub mod Growth
+pub mod Kept
