@@ -1,19 +1,18 @@
 -- What acceptance says: no test of the list applies. In a plan that books these are its own tests and then the four of the booking (13 to 16).
 -- By induction on the tests. Assumes nothing.
-use Prim.Native.Nat.{ℕ, _+_, _≤_}
+use Prim.Native.Nat.{_+_, _≤_}
 use mathlib.Core.Path.{_≡_, refl, sym, _∙_}
-use mathlib.Core.Bool.{Bool, true, false, cond, not, _&&_, _||_}
+use mathlib.Core.Bool.{Bool, true, false, _&&_}
 use mathlib.Core.List.{List, [], _∷_, _++_, map}
 use mathlib.Core.Logic.{_⊎_, inl, inr}
-use mathlib.Core.Option.{Option, none, some}
+use mathlib.Core.Option.{none, some}
 use lib.ListN.{length}
-use lib.Dec.{ltb}
 use borrow.Author.Tests.{ltb-false, not-false}
 use Rattle.rules.specs.Keyed.{absentFrom}
 use Rattle.rules.specs.Rows.{positionKey, soundPosition}
 use Rattle.rules.specs.Refusal.{Test, test, anyOf, allOf, firstRefusal}
 use Rattle.rules.specs.Books.{Books}
-use Rattle.rules.specs.Plan.{Effects, Plan, booking, suffixIsAbove, bookingTests, planTests}
+use Rattle.rules.specs.Plan.{Effects, booking, suffixIsAbove, bookingTests, planTests}
 use Rattle.keys.proofs.Split.{split, none-some, and-left, and-right, or-false-left, or-false-right, cond-true, cond-false}
 use Rattle.keys.proofs.Clauses.{allOf-intro, allOf-head, allOf-tail}
 
@@ -32,6 +31,12 @@ passed (t ∷ rest) h = go (passed rest) (split (t .applies))
     go : (firstRefusal rest ≡ none → Passed rest) → (t .applies ≡ true) ⊎ (t .applies ≡ false) → (t .applies ≡ false) × Passed rest
     go again (inl e) = none-some h (cond-true (some t) (firstRefusal rest) e)
     go again (inr e) = (e, again (sym (cond-false (some t) (firstRefusal rest) e) ∙ h))
+
+-- The other way round.
+pub all-passed : (tests : List Test) → Passed tests → firstRefusal tests ≡ none
+unfolding firstRefusal
+all-passed [] h = refl
+all-passed (t ∷ rest) h = cond-false (some t) (firstRefusal rest) (h .0) ∙ all-passed rest (h .1)
 
 pub passed-first : (xs ys : List Test) → Passed (xs ++ ys) → Passed xs
 passed-first [] ys h = tt

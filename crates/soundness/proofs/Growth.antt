@@ -1,18 +1,16 @@
 -- How many rows an accepted request adds to sound books: each table grows by the new rows of the plan, and the records table by what the answer says.
 -- From the facts of the plan and the counts of keyed tables. Assumes nothing.
 use Prim.Native.Nat.{ℕ, _+_}
-use mathlib.Core.Path.{_≡_, refl, sym, _∙_, ap, subst}
-use mathlib.Core.List.{List, _++_}
-use mathlib.Core.Option.{Option, none}
-use native.Mathlib.Omega.{arith}
-use lib.IntN.{ℤ, pos, _+ℤ_, +ℤ-idr}
+use mathlib.Core.Path.{_≡_, sym, _∙_, ap, subst}
+use mathlib.Core.List.{List}
+use lib.IntN.{ℤ, pos, natAbs, _+ℤ_, +ℤ-idr}
 use lib.ListN.{length}
 use Rattle.rules.specs.Keyed.{absentFrom}
 use Rattle.rules.specs.Rows.{recordKey, positionKey}
-use Rattle.rules.specs.Refusal.{Test, firstRefusal}
+use Rattle.rules.specs.Refusal.{Test}
 use Rattle.rules.specs.Request.{Request}
 use Rattle.rules.specs.Books.{Books}
-use Rattle.rules.specs.Plan.{Effects, Plan, booking, question, booked, planTests, planBooks, planReply}
+use Rattle.rules.specs.Plan.{Effects, Plan, booking, question, booked, planBooks, planReply}
 use Rattle.rules.specs.declared.Reply.{Reply}
 use Rattle.rules.specs.declared.Reply.the-variants.{Booked, ClosingError}
 use Rattle.keys.proofs.Counts.{upsertAll-replaces-adds, upsertAll-counts}
@@ -49,6 +47,21 @@ growth b sound r a tests e p =
 pub answered-rows : (b : Books) → SoundBooks b → (r : Request) → Accepts b r → (tests : List Test) (e : Effects) → planOn b r ≡ booking tests e →
     rowsAnswered (e .reply) ≡ pos (length (e .added))
 answered-rows b sound r a tests e p = booking-facts b sound r a tests e p .answered
+
+pub booked-rows : (b : Books) → SoundBooks b → (r : Request) → Accepts b r → (tests : List Test) (e : Effects) → planOn b r ≡ booking tests e →
+    (rows residual : ℤ) → e .reply ≡ Booked rows residual → rows ≡ pos (length (e .added))
+booked-rows b sound r a tests e p rows residual h = sym (ap (λ (x : Reply). rowsAnswered x) h) ∙ answered-rows b sound r a tests e p
+
+-- A closing error adds one row.
+pub closing-error-rows : (b : Books) → SoundBooks b → (r : Request) → Accepts b r → (tests : List Test) (e : Effects) → planOn b r ≡ booking tests e →
+    (excess : ℤ) → e .reply ≡ ClosingError excess → length (e .added) ≡ 1
+closing-error-rows b sound r a tests e p excess h =
+    sym (ap natAbs (sym (ap (λ (x : Reply). rowsAnswered x) h) ∙ answered-rows b sound r a tests e p))
+
+-- A question changes nothing.
+pub question-rows : (b : Books) (r : Request) (tests : List Test) (reply : Reply) → planOn b r ≡ question tests reply → after b r ≡ b
+unfolding planBooks
+question-rows b r tests reply p = ap (λ (plan : Plan). planBooks plan b) p
 
 -- The records table grows by the rows that the answer says, whatever the request.
 pub answered-growth : (b : Books) → SoundBooks b → (r : Request) → Accepts b r → pos (length (after b r .records)) ≡ pos (length (b .records)) +ℤ rowsAnswered (planReply (planOn b r))

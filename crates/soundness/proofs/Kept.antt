@@ -1,19 +1,14 @@
 -- Sound books stay sound under every accepted request: rows keep rising, every row that is put is sound, and both tables fit their rooms (tests 14 and 15).
 -- From the facts of the plan, its growth, and tests 13 to 16. Assumes nothing.
-use Prim.Native.Nat.{ℕ, _+_, _≤_}
-use mathlib.Core.Path.{_≡_, refl, sym, _∙_, ap, subst}
-use mathlib.Core.Bool.{Bool, true}
-use mathlib.Core.List.{List, [], _∷_, _++_, map}
-use mathlib.Core.Option.{Option, none}
+use mathlib.Core.Path.{_≡_}
+use mathlib.Core.List.{_++_}
+use mathlib.Core.Option.{none}
 use native.Mathlib.Omega.{arith}
-use lib.ListN.{length}
-use Rattle.rules.specs.Keyed.{rising, absentFrom}
 use Rattle.rules.specs.Rows.{recordKey, positionKey, soundRecord, soundPosition}
-use Rattle.rules.specs.Refusal.{Test, allOf, firstRefusal}
+use Rattle.rules.specs.Refusal.{firstRefusal}
 use Rattle.rules.specs.Request.{Request}
 use Rattle.rules.specs.Books.{Books}
 use Rattle.rules.specs.Plan.{Effects, Plan, booking, question, booked, planTests, planBooks}
-use Rattle.rules.specs.declared.Record.{Record}
 use Rattle.keys.proofs.Folds.{upsertAll-rises, all-upsertAll}
 use Rattle.soundness.specs.SoundBooks.{SoundBooks, planOn, Accepts, after}
 use Rattle.soundness.proofs.Accepted.{BookingPassed, booking-passed, allOf-append}

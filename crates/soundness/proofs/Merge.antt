@@ -1,14 +1,13 @@
 -- An accepted merge on sound books: its sources stand and stay sound; its inverse rows and the merged row are new, differ and are sound. The merged
 -- quantity is positive, there being a source, and at most the greatest (test 11); the average is within the prices. Assumes nothing.
 use Prim.Native.Nat.{ℕ, _%_, _≤_}
-use mathlib.Core.Path.{_≡_, refl, sym, _∙_, ap}
+use mathlib.Core.Path.{_≡_, ap}
 use mathlib.Core.Bool.{Bool, true, false, not, _&&_}
 use mathlib.Core.List.{List, [], _∷_, _++_, map}
-use mathlib.Core.Option.{Option, none, some}
 use native.Mathlib.Omega.{arith}
 use borrow.Author.Tests.{leb-true}
 use lib.Dec.{leb, eqb}
-use lib.IntN.{ℤ, pos, natAbs, _+ℤ_}
+use lib.IntN.{ℤ, pos}
 use lib.ListN.{length, length-append}
 use lib.Signed.{_≤ℤ_}
 use Rattle.integers.specs.Average.{averageOf}
@@ -16,14 +15,14 @@ use Rattle.integers.specs.Order.{eqZ}
 use Rattle.integers.proofs.Linear.{zarith, +-lin}
 use Rattle.integers.proofs.AverageLaws.{average-bound}
 use Rattle.rules.specs.Figures.{validId, validAccount, validSeries, validCount, mostQuantity, mergeKind}
-use Rattle.rules.specs.Keyed.{Key, isSome, find, greatest, same}
-use Rattle.rules.specs.Rows.{keyOf, recordKey, positionKey, adjustedRecord, newRecord, moved, soundRecord, validInto}
+use Rattle.rules.specs.Keyed.{Key, isSome, find, greatest}
+use Rattle.rules.specs.Rows.{recordKey, positionKey, newRecord, moved, soundRecord, validInto}
 use Rattle.rules.specs.Refusal.{allOf, anyOf}
-use Rattle.rules.specs.Request.{Request, merge}
+use Rattle.rules.specs.Request.{merge}
 use Rattle.rules.specs.Books.{Books, viewOf}
 use Rattle.rules.specs.Handle.{planOf}
 use Rattle.rules.specs.Plan.{suffixIsAbove}
-use Rattle.rules.specs.Merge.{Source, pairsOf, validPair, mergeFigures, sourcesOf, recordsOf, firstOf, sumOfQuantities, sumOfValues, mergedRecord, mergeResidual, mergePlan}
+use Rattle.rules.specs.Merge.{pairsOf, validPair, mergeFigures, sourcesOf, recordsOf, firstOf, sumOfQuantities, sumOfValues, mergedRecord, mergeResidual, mergePlan}
 use Rattle.rules.specs.declared.Record.{Record}
 use Rattle.keys.proofs.Split.{and-left, and-right, or-right}
 use Rattle.keys.proofs.Clauses.{allOf-nil, allOf-intro}
@@ -35,11 +34,11 @@ use Rattle.soundness.proofs.Accepted.{booking-passed, anyOf-first, allO
 use Rattle.soundness.proofs.ReadPosition.{readAt}
 use Rattle.soundness.proofs.FigureRanges.{in-price}
 use Rattle.soundness.proofs.SoundRows.{nothing-booked, new-sound}
-use Rattle.soundness.proofs.NamedRecord.{recordOf, nextOf, Named}
+use Rattle.soundness.proofs.NamedRecord.{recordOf, nextOf}
 use Rattle.soundness.proofs.LaterRows.{later-weaker, later-absent, distinct-last}
-use Rattle.soundness.proofs.BookingFacts.{BookingFacts, PlanFacts}
+use Rattle.soundness.proofs.BookingFacts.{PlanFacts}
 use Rattle.soundness.proofs.MergeAccepted.{MergePassed, merge-passed}
-use Rattle.soundness.proofs.MergeSources.{recordsAt, AllNamed, all-named, sources-present, sources-sound, Sums, sums}
+use Rattle.soundness.proofs.MergeSources.{recordsAt, AllNamed, all-named, sources-present, sources-sound, sums}
 use Rattle.soundness.proofs.MergeInverses.{nextAfter, next-after, merge-kind, inversesOf, inverses-count, inverses-later, inverses-differ, inverses-apart, inverses-sound}
 
 -- ---- figures

@@ -1,24 +1,24 @@
 -- The inverse rows of an accepted merge on sound books. A source's row has its id's next suffix and one more for each earlier source of the same id:
 -- so the rows are new, they differ, and their suffixes are above their sources'. Each is sound. By induction on the pairs. Assumes nothing.
 use mathlib.Core.Path.{_≡_, refl, sym, _∙_, ap, subst}
-use mathlib.Core.Bool.{Bool, true, false, cond, not}
+use mathlib.Core.Bool.{true, false, cond, not}
 use mathlib.Core.List.{List, [], _∷_, map}
 use mathlib.Core.Logic.{_⊎_, inl, inr}
-use mathlib.Core.Option.{Option, none, some}
-use Prim.Native.Nat.{ℕ, suc}
+use mathlib.Core.Option.{none}
+use Prim.Native.Nat.{suc}
 use lib.IntN.{ℤ, pos, _+ℤ_}
 use lib.ListN.{length}
 use lib.Signed.{_≤ℤ_, _<ℤ_, ≤ℤ-refl}
 use Rattle.integers.specs.Order.{eqZ}
 use Rattle.integers.proofs.Parts.{eqZ-refl}
 use Rattle.integers.proofs.Linear.{zarith, +-lin}
-use Rattle.rules.specs.Figures.{greatestOfSuffixes, mergeKind}
-use Rattle.rules.specs.Keyed.{Key, find, greatest, same}
+use Rattle.rules.specs.Figures.{mergeKind}
+use Rattle.rules.specs.Keyed.{Key, greatest, same}
 use Rattle.rules.specs.Rows.{keyOf, recordKey, inverseRecord, soundRecord, validKind, validInto}
 use Rattle.rules.specs.Refusal.{allOf, anyOf}
 use Rattle.rules.specs.Books.{Books, viewOf}
 use Rattle.rules.specs.Plan.{suffixIsAbove}
-use Rattle.rules.specs.Merge.{Source, sourcesOf, timesIn, mergeInverses}
+use Rattle.rules.specs.Merge.{sourcesOf, timesIn, mergeInverses}
 use Rattle.rules.specs.declared.Record.{Record}
 use Rattle.keys.proofs.Split.{split, none-some}
 use Rattle.keys.proofs.KeyOrder.{same-ne}
@@ -28,7 +28,7 @@ use Rattle.keys.proofs.Folds.{Only, only-intro}
 use Rattle.keys.proofs.Counts.{distinct, distinct-nil, distinct-intro}
 use Rattle.soundness.proofs.Accepted.{anyOf-head, anyOf-tail}
 use Rattle.soundness.proofs.SoundRows.{suffix-small, nothing-booked, inverse-sound}
-use Rattle.soundness.proofs.NamedRecord.{recordOf, nextOf, Named}
+use Rattle.soundness.proofs.NamedRecord.{recordOf, nextOf}
 use Rattle.soundness.proofs.LaterRows.{atLeastOf, at-least, later-weaker, before-differs}
 use Rattle.soundness.proofs.MergeSources.{AllNamed}
 

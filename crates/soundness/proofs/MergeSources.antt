@@ -1,8 +1,8 @@
 -- The sources of an accepted merge on sound books: each stands, is sound and adjustable, and stays sound in its new status. Their quantities are positive,
 -- so their sum is, and the sum of quantity times price is within the sum of quantities times the greatest price. By induction on the pairs. Assumes nothing.
-use Prim.Native.Nat.{ℕ, _+_, _*_, _≤_}
-use mathlib.Core.Path.{_≡_, refl}
-use mathlib.Core.Bool.{Bool, true, false, not}
+use Prim.Native.Nat.{_*_, _≤_}
+use mathlib.Core.Path.{_≡_}
+use mathlib.Core.Bool.{true, false, not}
 use mathlib.Core.List.{List, [], _∷_, map}
 use native.Mathlib.Nat.{le-refl}
 use borrow.Author.Tests.{not-false}
@@ -15,7 +15,7 @@ use Rattle.rules.specs.NamedRecord.{isNotAdjustable}
 use Rattle.rules.specs.Rows.{recordKey, adjustedRecord, soundRecord}
 use Rattle.rules.specs.Refusal.{allOf, anyOf}
 use Rattle.rules.specs.Books.{Books, viewOf}
-use Rattle.rules.specs.Merge.{Source, sourcesOf, recordsOf, isMissing, sumOfQuantities, sumOfValues}
+use Rattle.rules.specs.Merge.{sourcesOf, recordsOf, isMissing, sumOfQuantities, sumOfValues}
 use Rattle.rules.specs.declared.Record.{Record}
 use Rattle.keys.proofs.Clauses.{allOf-nil, allOf-intro}
 use Rattle.keys.proofs.Counts.{hasAll, hasAll-intro}

@@ -1,12 +1,12 @@
 -- The record that a request names, once tests 5 and 7 do not apply, on a sound table: it stands at its key, it is sound and adjustable,
 -- and its id's next suffix is above its own. No row stands at the next suffix of an id or above it. Assumes nothing.
-use mathlib.Core.Path.{_≡_, refl, sym, _∙_, ap, subst}
-use mathlib.Core.Bool.{Bool, true, false, not}
+use mathlib.Core.Path.{_≡_, sym, _∙_, ap, subst}
+use mathlib.Core.Bool.{true, false}
 use mathlib.Core.List.{List, map}
 use mathlib.Core.Option.{Option, none, some}
 use borrow.Author.Tests.{not-false}
 use lib.IntN.{ℤ, pos, _+ℤ_}
-use lib.Signed.{ltZ, leZ, _≤ℤ_, _<ℤ_, ≤ℤ-refl}
+use lib.Signed.{leZ, _≤ℤ_, _<ℤ_, ≤ℤ-refl}
 use Rattle.integers.specs.Order.{eqZ}
 use Rattle.integers.proofs.Parts.{eqZ-true}
 use Rattle.integers.proofs.Linear.{zarith, +-lin}

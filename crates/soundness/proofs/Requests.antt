@@ -1,17 +1,14 @@
 -- The facts of every kind of request on sound books, where it is accepted. A new kind adds a line. Assumes nothing.
 use mathlib.Core.Path.{_≡_, refl}
-use mathlib.Core.List.{List, [], _∷_}
 use mathlib.Core.Option.{Option, none, some}
 use lib.IntN.{ℤ, pos}
 use Rattle.rules.specs.Request.{Request, trade, separate, transfer, merge, lineage}
-use Rattle.rules.specs.Refusal.{Test}
-use Rattle.rules.specs.Books.{Books, viewOf}
-use Rattle.rules.specs.Plan.{Effects, Plan, booking, question}
+use Rattle.rules.specs.Books.{Books}
 use Rattle.rules.specs.Handle.{planOf}
 use Rattle.rules.specs.Lineage.{Origin, lineageReply, lineagePlan}
 use Rattle.soundness.specs.SoundBooks.{SoundBooks, planOn, Accepts}
 use Rattle.soundness.specs.RowsAnswered.{rowsAnswered}
-use Rattle.soundness.proofs.BookingFacts.{BookingFacts, PlanFacts}
+use Rattle.soundness.proofs.BookingFacts.{PlanFacts}
 use Rattle.soundness.proofs.Trade.{trade-facts}
 use Rattle.soundness.proofs.Separation.{separation-facts}
 use Rattle.soundness.proofs.Transfer.{transfer-facts}

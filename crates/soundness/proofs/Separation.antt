@@ -1,23 +1,22 @@
 -- An accepted separation on sound books: the named record stands and stays sound; the inverse row and the parts stand at successive suffixes from the
 -- next one on, so they are new and differ, and each is sound. By induction on the parts. Assumes nothing.
-use Prim.Native.Nat.{ℕ, suc, _+_}
-use mathlib.Core.Path.{_≡_, refl, sym, _∙_, ap, subst}
-use mathlib.Core.Bool.{Bool, true, false, not, _&&_}
+use Prim.Native.Nat.{suc}
+use mathlib.Core.Path.{_≡_, refl, ap}
+use mathlib.Core.Bool.{Bool, true, false, _&&_}
 use mathlib.Core.List.{List, [], _∷_, map}
-use mathlib.Core.Option.{Option, none, some}
 use native.Mathlib.Omega.{arith}
 use borrow.Author.Tests.{not-false}
-use lib.IntN.{ℤ, pos, negℤ, _+ℤ_}
+use lib.IntN.{ℤ, pos, _+ℤ_}
 use lib.ListN.{length}
 use lib.Signed.{_≤ℤ_, _<ℤ_, ≤ℤ-refl}
-use Rattle.integers.specs.Order.{eqZ, inRange}
+use Rattle.integers.specs.Order.{eqZ}
 use Rattle.integers.proofs.Linear.{zarith, +-lin}
-use Rattle.rules.specs.Figures.{magnitudeAtMost, validId, validSuffix, validAccount, validSeries, validQuantity, validCount, mostQuantity, greatestOfSuffixes, adjustable, separationKind}
+use Rattle.rules.specs.Figures.{validId, validSuffix, validAccount, validSeries, validQuantity, validCount, mostQuantity, greatestOfSuffixes, adjustable, separationKind}
 use Rattle.rules.specs.Keyed.{Key, isSome, find}
 use Rattle.rules.specs.NamedRecord.{isNotAdjustable}
-use Rattle.rules.specs.Rows.{keyOf, recordKey, positionKey, adjustedRecord, inverseRecord, adjustableRecord, soundRecord, validKind, validBooked}
+use Rattle.rules.specs.Rows.{keyOf, recordKey, positionKey, adjustedRecord, inverseRecord, adjustableRecord, soundRecord, validKind}
 use Rattle.rules.specs.Refusal.{test, allOf, anyOf}
-use Rattle.rules.specs.Request.{Request, separate}
+use Rattle.rules.specs.Request.{separate}
 use Rattle.rules.specs.Books.{Books, viewOf}
 use Rattle.rules.specs.Handle.{planOf}
 use Rattle.rules.specs.Plan.{suffixIsAbove}
@@ -28,13 +27,13 @@ use Rattle.keys.proofs.Clauses.{allOf-nil, allOf-intro, allOf-head, allOf-tail}
 use Rattle.keys.proofs.Folds.{Only, only-intro}
 use Rattle.keys.proofs.Counts.{distinct, distinct-nil, distinct-intro, hasAll-intro}
 use Rattle.soundness.specs.SoundBooks.{SoundBooks, planOn, Accepts}
-use Rattle.soundness.proofs.Accepted.{own-passed, BookingPassed, booking-passed, anyOf-head, anyOf-tail}
-use Rattle.soundness.proofs.FigureRanges.{quantity-range, in-booked}
+use Rattle.soundness.proofs.Accepted.{own-passed, booking-passed, anyOf-head, anyOf-tail}
+use Rattle.soundness.proofs.FigureRanges.{quantity-range}
 use Rattle.soundness.proofs.SoundRecord.{SoundRecord}
 use Rattle.soundness.proofs.SoundRows.{suffix-small, into-zero, nothing-booked, adjusted-sound, inverse-sound, adjustable-sound}
 use Rattle.soundness.proofs.NamedRecord.{recordOf, nextOf, Named, named, adjusted-stands}
 use Rattle.soundness.proofs.LaterRows.{below-next, atLeastOf, at-least, later-absent, before-differs}
-use Rattle.soundness.proofs.BookingFacts.{BookingFacts, PlanFacts}
+use Rattle.soundness.proofs.BookingFacts.{PlanFacts}
 
 -- ---- what it has passed
 

@@ -1,17 +1,17 @@
 -- The rows that rules make are sound: a new one from its figures, an adjusted, an inverse and an adjustable one from a sound record that they come from.
 -- Cells that are copied are sound as they were; the others by their ranges. Assumes nothing.
-use mathlib.Core.Path.{_≡_, refl, ap, subst}
-use mathlib.Core.Bool.{Bool, true, false}
-use lib.IntN.{ℤ, pos, negℤ}
+use mathlib.Core.Path.{_≡_, refl, subst}
+use mathlib.Core.Bool.{true, false}
+use lib.IntN.{ℤ, pos}
 use lib.Signed.{_≤ℤ_, _<ℤ_}
 use Rattle.integers.specs.Order.{eqZ, inRange}
 use Rattle.integers.proofs.Linear.{zarith}
-use Rattle.rules.specs.Figures.{magnitudeAtMost, validId, validSuffix, validAccount, validSeries, validPrice, validSide, validQuantity, mostQuantity, greatestOfSuffixes, adjustable, adjusted, inverse}
+use Rattle.rules.specs.Figures.{magnitudeAtMost, validId, validSuffix, validAccount, validSeries, validPrice, validSide, mostQuantity, greatestOfSuffixes, adjustable, adjusted, inverse}
 use Rattle.rules.specs.Rows.{validKind, validStatus, validSignedQuantity, validBooked, validInto, validParent, soundRecord, adjustedRecord, newRecord, inverseRecord, adjustableRecord}
 use Rattle.rules.specs.Plan.{suffixIsAbove}
 use Rattle.rules.specs.declared.Record.{Record}
 use Rattle.soundness.proofs.SoundRecord.{SoundRecord, sound-record}
-use Rattle.soundness.proofs.FigureRanges.{quantity-range, signed-range, in-signed, inverse-signed, suffix-range, in-suffix, in-parent}
+use Rattle.soundness.proofs.FigureRanges.{signed-range, in-signed, inverse-signed, suffix-range, in-suffix, in-parent}
 
 -- Test 13 does not apply to a row.
 pub suffix-small : (r : Record) → suffixIsAbove r ≡ false → r .suffix ≤ℤ greatestOfSuffixes

@@ -1,10 +1,9 @@
 -- An accepted transfer on sound books: the named record stands and stays sound; the inverse and the adjustable row stand at the next two suffixes, so they
 -- are new and differ, and both are sound; the two positions differ. Assumes nothing.
-use mathlib.Core.Path.{_≡_, refl, sym, _∙_, ap, subst}
+use mathlib.Core.Path.{_≡_, refl, sym, _∙_, ap}
 use mathlib.Core.Bool.{Bool, true, false, cond, not, _&&_}
 use mathlib.Core.List.{List, [], _∷_, map}
 use mathlib.Core.Logic.{_⊎_, inl, inr}
-use mathlib.Core.Option.{Option, none, some}
 use borrow.Author.Tests.{not-false, not-true}
 use lib.IntN.{ℤ, pos, negℤ, _+ℤ_}
 use lib.Signed.{_≤ℤ_, _<ℤ_, ≤ℤ-refl}
@@ -15,8 +14,8 @@ use Rattle.rules.specs.Figures.{validId, validSuffix, validAccount, validSeries
 use Rattle.rules.specs.Keyed.{Key, isSome, find, same}
 use Rattle.rules.specs.NamedRecord.{isNotAdjustable}
 use Rattle.rules.specs.Rows.{keyOf, recordKey, positionKey, adjustedRecord, inverseRecord, adjustableRecord, moved, soundRecord, validKind, validBooked}
-use Rattle.rules.specs.Refusal.{test, allOf, anyOf}
-use Rattle.rules.specs.Request.{Request, transfer}
+use Rattle.rules.specs.Refusal.{test, anyOf}
+use Rattle.rules.specs.Request.{transfer}
 use Rattle.rules.specs.Books.{Books, viewOf}
 use Rattle.rules.specs.Handle.{planOf}
 use Rattle.rules.specs.Plan.{suffixIsAbove}
@@ -26,7 +25,7 @@ use Rattle.rules.specs.declared.Position.{Position}
 use Rattle.keys.proofs.Split.{split, and-left, and-right}
 use Rattle.keys.proofs.KeyOrder.{same-ne}
 use Rattle.keys.proofs.Clauses.{allOf-nil, allOf-intro}
-use Rattle.keys.proofs.Folds.{Only, only-intro}
+use Rattle.keys.proofs.Folds.{only-intro}
 use Rattle.keys.proofs.Counts.{distinct, distinct-nil, distinct-intro, hasAll-intro}
 use Rattle.soundness.specs.SoundBooks.{SoundBooks, planOn, Accepts}
 use Rattle.soundness.proofs.Accepted.{own-passed, booking-passed, anyOf-head, anyOf-tail}
@@ -35,7 +34,7 @@ use Rattle.soundness.proofs.FigureRanges.{in-booked}
 use Rattle.soundness.proofs.SoundRows.{suffix-small, into-zero, nothing-booked, adjusted-sound, inverse-sound, adjustable-sound}
 use Rattle.soundness.proofs.NamedRecord.{recordOf, nextOf, Named, named, adjusted-stands}
 use Rattle.soundness.proofs.LaterRows.{below-next, atLeastOf, at-least, later-absent, before-differs}
-use Rattle.soundness.proofs.BookingFacts.{BookingFacts, PlanFacts}
+use Rattle.soundness.proofs.BookingFacts.{PlanFacts}
 
 -- ---- what it has passed
 
