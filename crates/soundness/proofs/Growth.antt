@@ -21,27 +21,28 @@ use Rattle.soundness.proofs.Requests.{plan-facts}
 
 -- ---- of any plan with its facts
 
-pub records-grow : (b : Books) → SoundBooks b → (e : Effects) → BookingFacts b e → length (booked e b .records) ≡ length (b .records) + length (e .added)
+pub facts-records-grow : (b : Books) → SoundBooks b → (e : Effects) → BookingFacts b e → length (booked e b .records) ≡ length (b .records) + length (e .added)
 unfolding booked
-records-grow b sound e f =
+facts-records-grow b sound e f =
     upsertAll-replaces-adds recordKey (e .changed) (e .added) (b .records) (sound .records-rise) (f .changed-present) (f .added-distinct) (f .added-absent)
 
-pub positions-grow : (b : Books) → SoundBooks b → (e : Effects) → BookingFacts b e →
+pub facts-positions-grow : (b : Books) → SoundBooks b → (e : Effects) → BookingFacts b e →
     length (booked e b .positions) ≡ length (b .positions) + absentFrom positionKey (b .positions) (e .positions)
 unfolding booked
-positions-grow b sound e f = upsertAll-counts positionKey (e .positions) (b .positions) (sound .positions-rise) (f .positions-distinct)
+facts-positions-grow b sound e f = upsertAll-counts positionKey (e .positions) (b .positions) (sound .positions-rise) (f .positions-distinct)
 
 -- ---- of an accepted request
 
 booking-facts : (b : Books) → SoundBooks b → (r : Request) → Accepts b r → (tests : List Test) (e : Effects) → planOn b r ≡ booking tests e → BookingFacts b e
 booking-facts b sound r a tests e p = subst (λ (plan : Plan). PlanFacts b plan) p (plan-facts b sound r a)
 
-pub growth : (b : Books) → SoundBooks b → (r : Request) → Accepts b r → (tests : List Test) (e : Effects) → planOn b r ≡ booking tests e →
-    (length (booked e b .records) ≡ length (b .records) + length (e .added))
-    × (length (booked e b .positions) ≡ length (b .positions) + absentFrom positionKey (b .positions) (e .positions))
-growth b sound r a tests e p =
-    let f : BookingFacts b e = booking-facts b sound r a tests e p in
-    (records-grow b sound e f, positions-grow b sound e f)
+pub records-grow : (b : Books) → SoundBooks b → (r : Request) → Accepts b r → (tests : List Test) (e : Effects) → planOn b r ≡ booking tests e →
+    length (booked e b .records) ≡ length (b .records) + length (e .added)
+records-grow b sound r a tests e p = facts-records-grow b sound e (booking-facts b sound r a tests e p)
+
+pub positions-grow : (b : Books) → SoundBooks b → (r : Request) → Accepts b r → (tests : List Test) (e : Effects) → planOn b r ≡ booking tests e →
+    length (booked e b .positions) ≡ length (b .positions) + absentFrom positionKey (b .positions) (e .positions)
+positions-grow b sound r a tests e p = facts-positions-grow b sound e (booking-facts b sound r a tests e p)
 
 -- The answer's row count is the number of rows added.
 pub answered-rows : (b : Books) → SoundBooks b → (r : Request) → Accepts b r → (tests : List Test) (e : Effects) → planOn b r ≡ booking tests e →
@@ -71,5 +72,5 @@ answered-growth b sound r a = go (planOn b r) (plan-facts b sound r a)
     n : ℕ
     n = length (b .records)
     go : (plan : Plan) → PlanFacts b plan → pos (length (planBooks plan b .records)) ≡ pos n +ℤ rowsAnswered (planReply plan)
-    go (booking tests e) f = ap pos (records-grow b sound e f) ∙ ap (λ (z : ℤ). pos n +ℤ z) (sym (f .answered))
+    go (booking tests e) f = ap pos (facts-records-grow b sound e f) ∙ ap (λ (z : ℤ). pos n +ℤ z) (sym (f .answered))
     go (question tests reply) f = sym (ap (λ (z : ℤ). pos n +ℤ z) f ∙ +ℤ-idr (pos n))
