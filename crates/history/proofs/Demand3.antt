@@ -4,7 +4,7 @@
 -- The claim is about one list of any length. Refused requests may stand anywhere in the first list. Both runs are of `handle`, the rules of document 01: a program that always
 -- refuses, or does nothing, is shut out by the rules themselves (demand 2), and not by this theorem, which such a program would satisfy.
 --
--- By the exchange of neighbours (TableExchange), carried to any reordering (Replay). Assumes the laws of soundness.
+-- By the exchange of neighbours (TableExchange), carried to any reordering (Replay). Assumes nothing.
 use mathlib.Core.Path.{_≡_, refl, sym, _∙_, ap₂, subst}
 use mathlib.Core.Bool.{Bool, true, false}
 use mathlib.Core.List.{List, [], _∷_}
@@ -14,7 +14,6 @@ use Rattle.rules.specs.Tables.{Tables}
 use Rattle.rules.specs.Handle.{handle}
 use Rattle.rules.specs.Run.{afterReply, run}
 use Rattle.keys.proofs.Split.{split, cond-true, cond-false}
-use Rattle.history.proofs.SoundnessLaws.{SoundnessLaws}
 use Rattle.history.specs.History.{isAccepted, Entry, requestsOf, acceptedEntries, entriesTouch, Reordering}
 use Rattle.history.proofs.Accepted.{refused-tables}
 use Rattle.history.proofs.Replay.{Replays, replay-reordered}
@@ -72,18 +71,16 @@ pub without-refused : (t : Tables) (requests : List Request) →
     × (run t (requestsOf (acceptedEntries t requests)) .tables ≡ run t requests .tables)
 without-refused t requests = replayed (acceptedEntries t requests) t (run t requests .tables) (history-replays t requests)
 
-module _ (laws : SoundnessLaws) where
+entries-exchanged : (t : Tables) (x y : Entry) → entriesTouch y x ≡ false → Does t x → Does (next t x) y →
+    (Does t y) × (Does (next t y) x) × (next (next t y) x ≡ next (next t x) y)
+unfolding entriesTouch
+entries-exchanged t x y free ok-x ok-y =
+    let w : TablesExchanged t (x .request) (y .request) =
+        tables-exchanged t (x .request) (y .request) free (ok-x .0) (ok-y .0) in
+    ((w .second-accepted, w .second-reply ∙ ok-y .1), (w .first-accepted, w .first-reply ∙ ok-x .1), w .same-tables)
 
-  entries-exchanged : (t : Tables) (x y : Entry) → entriesTouch y x ≡ false → Does t x → Does (next t x) y →
-      (Does t y) × (Does (next t y) x) × (next (next t y) x ≡ next (next t x) y)
-  unfolding entriesTouch
-  entries-exchanged t x y free ok-x ok-y =
-      let w : TablesExchanged t (x .request) (y .request) =
-          tables-exchanged laws t (x .request) (y .request) free (ok-x .0) (ok-y .0) in
-      ((w .second-accepted, w .second-reply ∙ ok-y .1), (w .first-accepted, w .first-reply ∙ ok-x .1), w .same-tables)
-
-  pub demand-3 : (t : Tables) (requests : List Request) (new : List Entry) → Reordering entriesTouch (acceptedEntries t requests) new →
-      (acceptedEntries t (requestsOf new) ≡ new) × (run t (requestsOf new) .tables ≡ run t requests .tables)
-  demand-3 t requests new order =
-      replayed new t (run t requests .tables)
-      (replay-reordered Does next entriesTouch entries-exchanged new (acceptedEntries t requests) t (run t requests .tables) order (history-replays t requests))
+pub demand-3 : (t : Tables) (requests : List Request) (new : List Entry) → Reordering entriesTouch (acceptedEntries t requests) new →
+    (acceptedEntries t (requestsOf new) ≡ new) × (run t (requestsOf new) .tables ≡ run t requests .tables)
+demand-3 t requests new order =
+    replayed new t (run t requests .tables)
+    (replay-reordered Does next entriesTouch entries-exchanged new (acceptedEntries t requests) t (run t requests .tables) order (history-replays t requests))

@@ -7,7 +7,6 @@ pub mod Effects
 pub mod OwnKeys
 pub mod Unseen
 pub mod Room
-pub mod SoundnessLaws
 pub mod Exchange
 pub mod Accepted
 pub mod Step

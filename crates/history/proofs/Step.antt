@@ -1,5 +1,5 @@
 -- One accepted request on sound tables, in terms of the books: the tables afterwards are the old ones with the new books written, and their books are the new books.
--- They are sound again. Assumes the laws of soundness.
+-- They are sound again. Assumes nothing.
 use Prim.Native.Nat.{_≤_}
 use mathlib.Core.Path.{_≡_, refl, sym, _∙_, ap, subst}
 use mathlib.Core.Bool.{true}
@@ -16,8 +16,8 @@ use Rattle.soundness.specs.SoundBooks.{SoundBooks, after}
 use Rattle.cells.specs.Fitting.{Fitting}
 use Rattle.cells.proofs.BookCells.{books-written}
 use Rattle.cells.proofs.SoundBookCells.{books-records-rise, books-records-sound, books-records-fit, books-positions-rise, books-positions-sound, books-positions-fit, fitting, write-sound-own, sound-written-records, sound-written-positions}
+use Rattle.soundness.proofs.Kept.{kept}
 use Rattle.keys.proofs.Folds.{upsertAll-longer}
-use Rattle.history.proofs.SoundnessLaws.{SoundnessLaws}
 use Rattle.history.specs.History.{isAccepted}
 use Rattle.history.proofs.Accepted.{SoundTables, planAt, accepted-tables, accepted-rows}
 
@@ -52,10 +52,10 @@ unfolding planTables planBooks
 plan-written t sound (booking tests e) = refl
 plan-written t sound (question tests reply) = sym (write-sound-own t (sound .records) (sound .positions))
 
-module _ (laws : SoundnessLaws) (t : Tables) (sound : SoundTables t) (r : Request) (ok : isAccepted t r ≡ true) where
+module _ (t : Tables) (sound : SoundTables t) (r : Request) (ok : isAccepted t r ≡ true) where
 
   new-books-sound : SoundBooks (after (booksOf t) r)
-  new-books-sound = laws .stays-sound (booksOf t) (sound-books t sound) r (accepted-rows t r ok)
+  new-books-sound = kept (booksOf t) (sound-books t sound) r (accepted-rows t r ok)
 
   new-books-fit : Fitting t (after (booksOf t) r)
   new-books-fit =
