@@ -1,6 +1,6 @@
 -- The theorem is not hollow: a history of all five kinds with refused requests among them has the accepted entries stated, another order of them is a reordering, and it goes through with
 -- the same answers to the same cells. And a pair that touches does not: exchanged, it answers otherwise. By computation. Assumes nothing.
-use mathlib.Core.Path.{_≡_, refl}
+use mathlib.Core.Path.{_≡_, refl, sym, subst}
 use mathlib.Core.Bool.{true}
 use mathlib.Core.List.{List, [], _∷_}
 use lib.IntN.{pos}
@@ -27,6 +27,7 @@ use Rattle.rules.specs.Transfer.{transferFigures, inLong, inShort, holdsTooLitt
 use Rattle.rules.specs.declared.Reply.the-variants.{Booked, ClosingError}
 use Rattle.history.specs.History.{Entry, isAccepted, acceptedEntries, entriesTouch, requestsOf, Reordering}
 use Rattle.history.specs.Sample.{start, trade1, history, entry, accepted, places, finish, buy, sell}
+use Rattle.history.proofs.Demand3.{demand-3}
 use Rattle.history.proofs.ByPlaces.{eachTwo, mayStand, isOrder, inOrder, by-places}
 
 -- To compute with the rules, each definition of theirs is opened.
@@ -59,6 +60,10 @@ sample-cells = refl
 pub sample-cells-again : run start (requestsOf another) .tables ≡ finish
 unfolding Computed
 sample-cells-again = refl
+
+-- The theorem says it of this order without computing.
+pub sample-by-demand-3 : (acceptedEntries start (requestsOf another) ≡ another) × (run start (requestsOf another) .tables ≡ run start history .tables)
+sample-by-demand-3 = demand-3 start history another (subst (λ (l : List Entry). Reordering entriesTouch l another) (sym sample-accepted) sample-order)
 
 -- The two touch, and exchanged the sell finds nothing to close.
 pub pair-touches : touch buy sell ≡ true
