@@ -30,8 +30,9 @@ use Rattle.keys.proofs.Clauses.{allOf-nil}
 use Rattle.keys.proofs.Lookup.{find-key}
 use Rattle.keys.proofs.Counts.{isSome-present}
 use Rattle.keys.proofs.Folds.{Only, only-intro}
+use Rattle.soundness.proofs.Accepted.{anyOf-head, anyOf-tail}
 use Rattle.history.proofs.Named.{named-here, named-later, among-here, among-later}
-use Rattle.history.proofs.Refusals.{test-passes, rest-passes, each-passes, any-head, any-tail}
+use Rattle.history.proofs.Refusals.{test-passes, rest-passes, each-passes}
 use Rattle.history.proofs.Effects.{effectsOf, ownTests}
 
 -- What is seen under a key has that key.
@@ -113,9 +114,9 @@ module _ (v : View) (true-to : TrueToKeys v) where
   named-sources ids (k ∷ rest) n h =
       source
       (subst (λ (id : ℤ). isNamedIn id ids ≡ true)
-        (sym (named-id (k .major) (v .recordAt (k .major) (k .minor)) (true-to .record-id (k .major) (k .minor)) (any-head _ _ h)))
+        (sym (named-id (k .major) (v .recordAt (k .major) (k .minor)) (true-to .record-id (k .major) (k .minor)) (anyOf-head _ _ h)))
         (n (k .major) (named-here (k .major) (map (λ (x : Key). x .major) rest))))
-      (named-sources ids rest (λ id w. n id (named-later id (k .major) (map (λ (x : Key). x .major) rest) w)) (any-tail _ _ h))
+      (named-sources ids rest (λ id w. n id (named-later id (k .major) (map (λ (x : Key). x .major) rest) w)) (anyOf-tail _ _ h))
 
   -- The position of a key that is among these.
   among-seen : (account series : ℤ) (ks : List Key) → isAmong (keyOf account series) ks ≡ true → isAmong (positionKey (v .positionAt account series)) ks ≡ true

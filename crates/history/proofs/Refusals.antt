@@ -5,7 +5,7 @@ use mathlib.Core.List.{List, [], _∷_, _++_}
 use mathlib.Core.Option.{none, some}
 use Prim.Native.Nat.{ℕ}
 use Rattle.rules.specs.Refusal.{Test, test, testEach, anyOf, firstRefusal}
-use Rattle.keys.proofs.Split.{is-false, none-some, cond-true, cond-false, or-false-left, or-false-right}
+use Rattle.keys.proofs.Split.{is-false, none-some, cond-true, cond-false}
 
 pub no-refusal : firstRefusal [] ≡ none
 unfolding firstRefusal
@@ -47,11 +47,3 @@ passes-test n b rest a h = passes (test n b) rest a h
 pub each-passes : (n : ℕ) (fails : List Bool) (rest : List Test) → firstRefusal (testEach n fails ∷ rest) ≡ none → anyOf fails ≡ false
 unfolding testEach
 each-passes n fails rest h = first-passes (testEach n fails) rest h
-
-pub any-head : (b : Bool) (rest : List Bool) → anyOf (b ∷ rest) ≡ false → b ≡ false
-unfolding anyOf
-any-head b rest h = or-false-left b (anyOf rest) h
-
-pub any-tail : (b : Bool) (rest : List Bool) → anyOf (b ∷ rest) ≡ false → anyOf rest ≡ false
-unfolding anyOf
-any-tail b rest h = or-false-right b (anyOf rest) h
