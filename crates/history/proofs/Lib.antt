@@ -14,3 +14,4 @@ pub mod TableExchange
 pub mod Demand3
 pub mod ByPlaces
 pub mod Samples
+pub mod OnTables

@@ -1,7 +1,8 @@
--- "Slips a tired clerk makes": what the rules say at each, by computation on the smallest tables that show it. An edit of a definition that makes
--- the slip is refused here. (The slip of the average is a law of the crate `integers`.) Assumes nothing.
+-- "Slips a tired clerk makes", and a few more: what the rules say at each, by computation on the smallest tables that show it. An edit of a definition that
+-- makes the slip is refused here. (The slip of the average is refused by the laws of the crate `integers`.) Assumes nothing.
 use Prim.Native.Nat.{ℕ}
 use mathlib.Core.Path.{_≡_, refl}
+use mathlib.Core.Bool.{true, false}
 use mathlib.Core.List.{List, [], _∷_, _++_, map}
 use lib.IntN.{ℤ, pos, negℤ}
 use lib.ListN.{replicate}
@@ -22,13 +23,14 @@ use Rattle.rules.specs.Rows.{validKind, validStatus, validSignedQuantity
 use Rattle.rules.specs.Run.{afterReply, run, Run}
 use Rattle.rules.specs.Separation.{sumOf, separationFigures, partRecords, separationPlan}
 use Rattle.rules.specs.Tables.{recordsLayout, positionsLayout, recordCells, positionCells, soundTable, soundRecords, soundPositions, booksOf, writeBooks, Tables}
+use Rattle.rules.specs.Touching.{idsOf, positionsOf, isNamedIn, shareId, sharePosition, touch}
 use Rattle.rules.specs.Trade.{tradeFigures, openAgainst, smaller, closedBy, longBooked, shortBooked, isClosingError, tradeKind, tradeReply, tradePlan}
 use Rattle.rules.specs.Transfer.{transferFigures, inLong, inShort, holdsTooLittle, transferPlan}
 use Rattle.rules.specs.Request.{Request, trade, separate, transfer, merge}
 use Rattle.rules.specs.declared.Record.{Record}
 use Rattle.rules.specs.declared.Position.{Position}
 use Rattle.rules.specs.declared.Reply.{Reply}
-use Rattle.rules.specs.declared.Reply.the-variants.{Refused}
+use Rattle.rules.specs.declared.Reply.the-variants.{Booked, Refused}
 
 -- Two tables with room for so many rows, none of them used.
 abbrev empty : ℕ → ℕ → Tables
@@ -48,13 +50,13 @@ positionsAfter t requests = rowsOf positionsLayout ((run t requests) .tables .po
 pub separation-leaves-the-position :
     positionsAfter (empty 52 5) (buy (pos 7) (pos 1) ∷ separate (pos 7) (pos 0) (pos 1) (pos 1) (pos 60 ∷ pos 40 ∷ []) ∷ [])
     ≡ positionsAfter (empty 52 5) (buy (pos 7) (pos 1) ∷ [])
-unfolding eqZ inRange floorDiv averageOf residualOf viewOf magnitudeAtMost validId validSuffix validAccount validSeries validQuantity validPrice validSide isBuy isToClose validCount planOf soundnessTests refusals planTables answer handle below same isSome atLeast rising find greatest upsert upsertAll absentFrom encode roomOf rowsOf countIsSound write oneMoreLink originVia originOf lineageReply lineagePlan pairsOf validPair mergeFigures sourcesOf recordsOf isMissing closes isAmong stoodEarlier firstOf sideDiffers sumOfQuantities sumOfValues timesIn mergeInverses mergedRecord mergeResidual mergePlan noRecord theRecord isElsewhere isNotAdjustable nextSuffix suffixIsAbove bookingTests planTests booked planBooks planReply test anyOf allOf firstPlace testEach firstRefusal refusedBy validKind validStatus validSignedQuantity validBooked validInto validParent soundRecord soundPosition zeroPosition orZeros moved adjustedRecord newRecord inverseRecord adjustableRecord afterReply run sumOf separationFigures partRecords separationPlan recordCells positionCells soundTable soundRecords soundPositions booksOf writeBooks tradeFigures openAgainst smaller closedBy longBooked shortBooked isClosingError tradeKind tradeReply tradePlan transferFigures inLong inShort holdsTooLittle transferPlan
+unfolding eqZ inRange floorDiv averageOf residualOf viewOf magnitudeAtMost validId validSuffix validAccount validSeries validQuantity validPrice validSide isBuy isToClose validCount planOf soundnessTests refusals planTables answer handle below same isSome atLeast rising find greatest upsert upsertAll absentFrom encode roomOf rowsOf countIsSound write oneMoreLink originVia originOf lineageReply lineagePlan pairsOf validPair mergeFigures sourcesOf recordsOf isMissing closes isAmong stoodEarlier firstOf sideDiffers sumOfQuantities sumOfValues timesIn mergeInverses mergedRecord mergeResidual mergePlan noRecord theRecord isElsewhere isNotAdjustable nextSuffix suffixIsAbove bookingTests planTests booked planBooks planReply test anyOf allOf firstPlace testEach firstRefusal refusedBy validKind validStatus validSignedQuantity validBooked validInto validParent soundRecord soundPosition zeroPosition orZeros moved adjustedRecord newRecord inverseRecord adjustableRecord afterReply run sumOf separationFigures partRecords separationPlan recordCells positionCells soundTable soundRecords soundPositions booksOf writeBooks idsOf positionsOf isNamedIn shareId sharePosition touch tradeFigures openAgainst smaller closedBy longBooked shortBooked isClosingError tradeKind tradeReply tradePlan transferFigures inLong inShort holdsTooLittle transferPlan
 separation-leaves-the-position = refl
 
 pub separation-books-nothing :
     map (λ (r : Record). r .long) (recordsAfter (empty 52 5) (buy (pos 7) (pos 1) ∷ separate (pos 7) (pos 0) (pos 1) (pos 1) (pos 60 ∷ pos 40 ∷ []) ∷ []))
     ≡ pos 100 ∷ pos 0 ∷ pos 0 ∷ pos 0 ∷ []
-unfolding eqZ inRange floorDiv averageOf residualOf viewOf magnitudeAtMost validId validSuffix validAccount validSeries validQuantity validPrice validSide isBuy isToClose validCount planOf soundnessTests refusals planTables answer handle below same isSome atLeast rising find greatest upsert upsertAll absentFrom encode roomOf rowsOf countIsSound write oneMoreLink originVia originOf lineageReply lineagePlan pairsOf validPair mergeFigures sourcesOf recordsOf isMissing closes isAmong stoodEarlier firstOf sideDiffers sumOfQuantities sumOfValues timesIn mergeInverses mergedRecord mergeResidual mergePlan noRecord theRecord isElsewhere isNotAdjustable nextSuffix suffixIsAbove bookingTests planTests booked planBooks planReply test anyOf allOf firstPlace testEach firstRefusal refusedBy validKind validStatus validSignedQuantity validBooked validInto validParent soundRecord soundPosition zeroPosition orZeros moved adjustedRecord newRecord inverseRecord adjustableRecord afterReply run sumOf separationFigures partRecords separationPlan recordCells positionCells soundTable soundRecords soundPositions booksOf writeBooks tradeFigures openAgainst smaller closedBy longBooked shortBooked isClosingError tradeKind tradeReply tradePlan transferFigures inLong inShort holdsTooLittle transferPlan
+unfolding eqZ inRange floorDiv averageOf residualOf viewOf magnitudeAtMost validId validSuffix validAccount validSeries validQuantity validPrice validSide isBuy isToClose validCount planOf soundnessTests refusals planTables answer handle below same isSome atLeast rising find greatest upsert upsertAll absentFrom encode roomOf rowsOf countIsSound write oneMoreLink originVia originOf lineageReply lineagePlan pairsOf validPair mergeFigures sourcesOf recordsOf isMissing closes isAmong stoodEarlier firstOf sideDiffers sumOfQuantities sumOfValues timesIn mergeInverses mergedRecord mergeResidual mergePlan noRecord theRecord isElsewhere isNotAdjustable nextSuffix suffixIsAbove bookingTests planTests booked planBooks planReply test anyOf allOf firstPlace testEach firstRefusal refusedBy validKind validStatus validSignedQuantity validBooked validInto validParent soundRecord soundPosition zeroPosition orZeros moved adjustedRecord newRecord inverseRecord adjustableRecord afterReply run sumOf separationFigures partRecords separationPlan recordCells positionCells soundTable soundRecords soundPositions booksOf writeBooks idsOf positionsOf isNamedIn shareId sharePosition touch tradeFigures openAgainst smaller closedBy longBooked shortBooked isClosingError tradeKind tradeReply tradePlan transferFigures inLong inShort holdsTooLittle transferPlan
 separation-books-nothing = refl
 
 -- "Numbering merge inverses from a count taken once, when two sources share an id." Each takes a suffix of its own.
@@ -66,14 +68,14 @@ pub inverses-take-successive-suffixes :
             ∷ merge (pos 8) (pos 1) (pos 1) (pos 7 ∷ pos 2 ∷ pos 7 ∷ pos 3 ∷ [])
             ∷ []))
     ≡ pos 0 ∷ pos 1 ∷ pos 2 ∷ pos 3 ∷ pos 4 ∷ pos 5 ∷ pos 0 ∷ []
-unfolding eqZ inRange floorDiv averageOf residualOf viewOf magnitudeAtMost validId validSuffix validAccount validSeries validQuantity validPrice validSide isBuy isToClose validCount planOf soundnessTests refusals planTables answer handle below same isSome atLeast rising find greatest upsert upsertAll absentFrom encode roomOf rowsOf countIsSound write oneMoreLink originVia originOf lineageReply lineagePlan pairsOf validPair mergeFigures sourcesOf recordsOf isMissing closes isAmong stoodEarlier firstOf sideDiffers sumOfQuantities sumOfValues timesIn mergeInverses mergedRecord mergeResidual mergePlan noRecord theRecord isElsewhere isNotAdjustable nextSuffix suffixIsAbove bookingTests planTests booked planBooks planReply test anyOf allOf firstPlace testEach firstRefusal refusedBy validKind validStatus validSignedQuantity validBooked validInto validParent soundRecord soundPosition zeroPosition orZeros moved adjustedRecord newRecord inverseRecord adjustableRecord afterReply run sumOf separationFigures partRecords separationPlan recordCells positionCells soundTable soundRecords soundPositions booksOf writeBooks tradeFigures openAgainst smaller closedBy longBooked shortBooked isClosingError tradeKind tradeReply tradePlan transferFigures inLong inShort holdsTooLittle transferPlan
+unfolding eqZ inRange floorDiv averageOf residualOf viewOf magnitudeAtMost validId validSuffix validAccount validSeries validQuantity validPrice validSide isBuy isToClose validCount planOf soundnessTests refusals planTables answer handle below same isSome atLeast rising find greatest upsert upsertAll absentFrom encode roomOf rowsOf countIsSound write oneMoreLink originVia originOf lineageReply lineagePlan pairsOf validPair mergeFigures sourcesOf recordsOf isMissing closes isAmong stoodEarlier firstOf sideDiffers sumOfQuantities sumOfValues timesIn mergeInverses mergedRecord mergeResidual mergePlan noRecord theRecord isElsewhere isNotAdjustable nextSuffix suffixIsAbove bookingTests planTests booked planBooks planReply test anyOf allOf firstPlace testEach firstRefusal refusedBy validKind validStatus validSignedQuantity validBooked validInto validParent soundRecord soundPosition zeroPosition orZeros moved adjustedRecord newRecord inverseRecord adjustableRecord afterReply run sumOf separationFigures partRecords separationPlan recordCells positionCells soundTable soundRecords soundPositions booksOf writeBooks idsOf positionsOf isNamedIn shareId sharePosition touch tradeFigures openAgainst smaller closedBy longBooked shortBooked isClosingError tradeKind tradeReply tradePlan transferFigures inLong inShort holdsTooLittle transferPlan
 inverses-take-successive-suffixes = refl
 
 -- "Putting new rows at the end, so the tables depend on who came first." They do not.
 pub rows-stand-by-key :
     (run (empty 26 10) (buy (pos 7) (pos 1) ∷ buy (pos 6) (pos 2) ∷ [])) .tables
     ≡ (run (empty 26 10) (buy (pos 6) (pos 2) ∷ buy (pos 7) (pos 1) ∷ [])) .tables
-unfolding eqZ inRange floorDiv averageOf residualOf viewOf magnitudeAtMost validId validSuffix validAccount validSeries validQuantity validPrice validSide isBuy isToClose validCount planOf soundnessTests refusals planTables answer handle below same isSome atLeast rising find greatest upsert upsertAll absentFrom encode roomOf rowsOf countIsSound write oneMoreLink originVia originOf lineageReply lineagePlan pairsOf validPair mergeFigures sourcesOf recordsOf isMissing closes isAmong stoodEarlier firstOf sideDiffers sumOfQuantities sumOfValues timesIn mergeInverses mergedRecord mergeResidual mergePlan noRecord theRecord isElsewhere isNotAdjustable nextSuffix suffixIsAbove bookingTests planTests booked planBooks planReply test anyOf allOf firstPlace testEach firstRefusal refusedBy validKind validStatus validSignedQuantity validBooked validInto validParent soundRecord soundPosition zeroPosition orZeros moved adjustedRecord newRecord inverseRecord adjustableRecord afterReply run sumOf separationFigures partRecords separationPlan recordCells positionCells soundTable soundRecords soundPositions booksOf writeBooks tradeFigures openAgainst smaller closedBy longBooked shortBooked isClosingError tradeKind tradeReply tradePlan transferFigures inLong inShort holdsTooLittle transferPlan
+unfolding eqZ inRange floorDiv averageOf residualOf viewOf magnitudeAtMost validId validSuffix validAccount validSeries validQuantity validPrice validSide isBuy isToClose validCount planOf soundnessTests refusals planTables answer handle below same isSome atLeast rising find greatest upsert upsertAll absentFrom encode roomOf rowsOf countIsSound write oneMoreLink originVia originOf lineageReply lineagePlan pairsOf validPair mergeFigures sourcesOf recordsOf isMissing closes isAmong stoodEarlier firstOf sideDiffers sumOfQuantities sumOfValues timesIn mergeInverses mergedRecord mergeResidual mergePlan noRecord theRecord isElsewhere isNotAdjustable nextSuffix suffixIsAbove bookingTests planTests booked planBooks planReply test anyOf allOf firstPlace testEach firstRefusal refusedBy validKind validStatus validSignedQuantity validBooked validInto validParent soundRecord soundPosition zeroPosition orZeros moved adjustedRecord newRecord inverseRecord adjustableRecord afterReply run sumOf separationFigures partRecords separationPlan recordCells positionCells soundTable soundRecords soundPositions booksOf writeBooks idsOf positionsOf isNamedIn shareId sharePosition touch tradeFigures openAgainst smaller closedBy longBooked shortBooked isClosingError tradeKind tradeReply tradePlan transferFigures inLong inShort holdsTooLittle transferPlan
 rows-stand-by-key = refl
 
 -- A refusal is the first that applies: a transfer of a record that is in another account (6), adjusted (7) and held by nobody there (12) is refused 6.
@@ -84,5 +86,38 @@ pub first-number-given :
         ∷ transfer (pos 7) (pos 0) (pos 2) (pos 3) (pos 1)
         ∷ [])) .replies
     ≡ (run (empty 52 10) (buy (pos 7) (pos 1) ∷ transfer (pos 7) (pos 0) (pos 1) (pos 2) (pos 1) ∷ [])) .replies ++ (Refused (pos 6) (pos 0) ∷ [])
-unfolding eqZ inRange floorDiv averageOf residualOf viewOf magnitudeAtMost validId validSuffix validAccount validSeries validQuantity validPrice validSide isBuy isToClose validCount planOf soundnessTests refusals planTables answer handle below same isSome atLeast rising find greatest upsert upsertAll absentFrom encode roomOf rowsOf countIsSound write oneMoreLink originVia originOf lineageReply lineagePlan pairsOf validPair mergeFigures sourcesOf recordsOf isMissing closes isAmong stoodEarlier firstOf sideDiffers sumOfQuantities sumOfValues timesIn mergeInverses mergedRecord mergeResidual mergePlan noRecord theRecord isElsewhere isNotAdjustable nextSuffix suffixIsAbove bookingTests planTests booked planBooks planReply test anyOf allOf firstPlace testEach firstRefusal refusedBy validKind validStatus validSignedQuantity validBooked validInto validParent soundRecord soundPosition zeroPosition orZeros moved adjustedRecord newRecord inverseRecord adjustableRecord afterReply run sumOf separationFigures partRecords separationPlan recordCells positionCells soundTable soundRecords soundPositions booksOf writeBooks tradeFigures openAgainst smaller closedBy longBooked shortBooked isClosingError tradeKind tradeReply tradePlan transferFigures inLong inShort holdsTooLittle transferPlan
+unfolding eqZ inRange floorDiv averageOf residualOf viewOf magnitudeAtMost validId validSuffix validAccount validSeries validQuantity validPrice validSide isBuy isToClose validCount planOf soundnessTests refusals planTables answer handle below same isSome atLeast rising find greatest upsert upsertAll absentFrom encode roomOf rowsOf countIsSound write oneMoreLink originVia originOf lineageReply lineagePlan pairsOf validPair mergeFigures sourcesOf recordsOf isMissing closes isAmong stoodEarlier firstOf sideDiffers sumOfQuantities sumOfValues timesIn mergeInverses mergedRecord mergeResidual mergePlan noRecord theRecord isElsewhere isNotAdjustable nextSuffix suffixIsAbove bookingTests planTests booked planBooks planReply test anyOf allOf firstPlace testEach firstRefusal refusedBy validKind validStatus validSignedQuantity validBooked validInto validParent soundRecord soundPosition zeroPosition orZeros moved adjustedRecord newRecord inverseRecord adjustableRecord afterReply run sumOf separationFigures partRecords separationPlan recordCells positionCells soundTable soundRecords soundPositions booksOf writeBooks idsOf positionsOf isNamedIn shareId sharePosition touch tradeFigures openAgainst smaller closedBy longBooked shortBooked isClosingError tradeKind tradeReply tradePlan transferFigures inLong inShort holdsTooLittle transferPlan
 first-number-given = refl
+
+-- Two trades of different ids on one account and series touch: "they share an id or a position".
+pub one-position-touches : touch (buy (pos 7) (pos 1)) (buy (pos 8) (pos 1)) ≡ true
+unfolding eqZ inRange floorDiv averageOf residualOf viewOf magnitudeAtMost validId validSuffix validAccount validSeries validQuantity validPrice validSide isBuy isToClose validCount planOf soundnessTests refusals planTables answer handle below same isSome atLeast rising find greatest upsert upsertAll absentFrom encode roomOf rowsOf countIsSound write oneMoreLink originVia originOf lineageReply lineagePlan pairsOf validPair mergeFigures sourcesOf recordsOf isMissing closes isAmong stoodEarlier firstOf sideDiffers sumOfQuantities sumOfValues timesIn mergeInverses mergedRecord mergeResidual mergePlan noRecord theRecord isElsewhere isNotAdjustable nextSuffix suffixIsAbove bookingTests planTests booked planBooks planReply test anyOf allOf firstPlace testEach firstRefusal refusedBy validKind validStatus validSignedQuantity validBooked validInto validParent soundRecord soundPosition zeroPosition orZeros moved adjustedRecord newRecord inverseRecord adjustableRecord afterReply run sumOf separationFigures partRecords separationPlan recordCells positionCells soundTable soundRecords soundPositions booksOf writeBooks idsOf positionsOf isNamedIn shareId sharePosition touch tradeFigures openAgainst smaller closedBy longBooked shortBooked isClosingError tradeKind tradeReply tradePlan transferFigures inLong inShort holdsTooLittle transferPlan
+one-position-touches = refl
+
+pub another-account-does-not : touch (buy (pos 7) (pos 1)) (buy (pos 8) (pos 2)) ≡ false
+unfolding eqZ inRange floorDiv averageOf residualOf viewOf magnitudeAtMost validId validSuffix validAccount validSeries validQuantity validPrice validSide isBuy isToClose validCount planOf soundnessTests refusals planTables answer handle below same isSome atLeast rising find greatest upsert upsertAll absentFrom encode roomOf rowsOf countIsSound write oneMoreLink originVia originOf lineageReply lineagePlan pairsOf validPair mergeFigures sourcesOf recordsOf isMissing closes isAmong stoodEarlier firstOf sideDiffers sumOfQuantities sumOfValues timesIn mergeInverses mergedRecord mergeResidual mergePlan noRecord theRecord isElsewhere isNotAdjustable nextSuffix suffixIsAbove bookingTests planTests booked planBooks planReply test anyOf allOf firstPlace testEach firstRefusal refusedBy validKind validStatus validSignedQuantity validBooked validInto validParent soundRecord soundPosition zeroPosition orZeros moved adjustedRecord newRecord inverseRecord adjustableRecord afterReply run sumOf separationFigures partRecords separationPlan recordCells positionCells soundTable soundRecords soundPositions booksOf writeBooks idsOf positionsOf isNamedIn shareId sharePosition touch tradeFigures openAgainst smaller closedBy longBooked shortBooked isClosingError tradeKind tradeReply tradePlan transferFigures inLong inShort holdsTooLittle transferPlan
+another-account-does-not = refl
+
+-- "A refused request changes nothing": the second trade of an id is refused 4 and leaves every cell.
+pub refused-leaves-the-cells :
+    (run (empty 26 5) (buy (pos 7) (pos 1) ∷ buy (pos 7) (pos 1) ∷ [])) .tables ≡ (run (empty 26 5) (buy (pos 7) (pos 1) ∷ [])) .tables
+unfolding eqZ inRange floorDiv averageOf residualOf viewOf magnitudeAtMost validId validSuffix validAccount validSeries validQuantity validPrice validSide isBuy isToClose validCount planOf soundnessTests refusals planTables answer handle below same isSome atLeast rising find greatest upsert upsertAll absentFrom encode roomOf rowsOf countIsSound write oneMoreLink originVia originOf lineageReply lineagePlan pairsOf validPair mergeFigures sourcesOf recordsOf isMissing closes isAmong stoodEarlier firstOf sideDiffers sumOfQuantities sumOfValues timesIn mergeInverses mergedRecord mergeResidual mergePlan noRecord theRecord isElsewhere isNotAdjustable nextSuffix suffixIsAbove bookingTests planTests booked planBooks planReply test anyOf allOf firstPlace testEach firstRefusal refusedBy validKind validStatus validSignedQuantity validBooked validInto validParent soundRecord soundPosition zeroPosition orZeros moved adjustedRecord newRecord inverseRecord adjustableRecord afterReply run sumOf separationFigures partRecords separationPlan recordCells positionCells soundTable soundRecords soundPositions booksOf writeBooks idsOf positionsOf isNamedIn shareId sharePosition touch tradeFigures openAgainst smaller closedBy longBooked shortBooked isClosingError tradeKind tradeReply tradePlan transferFigures inLong inShort holdsTooLittle transferPlan
+refused-leaves-the-cells = refl
+
+-- The residual "is added to the position's cash": buys of 1 at 0 and 1 at 1 leave 1.
+pub residual-in-cash :
+    map (λ (p : Position). p .cash)
+        (positionsAfter (empty 65 5)
+            (trade (pos 7) (pos 1) (pos 1) (pos 1) (pos 1) (pos 0)
+            ∷ trade (pos 8) (pos 1) (pos 1) (pos 1) (pos 1) (pos 1)
+            ∷ merge (pos 9) (pos 1) (pos 1) (pos 7 ∷ pos 0 ∷ pos 8 ∷ pos 0 ∷ [])
+            ∷ []))
+    ≡ pos 1 ∷ []
+unfolding eqZ inRange floorDiv averageOf residualOf viewOf magnitudeAtMost validId validSuffix validAccount validSeries validQuantity validPrice validSide isBuy isToClose validCount planOf soundnessTests refusals planTables answer handle below same isSome atLeast rising find greatest upsert upsertAll absentFrom encode roomOf rowsOf countIsSound write oneMoreLink originVia originOf lineageReply lineagePlan pairsOf validPair mergeFigures sourcesOf recordsOf isMissing closes isAmong stoodEarlier firstOf sideDiffers sumOfQuantities sumOfValues timesIn mergeInverses mergedRecord mergeResidual mergePlan noRecord theRecord isElsewhere isNotAdjustable nextSuffix suffixIsAbove bookingTests planTests booked planBooks planReply test anyOf allOf firstPlace testEach firstRefusal refusedBy validKind validStatus validSignedQuantity validBooked validInto validParent soundRecord soundPosition zeroPosition orZeros moved adjustedRecord newRecord inverseRecord adjustableRecord afterReply run sumOf separationFigures partRecords separationPlan recordCells positionCells soundTable soundRecords soundPositions booksOf writeBooks idsOf positionsOf isNamedIn shareId sharePosition touch tradeFigures openAgainst smaller closedBy longBooked shortBooked isClosingError tradeKind tradeReply tradePlan transferFigures inLong inShort holdsTooLittle transferPlan
+residual-in-cash = refl
+
+-- "row count plus the request's new rows": with room for one row a second trade is refused 14.
+pub room-counts-new-rows :
+    (run (empty 13 10) (buy (pos 7) (pos 1) ∷ buy (pos 8) (pos 2) ∷ [])) .replies ≡ Booked (pos 1) (pos 0) ∷ Refused (pos 14) (pos 0) ∷ []
+unfolding eqZ inRange floorDiv averageOf residualOf viewOf magnitudeAtMost validId validSuffix validAccount validSeries validQuantity validPrice validSide isBuy isToClose validCount planOf soundnessTests refusals planTables answer handle below same isSome atLeast rising find greatest upsert upsertAll absentFrom encode roomOf rowsOf countIsSound write oneMoreLink originVia originOf lineageReply lineagePlan pairsOf validPair mergeFigures sourcesOf recordsOf isMissing closes isAmong stoodEarlier firstOf sideDiffers sumOfQuantities sumOfValues timesIn mergeInverses mergedRecord mergeResidual mergePlan noRecord theRecord isElsewhere isNotAdjustable nextSuffix suffixIsAbove bookingTests planTests booked planBooks planReply test anyOf allOf firstPlace testEach firstRefusal refusedBy validKind validStatus validSignedQuantity validBooked validInto validParent soundRecord soundPosition zeroPosition orZeros moved adjustedRecord newRecord inverseRecord adjustableRecord afterReply run sumOf separationFigures partRecords separationPlan recordCells positionCells soundTable soundRecords soundPositions booksOf writeBooks idsOf positionsOf isNamedIn shareId sharePosition touch tradeFigures openAgainst smaller closedBy longBooked shortBooked isClosingError tradeKind tradeReply tradePlan transferFigures inLong inShort holdsTooLittle transferPlan
+room-counts-new-rows = refl

@@ -1,13 +1,13 @@
 -- Sound books: what tests 1 and 2 say of the two tables, as rows. And requests on them, before any cell is thought of.
-use Prim.Native.Nat.{ℕ, _≤_}
+use Prim.Native.Nat.{_≤_}
 use mathlib.Core.Path.{_≡_}
-use mathlib.Core.Bool.{Bool, true}
-use mathlib.Core.List.{List, map}
-use mathlib.Core.Option.{Option, none}
+use mathlib.Core.Bool.{true}
+use mathlib.Core.List.{map}
+use mathlib.Core.Option.{none}
 use lib.ListN.{length}
 use Rattle.rules.specs.Keyed.{rising}
 use Rattle.rules.specs.Rows.{recordKey, positionKey, soundRecord, soundPosition}
-use Rattle.rules.specs.Refusal.{Test, allOf, firstRefusal}
+use Rattle.rules.specs.Refusal.{allOf, firstRefusal}
 use Rattle.rules.specs.Request.{Request}
 use Rattle.rules.specs.Books.{Books, viewOf}
 use Rattle.rules.specs.Plan.{Plan, planTests, planBooks}
