@@ -1,0 +1,3 @@
+pub mod Lookup
+pub mod Insertion
+pub mod Count
