@@ -1,2 +1,3 @@
 pub mod Average
+pub mod Averageable
 pub mod Order
