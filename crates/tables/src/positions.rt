@@ -1,8 +1,6 @@
 // The positions table, once it passes test 2: its rows, its lookup, and its changes.
-use super::lookup;
-use super::lookup::Found;
+use lookup::Found;
 use super::rows;
-use super::shifter;
 use super::soundness;
 use rules::Position;
 ghost use mathlib.Core.Path.{_≡_};
@@ -14,7 +12,7 @@ ghost use Rattle.rules.specs.Keyed.{find, upsert, absentFrom};
 ghost use Rattle.rules.specs.Rows.{keyOf, positionKey, soundPosition, orZeros};
 ghost use Rattle.rules.specs.Layout.{roomOf, rowsOf, write};
 ghost use Rattle.rules.specs.Tables.{positionsLayout, soundPositions};
-ghost use Rattle.tables.specs.Lookup.{positionFound};
+ghost use Rattle.lookup.specs.Lookup.{positionFound};
 
 pub fn count(cells: &[i64]) -> usize
     requires { ⌜ soundPositions (now cells) ≡ true ⌝ }
@@ -56,7 +54,7 @@ pub fn position_of(cells: &[i64], account: i64, series: i64) -> Position
 // The row of its key written anew, or made where it belongs.
 pub fn put_position(cells: &mut [i64], p: Position)
     requires { ⌜ (soundPositions (now cells) ≡ true) × (soundPosition p ≡ true) × (length (rowsOf positionsLayout (now cells)) + absentFrom positionKey (rowsOf positionsLayout (now cells)) (p ∷ []) ≤ roomOf positionsLayout (now cells)) ⌝ }
-    ensures { ⌜ (now (cells .exit) ≡ write positionsLayout (now (cells .entry)) (upsert positionKey p (rowsOf positionsLayout (now (cells .entry))))) × (soundPositions (now (cells .exit)) ≡ true) ⌝ }
+    ensures { λ done. ⌜ (now (cells .exit) ≡ write positionsLayout (now (cells .entry)) (upsert positionKey p (rowsOf positionsLayout (now (cells .entry))))) × (soundPositions (now (cells .exit)) ≡ true) ⌝ }
 {
     let account = p.account;
     let series = p.series;

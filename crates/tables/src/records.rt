@@ -1,9 +1,7 @@
 // The records table, once it passes test 1: its rows, its lookup, and its changes.
-use super::lookup;
-use super::lookup::Found;
-use super::lookup::Greatest;
+use lookup::Found;
+use lookup::Greatest;
 use super::rows;
-use super::shifter;
 use super::soundness;
 use rules::Record;
 ghost use mathlib.Core.Path.{_≡_};
@@ -16,7 +14,7 @@ ghost use Rattle.rules.specs.Keyed.{find, upsert};
 ghost use Rattle.rules.specs.Rows.{recordKey, soundRecord, adjustedRecord};
 ghost use Rattle.rules.specs.Layout.{roomOf, rowsOf, write};
 ghost use Rattle.rules.specs.Tables.{recordAt, recordsLayout, soundRecords};
-ghost use Rattle.tables.specs.Lookup.{recordFound, suffixGreatest};
+ghost use Rattle.lookup.specs.Lookup.{recordFound, suffixGreatest};
 
 pub fn count(cells: &[i64]) -> usize
     requires { ⌜ soundRecords (now cells) ≡ true ⌝ }
@@ -57,7 +55,7 @@ pub fn read_record(cells: &[i64], row: usize) -> Record
 // A new row, where its key belongs.
 pub fn insert_record(cells: &mut [i64], r: Record)
     requires { ⌜ (soundRecords (now cells) ≡ true) × (soundRecord r ≡ true) × (find recordKey (recordKey r) (rowsOf recordsLayout (now cells)) ≡ none) × (length (rowsOf recordsLayout (now cells)) < roomOf recordsLayout (now cells)) ⌝ }
-    ensures { ⌜ (now (cells .exit) ≡ write recordsLayout (now (cells .entry)) (upsert recordKey r (rowsOf recordsLayout (now (cells .entry))))) × (soundRecords (now (cells .exit)) ≡ true) ⌝ }
+    ensures { λ done. ⌜ (now (cells .exit) ≡ write recordsLayout (now (cells .entry)) (upsert recordKey r (rowsOf recordsLayout (now (cells .entry))))) × (soundRecords (now (cells .exit)) ≡ true) ⌝ }
 {
     let n = count(cells);
     let id = r.id;
@@ -70,7 +68,7 @@ pub fn insert_record(cells: &mut [i64], r: Record)
 // Status 1 in row `row`, which is adjustable.
 pub fn adjust_record(cells: &mut [i64], row: usize)
     requires { ⌜ (soundRecords (now cells) ≡ true) × (row < length (rowsOf recordsLayout (now cells))) × ((recordAt (now cells) (1 + row * 13)) .status ≡ pos 0) ⌝ }
-    ensures { ⌜ (now (cells .exit) ≡ write recordsLayout (now (cells .entry)) (upsert recordKey (adjustedRecord (recordAt (now (cells .entry)) (1 + row * 13))) (rowsOf recordsLayout (now (cells .entry))))) × (soundRecords (now (cells .exit)) ≡ true) ⌝ }
+    ensures { λ done. ⌜ (now (cells .exit) ≡ write recordsLayout (now (cells .entry)) (upsert recordKey (adjustedRecord (recordAt (now (cells .entry)) (1 + row * 13))) (rowsOf recordsLayout (now (cells .entry))))) × (soundRecords (now (cells .exit)) ≡ true) ⌝ }
 {
     cells[1 + row * 13 + 4] = 1;
 }

@@ -1,6 +1,4 @@
 // Tests 1 and 2: any slice, of any length and content. One pass over the rows that the count names, and no read past them.
-use super::figures;
-use super::lookup;
 use super::rows;
 use rules::Position;
 use rules::Record;

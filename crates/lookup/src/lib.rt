@@ -4,7 +4,7 @@ ghost use Prim.Native.Nat.{_+_, _*_, _≤_};
 ghost use lib.ListN.{length};
 ghost use Rattle.rules.specs.Rows.{keyOf};
 ghost use Rattle.rules.specs.Keyed.{below, same};
-ghost use Rattle.tables.specs.Lookup.{rowFound, rowPlace, rowGreatest};
+ghost use Rattle.lookup.specs.Lookup.{rowFound, rowPlace, rowGreatest};
 
 // The number of the row with a key, from 0, or that there is none.
 pub enum Found {
@@ -19,25 +19,25 @@ pub enum Greatest {
 }
 
 // Whether the first key comes before the second.
-pub fn key_below(major: i64, minor: i64, next_major: i64, next_minor: i64) -> bool
-    ensures { λ r. ⌜ r ≡ below (keyOf major minor) (keyOf next_major next_minor) ⌝ }
+pub fn key_below(major: i64, minor: i64, major2: i64, minor2: i64) -> bool
+    ensures { λ r. ⌜ r ≡ below (keyOf major minor) (keyOf major2 minor2) ⌝ }
 {
-    if major < next_major {
+    if major < major2 {
         return true;
     }
-    if major != next_major {
+    if major != major2 {
         return false;
     }
-    minor < next_minor
+    minor < minor2
 }
 
-pub fn key_same(major: i64, minor: i64, other_major: i64, other_minor: i64) -> bool
-    ensures { λ r. ⌜ r ≡ same (keyOf major minor) (keyOf other_major other_minor) ⌝ }
+pub fn key_same(major: i64, minor: i64, major2: i64, minor2: i64) -> bool
+    ensures { λ r. ⌜ r ≡ same (keyOf major minor) (keyOf major2 minor2) ⌝ }
 {
-    if major != other_major {
+    if major != major2 {
         return false;
     }
-    minor == other_minor
+    minor == minor2
 }
 
 pub fn find_row(cells: &[i64], count: usize, width: usize, major: i64, minor: i64) -> Found

@@ -8,10 +8,10 @@ use lib.ListN.{getD}
 use Rattle.rules.specs.Keyed.{Key, below, same, greatest}
 use Rattle.rules.specs.Rows.{keyOf}
 use Rattle.rules.specs.Layout.{decode, countOf}
-use Rattle.tables.specs.declared.lookup.Found.{Found}
-use Rattle.tables.specs.declared.lookup.Found.the-variants.{Row, Absent}
-use Rattle.tables.specs.declared.lookup.Greatest.{Greatest}
-use Rattle.tables.specs.declared.lookup.Greatest.the-variants.{Suffix, Nothing}
+use Rattle.lookup.specs.declared.Found.{Found}
+use Rattle.lookup.specs.declared.Found.the-variants.{Row, Absent}
+use Rattle.lookup.specs.declared.Greatest.{Greatest}
+use Rattle.lookup.specs.declared.Greatest.the-variants.{Suffix, Nothing}
 
 -- A row's key is its first two cells, in both tables.
 abbrev pub keyAt : List ℤ → ℕ → Key
