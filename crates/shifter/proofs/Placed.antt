@@ -1,10 +1,13 @@
 -- The part of a table from a row on is lent to the shifter and handed back: what the whole table is then. Assumes nothing.
 use mathlib.Core.Path.{_≡_, refl, ap, _∙_}
 use mathlib.Core.List.{List, [], _∷_, _++_, append-nil}
-use Prim.Native.Nat.{ℕ, suc, _+_, _-_, _*_, _≤_}
+use Prim.Native.Nat.{ℕ, suc, _+_, _-_, _*_, _≤_, _<_}
 use native.Mathlib.Omega.{arith}
 use lib.IntN.{ℤ, pos}
 use lib.ListN.{length, take, drop, set, length-drop, drop-of-length-le}
+use mir.Facts.{toZ-pos}
+use mir.Syntax.{w64}
+use mir.Val.{toZ}
 use lib.Seq.{take-all, drop-at, drop-drop, length-take-le}
 use borrow.Rule.Slice.PartMut.{midOf, putMid}
 use Rattle.shifter.specs.Insertion.{inserted, replaced}
@@ -42,15 +45,19 @@ module _ {A : Type 0} where
   set-first n [] rest a some = absurd (omega arith)
   set-first n (x ∷ cells) rest a some = let e : 1 + n ≡ suc n = omega arith in rw e refl
 
+-- The count as a cell.
+pub count-cell : {n : ℕ} (count : ℕ) → n ≡ suc count → count < 4096 → toZ w64 n ≡ pos (suc count)
+count-cell {n} count e below = toZ-pos w64 (omega arith) ∙ ap pos e
+
 -- `shift_in` on the part from row `place` on, and the count set: the row is inserted.
-pub insertion : (cells row part : List ℤ) (count place : ℕ) → place ≤ count → 1 + suc count * length row ≤ length cells
+pub insertion : (cells row part : List ℤ) (count place : ℕ) (raised : ℤ) → raised ≡ pos (suc count) → place ≤ count → 1 + suc count * length row ≤ length cells
     → part ≡ row ++ (take ((count - place) * length row) (midOf (1 + place * length row) (length cells - (1 + place * length row)) cells)
         ++ drop ((count - place) * length row + length row) (midOf (1 + place * length row) (length cells - (1 + place * length row)) cells))
-    → set (putMid (1 + place * length row) (length cells - (1 + place * length row)) cells part) 0 (pos (suc count)) ≡ inserted row count place cells
+    → set (putMid (1 + place * length row) (length cells - (1 + place * length row)) cells part) 0 raised ≡ inserted row count place cells
 unfolding inserted
-insertion cells row part count place below fits e =
+insertion cells row part count place raised counted below fits e =
     let at : ℕ = 1 + place * length row in
-    rw (handed-back at cells part, set-first (place * length row) cells part (pos (suc count)) (omega arith), e, to-the-end at cells, drop-drop, row-end (length row) count place below) refl
+    rw (counted, handed-back at cells part, set-first (place * length row) cells part (pos (suc count)) (omega arith), e, to-the-end at cells, drop-drop, row-end (length row) count place below) refl
 
 -- `overwrite` on the part from row `place` on: the row is replaced.
 pub replacement : (cells row part : List ℤ) (place : ℕ) → 1 + suc place * length row ≤ length cells

@@ -1,15 +1,12 @@
 -- `shifter::insert_row` meets its contract: the part from the row's place on is lent, shifted and handed back, and the count is set.
 -- The bound on the length of the slice bounds every product. Assumes nothing.
 use mathlib.Core.Path.{_≡_}
-use Prim.Native.Nat.{_+_, _-_, _*_, _^_, _<_}
+use Prim.Native.Nat.{_+_, _-_, _*_}
 use native.Mathlib.Numerals.{add-one}
 use native.Mathlib.Omega.{arith}
 use lib.ListN.{length, length-take, length-drop}
-use mir.Facts.{toZ-pos}
-use mir.Syntax.{w64}
-use mir.Val.{hbits}
 use borrow.Author.Needs.{needs}
-use Rattle.shifter.proofs.Placed.{rows-split, insertion}
+use Rattle.shifter.proofs.Placed.{rows-split, count-cell, insertion}
 use Rattle.shifter.proofs.insert_row.Statement.{statement}
 use Rattle.shifter.proofs.insert_row.Tie as tie
 
@@ -59,8 +56,7 @@ same-length c = search needs
 returns : tie.Need-returns
 returns c =
     let s : tie.Start = c .before .before .before in
-    let fits : s .args .count + 1 < 2 ^ hbits w64 = omega arith in
-    rw (toZ-pos w64 fits, add-one) (insertion (s .args .cells .now) (s .args .row .now) (c .before .shift-in .last .0) (s .args .count) (s .args .place) (s .pre .0) (s .pre .1) (c .before .shift-in .ensures))
+    insertion (s .args .cells .now) (s .args .row .now) (c .before .shift-in .last .0) (s .args .count) (s .args .place) _ (count-cell (s .args .count) (add-one (s .args .count)) (s .pre .2)) (s .pre .0) (s .pre .1) (c .before .shift-in .ensures)
 
 pub insert-row-spec : {M : Type 1} → statement M
 insert-row-spec =
