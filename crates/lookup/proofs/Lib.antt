@@ -1,2 +1,3 @@
 pub mod KeyTests
 pub mod Rest
+pub mod Joined
