@@ -1,0 +1,10 @@
+pub mod Accepted
+pub mod ReadPosition
+pub mod SoundRecord
+pub mod FigureRanges
+pub mod SoundRows
+pub mod NamedRecord
+pub mod LaterRows
+pub mod BookingFacts
+pub mod Trade
+pub mod MergeAccepted

@@ -1,1 +1,2 @@
 pub mod SoundBooks
+pub mod RowsAnswered

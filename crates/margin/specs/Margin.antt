@@ -1,0 +1,38 @@
+-- Document 01: "Margin of a record at settlement price s, any whole number, is its signed quantity (buy plus, sell minus) times s less its price."
+-- And what it means that a merge keeps it.
+use mathlib.Core.Path.{_≡_}
+use mathlib.Core.Bool.{cond}
+use mathlib.Core.List.{List, [], _∷_}
+use mathlib.Core.Option.{Option, some}
+use lib.IntN.{ℤ, pos, negℤ, _+ℤ_, _-ℤ_, _*ℤ_}
+use Rattle.rules.specs.Figures.{isBuy}
+use Rattle.rules.specs.Keyed.{find}
+use Rattle.rules.specs.Rows.{keyOf, recordKey}
+use Rattle.rules.specs.Request.{Request, merge}
+use Rattle.rules.specs.Books.{Books, viewOf}
+use Rattle.rules.specs.Plan.{planReply}
+use Rattle.rules.specs.Merge.{pairsOf, sourcesOf, recordsOf}
+use Rattle.rules.specs.declared.Record.{Record}
+use Rattle.rules.specs.declared.Reply.the-variants.{Booked}
+use Rattle.soundness.specs.SoundBooks.{planOn, after}
+
+unfoldable pub signedQuantity : Record → ℤ
+signedQuantity r = cond (isBuy (r .side)) (r .quantity) (negℤ (r .quantity))
+
+unfoldable pub marginOf : ℤ → Record → ℤ
+marginOf s r = signedQuantity r *ℤ (s -ℤ r .price)
+
+unfoldable pub marginOfAll : ℤ → List Record → ℤ
+marginOfAll s [] = pos 0
+marginOfAll s (r ∷ rest) = marginOf s r +ℤ marginOfAll s rest
+
+-- At every settlement price the sources' margin, as they stand in the books before, is that of the merged record, as it stands in the books afterwards,
+-- and the residual, which the answer carries and the position's cash has grown by.
+pub record MergeKeepsMargin (b : Books) (id account series : ℤ) (pairs : List ℤ) : Type 0 where
+  pub merged : Record
+  pub rows : ℤ
+  pub residual : ℤ
+  pub stands : find recordKey (keyOf id (pos 0)) (after b (merge id account series pairs) .records) ≡ some merged
+  pub answered : planReply (planOn b (merge id account series pairs)) ≡ Booked rows residual
+  pub grown : viewOf (after b (merge id account series pairs)) .positionAt account series .cash ≡ viewOf b .positionAt account series .cash +ℤ residual
+  pub kept : (s : ℤ) → marginOfAll s (recordsOf (sourcesOf (viewOf b) (pairsOf pairs))) ≡ marginOf s merged +ℤ residual

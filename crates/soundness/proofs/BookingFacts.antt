@@ -1,0 +1,28 @@
+-- What sound books and acceptance say of the rows that a plan puts. From these facts alone follow the growth of the tables and that they stay sound;
+-- a new kind of request brings such a record. Assumes nothing.
+use mathlib.Core.Path.{_≡_}
+use mathlib.Core.Bool.{Bool, true}
+use mathlib.Core.List.{List, map}
+use lib.IntN.{ℤ, pos}
+use lib.ListN.{length}
+use Rattle.rules.specs.Rows.{recordKey, positionKey, soundRecord}
+use Rattle.rules.specs.Refusal.{allOf}
+use Rattle.rules.specs.Books.{Books}
+use Rattle.rules.specs.Plan.{Effects, Plan, booking, question}
+use Rattle.rules.specs.declared.Reply.{Reply}
+use Rattle.keys.proofs.Counts.{distinct, hasAll, lacksAll}
+use Rattle.soundness.specs.RowsAnswered.{rowsAnswered}
+
+pub record BookingFacts (b : Books) (e : Effects) : Type 0 where
+  pub changed-present : hasAll recordKey (b .records) (e .changed) ≡ true
+  pub changed-sound : allOf (map soundRecord (e .changed)) ≡ true
+  pub added-absent : lacksAll recordKey (b .records) (e .added) ≡ true
+  pub added-distinct : distinct recordKey (e .added) ≡ true
+  pub added-sound : allOf (map soundRecord (e .added)) ≡ true
+  pub positions-distinct : distinct positionKey (e .positions) ≡ true
+  pub answered : rowsAnswered (e .reply) ≡ pos (length (e .added))
+
+-- Of a plan: the facts where it books; a question answers no rows.
+abbrev pub PlanFacts : Books → Plan → Type 0
+PlanFacts b (booking tests e) = BookingFacts b e
+PlanFacts b (question tests reply) = rowsAnswered reply ≡ pos 0
