@@ -1,0 +1,12 @@
+pub mod Parts
+pub mod Decode
+pub mod Encode
+pub mod Both
+pub mod Count
+pub mod Write
+pub mod Shift
+pub mod Sound
+pub mod RowCells
+pub mod SoundCells
+pub mod BookCells
+pub mod SoundBookCells

@@ -1,0 +1,10 @@
+pub mod Split
+pub mod Equal
+pub mod KeyOrder
+pub mod Clauses
+pub mod Lookup
+pub mod Commute
+pub mod Rising
+pub mod Greatest
+pub mod Folds
+pub mod Counts

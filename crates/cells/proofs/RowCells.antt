@@ -1,0 +1,78 @@
+-- The two tables' layouts are lawful. A row's cells one by one: those read from a place on are the part of the list that begins there.
+-- Assumes nothing.
+use Prim.Native.Nat.{ℕ, zero, suc, _+_, _≤_, _<_}
+use native.Mathlib.Omega.{arith}
+use mathlib.Core.Path.{_≡_, refl, sym, ap, _∙_}
+use mathlib.Core.List.{List, [], _∷_, _++_}
+use lib.IntN.{ℤ, pos}
+use lib.ListN.{length, take, drop, getD}
+use lib.Seq.{drop-cons, getD-append-seam, getD-append-add}
+use Rattle.rules.specs.Tables.{recordAt, recordCells, positionAt, positionCells, recordsLayout, positionsLayout}
+use Rattle.rules.specs.declared.Record.{Record}
+use Rattle.rules.specs.declared.Position.{Position}
+use Rattle.cells.specs.Lawful.{Lawful}
+
+-- k cells, the first of them i cells past a place.
+abbrev pub cellsFrom : ℕ → ℕ → ℕ → List ℤ → List ℤ
+cellsFrom zero at i xs = []
+cellsFrom (suc k) at i xs = getD xs (at + i) (pos 0) ∷ cellsFrom k at (i + 1) xs
+
+pub cells-from : (k at i : ℕ) (xs : List ℤ) → (at + i) + k ≤ length xs → cellsFrom k at i xs ≡ take k (drop (at + i) xs)
+cells-from zero at i xs h = refl
+cells-from (suc k) at i xs h =
+    let here : at + i < length xs = omega arith in
+    let rest : (at + (i + 1)) + k ≤ length xs = omega arith in
+    let e : at + (i + 1) ≡ suc (at + i) = omega arith in
+    ap (λ (c : List ℤ). getD xs (at + i) (pos 0) ∷ c) (cells-from k at (i + 1) xs rest)
+    ∙ ap (λ (j : ℕ). getD xs (at + i) (pos 0) ∷ take k (drop j xs)) e
+    ∙ ap (take (suc k)) (sym (drop-cons xs (at + i) (pos 0) here))
+
+-- A first cell, and the cells past it.
+pub cells-at : (k at : ℕ) (xs : List ℤ) → at + suc k ≤ length xs → getD xs at (pos 0) ∷ cellsFrom k at 1 xs ≡ take (suc k) (drop at xs)
+cells-at k at xs h =
+    let here : at < length xs = omega arith in
+    let rest : (at + 1) + k ≤ length xs = omega arith in
+    let e : at + 1 ≡ suc at = omega arith in
+    ap (λ (c : List ℤ). getD xs at (pos 0) ∷ c) (cells-from k at 1 xs rest)
+    ∙ ap (λ (j : ℕ). getD xs at (pos 0) ∷ take k (drop j xs)) e
+    ∙ ap (take (suc k)) (sym (drop-cons xs at (pos 0) here))
+
+pub length-recordCells : (r : Record) → length (recordCells r) ≡ 13
+unfolding recordCells
+length-recordCells r = refl
+
+pub recordCells-recordAt : (xs : List ℤ) (at : ℕ) → at + 13 ≤ length xs → recordCells (recordAt xs at) ≡ take 13 (drop at xs)
+unfolding recordCells
+recordCells-recordAt xs at h = cells-at 12 at xs h
+
+pub recordAt-recordCells : (p q : List ℤ) (r : Record) → recordAt (p ++ (recordCells r ++ q)) (length p) ≡ r
+unfolding recordCells
+recordAt-recordCells p q r = simp (getD-append-seam, getD-append-add)
+
+pub records-lawful : Lawful recordsLayout
+records-lawful = record {
+    wide = omega arith;
+    header-one = refl;
+    put-length = length-recordCells;
+    put-get = recordCells-recordAt;
+    get-put = recordAt-recordCells }
+
+pub length-positionCells : (r : Position) → length (positionCells r) ≡ 5
+unfolding positionCells
+length-positionCells r = refl
+
+pub positionCells-positionAt : (xs : List ℤ) (at : ℕ) → at + 5 ≤ length xs → positionCells (positionAt xs at) ≡ take 5 (drop at xs)
+unfolding positionCells
+positionCells-positionAt xs at h = cells-at 4 at xs h
+
+pub positionAt-positionCells : (p q : List ℤ) (r : Position) → positionAt (p ++ (positionCells r ++ q)) (length p) ≡ r
+unfolding positionCells
+positionAt-positionCells p q r = simp (getD-append-seam, getD-append-add)
+
+pub positions-lawful : Lawful positionsLayout
+positions-lawful = record {
+    wide = omega arith;
+    header-one = refl;
+    put-length = length-positionCells;
+    put-get = positionCells-positionAt;
+    get-put = positionAt-positionCells }

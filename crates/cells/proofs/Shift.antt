@@ -1,0 +1,112 @@
+-- One row put into a table before row k, or in place of row k, as cells: what code that shifts cells leaves. Over any lawful layout.
+-- With n rows, from cell 1 on. Assumes nothing.
+use Prim.Native.Nat.{ℕ, suc, _+_, _-_, _*_, _≤_, _<_}
+use native.Mathlib.Nat.{mul-le-mul-right, add-mul}
+use native.Mathlib.Omega.{arith}
+use mathlib.Core.Path.{_≡_, sym, ap, _∙_}
+use mathlib.Core.Bool.{true}
+use mathlib.Core.List.{List, _∷_, _++_, append-assoc}
+use lib.IntN.{ℤ, pos}
+use lib.ListN.{length, take, drop, take-append-drop}
+use lib.Seq.{drop-drop}
+use Rattle.rules.specs.Layout.{Layout, countOf, decode, encode, rowsOf, countIsSound, write}
+use Rattle.cells.specs.Lawful.{Lawful}
+use Rattle.cells.proofs.Parts.{length-inserted, length-replaced}
+use Rattle.cells.proofs.Decode.{length-decode, take-decode, drop-decode}
+use Rattle.cells.proofs.Encode.{encode-cons, encode-append, encode-decode}
+use Rattle.cells.proofs.Count.{count-then, rowsOf-decode, sound-count, sound-rows-cells}
+use Rattle.cells.proofs.Write.{write-cells}
+
+-- Rows k to n are the cells of rows k to n.
+spans : (k n w : ℕ) → k ≤ n → k * w + (n - k) * w ≡ n * w
+spans k n w h =
+    let e : k + (n - k) ≡ n = omega arith in
+    sym (add-mul k (n - k) w) ∙ ap (λ (j : ℕ). j * w) e
+
+module _ {Row : Type 0} (l : Layout Row) (lawful : Lawful l) (cells : List ℤ) (n : ℕ) (long : 1 + n * l .width ≤ length cells) where
+
+  -- The cells of the first k rows, and of those from row k on.
+  pub encode-take : (k : ℕ) → k ≤ n → encode (l .put) (take k (decode (l .get) (l .width) n 1 cells)) ≡ take (k * l .width) (drop 1 cells)
+  encode-take k h =
+      let fit : 1 + k * l .width ≤ length cells = omega (arith, mul-le-mul-right (l .width) h) in
+      ap (encode (l .put)) (take-decode (l .get) (l .width) k n 1 cells h) ∙ encode-decode l lawful k 1 cells fit
+
+  pub encode-drop : (k : ℕ) → k ≤ n
+    → encode (l .put) (drop k (decode (l .get) (l .width) n 1 cells)) ≡ take ((n - k) * l .width) (drop (1 + k * l .width) cells)
+  encode-drop k h =
+      let fit : (1 + k * l .width) + (n - k) * l .width ≤ length cells = omega (arith, spans k n (l .width) h) in
+      ap (encode (l .put)) (drop-decode (l .get) (l .width) k n 1 cells h) ∙ encode-decode l lawful (n - k) (1 + k * l .width) cells fit
+
+  -- A row before row k: the rows from k on move up by one row.
+  pub insert-cells : (k : ℕ) (new : Row) → k ≤ n
+    → write l cells (take k (decode (l .get) (l .width) n 1 cells) ++ (new ∷ drop k (decode (l .get) (l .width) n 1 cells)))
+      ≡ pos (suc n) ∷ (take (k * l .width) (drop 1 cells)
+        ++ (l .put new ++ (take ((n - k) * l .width) (drop (1 + k * l .width) cells) ++ drop (1 + suc n * l .width) cells)))
+  insert-cells k new h =
+      let w : ℕ = l .width in
+      let rows : List Row = decode (l .get) w n 1 cells in
+      let before : List ℤ = take (k * w) (drop 1 cells) in
+      let moved : List ℤ = take ((n - k) * w) (drop (1 + k * w) cells) in
+      let long-enough : k ≤ length rows = rw (length-decode (l .get) w n 1 cells) h in
+      let size : length (take k rows ++ (new ∷ drop k rows)) ≡ suc n =
+            length-inserted rows k new long-enough ∙ ap suc (length-decode (l .get) w n 1 cells) in
+      let coded : encode (l .put) (take k rows ++ (new ∷ drop k rows)) ≡ before ++ (l .put new ++ moved) =
+            encode-append (l .put) (take k rows) (new ∷ drop k rows)
+            ∙ ap (λ (c : List ℤ). encode (l .put) (take k rows) ++ c) (encode-cons (l .put) new (drop k rows))
+            ∙ ap (λ (c : List ℤ). c ++ (l .put new ++ encode (l .put) (drop k rows))) (encode-take k h)
+            ∙ ap (λ (c : List ℤ). before ++ (l .put new ++ c)) (encode-drop k h) in
+      let rest : List ℤ = drop (1 + suc n * w) cells in
+      let regroup : (before ++ (l .put new ++ moved)) ++ rest ≡ before ++ (l .put new ++ (moved ++ rest)) = simp append-assoc in
+      write-cells l lawful cells (take k rows ++ (new ∷ drop k rows))
+      ∙ ap (λ (m : ℕ). pos m ∷ (encode (l .put) (take k rows ++ (new ∷ drop k rows)) ++ drop (1 + m * w) cells)) size
+      ∙ ap (λ (c : List ℤ). pos (suc n) ∷ (c ++ rest)) coded
+      ∙ ap (λ (c : List ℤ). pos (suc n) ∷ c) regroup
+
+  -- A row in place of row k: all other cells stay.
+  pub replace-cells : (k : ℕ) (new : Row) → countOf cells ≡ pos n → k < n
+    → write l cells (take k (decode (l .get) (l .width) n 1 cells) ++ (new ∷ drop (suc k) (decode (l .get) (l .width) n 1 cells)))
+      ≡ take (1 + k * l .width) cells ++ (l .put new ++ drop (1 + suc k * l .width) cells)
+  replace-cells k new count h =
+      let w : ℕ = l .width in
+      let rows : List Row = decode (l .get) w n 1 cells in
+      let before : List ℤ = take (k * w) (drop 1 cells) in
+      let rest : List ℤ = drop (1 + suc k * w) cells in
+      let m : ℕ = (n - suc k) * w in
+      let long-enough : k < length rows = rw (length-decode (l .get) w n 1 cells) h in
+      let size : length (take k rows ++ (new ∷ drop (suc k) rows)) ≡ n =
+            length-replaced rows k new long-enough ∙ length-decode (l .get) w n 1 cells in
+      let coded : encode (l .put) (take k rows ++ (new ∷ drop (suc k) rows)) ≡ before ++ (l .put new ++ take m rest) =
+            encode-append (l .put) (take k rows) (new ∷ drop (suc k) rows)
+            ∙ ap (λ (c : List ℤ). encode (l .put) (take k rows) ++ c) (encode-cons (l .put) new (drop (suc k) rows))
+            ∙ ap (λ (c : List ℤ). c ++ (l .put new ++ encode (l .put) (drop (suc k) rows))) (encode-take k (omega arith))
+            ∙ ap (λ (c : List ℤ). before ++ (l .put new ++ c)) (encode-drop (suc k) h) in
+      let reach : (1 + suc k * w) + m ≡ 1 + n * w = omega (arith, spans (suc k) n w h) in
+      let behind : drop (1 + n * w) cells ≡ drop m rest = sym (drop-drop m (1 + suc k * w) cells ∙ ap (λ (j : ℕ). drop j cells) reach) in
+      let regroup : (before ++ (l .put new ++ take m rest)) ++ drop m rest ≡ before ++ (l .put new ++ (take m rest ++ drop m rest)) = simp append-assoc in
+      let cell : 1 ≤ length cells = omega arith in
+      write-cells l lawful cells (take k rows ++ (new ∷ drop (suc k) rows))
+      ∙ ap (λ (j : ℕ). pos j ∷ (encode (l .put) (take k rows ++ (new ∷ drop (suc k) rows)) ++ drop (1 + j * w) cells)) size
+      ∙ ap (λ (c : List ℤ). pos n ∷ (c ++ drop (1 + n * w) cells)) coded
+      ∙ ap (λ (c : List ℤ). pos n ∷ ((before ++ (l .put new ++ take m rest)) ++ c)) behind
+      ∙ ap (λ (c : List ℤ). pos n ∷ c) regroup
+      ∙ ap (λ (c : List ℤ). pos n ∷ (before ++ (l .put new ++ c))) (take-append-drop m rest)
+      ∙ ap (λ (z : ℤ). z ∷ (before ++ (l .put new ++ rest))) (sym count)
+      ∙ ap (λ (c : List ℤ). c ++ (l .put new ++ rest)) (count-then cells (k * w) cell)
+
+module _ {Row : Type 0} (l : Layout Row) (lawful : Lawful l) (cells : List ℤ) (sound : countIsSound l cells ≡ true) where
+
+  -- The same of a table whose count is sound, and its rows.
+  pub insert-row : (k : ℕ) (new : Row) → k ≤ length (rowsOf l cells)
+    → write l cells (take k (rowsOf l cells) ++ (new ∷ drop k (rowsOf l cells)))
+      ≡ pos (suc (length (rowsOf l cells))) ∷ (take (k * l .width) (drop 1 cells)
+        ++ (l .put new ++ (take ((length (rowsOf l cells) - k) * l .width) (drop (1 + k * l .width) cells) ++ drop (1 + suc (length (rowsOf l cells)) * l .width) cells)))
+  insert-row k new h =
+      ap (λ (rows : List Row). write l cells (take k rows ++ (new ∷ drop k rows))) (rowsOf-decode l lawful cells)
+      ∙ insert-cells l lawful cells (length (rowsOf l cells)) (sound-rows-cells l lawful cells sound) k new h
+
+  pub replace-row : (k : ℕ) (new : Row) → k < length (rowsOf l cells)
+    → write l cells (take k (rowsOf l cells) ++ (new ∷ drop (suc k) (rowsOf l cells)))
+      ≡ take (1 + k * l .width) cells ++ (l .put new ++ drop (1 + suc k * l .width) cells)
+  replace-row k new h =
+      ap (λ (rows : List Row). write l cells (take k rows ++ (new ∷ drop (suc k) rows))) (rowsOf-decode l lawful cells)
+      ∙ replace-cells l lawful cells (length (rowsOf l cells)) (sound-rows-cells l lawful cells sound) k new (sound-count l lawful cells sound) h
