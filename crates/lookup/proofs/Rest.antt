@@ -1,7 +1,7 @@
 -- A search over the rows that are left: what its answer is when none is left, when the next row decides it, and when the next row is passed.
 -- By the first row of `decode`. Assumes nothing.
-use Prim.Native.Nat.{ℕ, suc, _+_, _-_, _*_, _≤_, _<_}
-use mathlib.Core.Path.{_≡_, sym, ap, _∙_}
+use Prim.Native.Nat.{ℕ, _+_, _-_, _*_, _≤_, _<_}
+use mathlib.Core.Path.{_≡_, refl, ap, _∙_}
 use mathlib.Core.Bool.{true, false}
 use mathlib.Core.List.{List, [], _∷_}
 use native.Mathlib.Nat.{mul-le-mul-right}
@@ -12,7 +12,6 @@ use Rattle.rules.specs.Layout.{decode}
 use Rattle.keys.proofs.Split.{cond-true, cond-false}
 use Rattle.cells.proofs.Decode.{decode-step}
 use Rattle.lookup.specs.Lookup.{keyAt, foundFrom, placeFrom}
-use Rattle.lookup.specs.declared.Found.{Found}
 use Rattle.lookup.specs.declared.Found.the-variants.{Row, Absent}
 
 -- The cells of the next row lie within the table.
@@ -23,7 +22,7 @@ row-within row count width at cells h w fit e = omega (arith, mul-le-mul-right w
 
 pub foundFrom-nil : (row : ℕ) (k : Key) → foundFrom row k [] ≡ Absent
 unfolding foundFrom
-foundFrom-nil row k = λ i. Absent
+foundFrom-nil row k = refl
 
 pub foundFrom-here : (row : ℕ) (k e : Key) (rest : List Key) → same e k ≡ true → foundFrom row k (e ∷ rest) ≡ Row row
 unfolding foundFrom
@@ -35,7 +34,7 @@ foundFrom-there row k e rest h = cond-false (Row row) (foundFrom (row + 1) k res
 
 pub placeFrom-nil : (row : ℕ) (k : Key) → placeFrom row k [] ≡ row
 unfolding placeFrom
-placeFrom-nil row k = λ i. row
+placeFrom-nil row k = refl
 
 pub placeFrom-here : (row : ℕ) (k e : Key) (rest : List Key) → below k e ≡ true → placeFrom row k (e ∷ rest) ≡ row
 unfolding placeFrom

@@ -10,7 +10,7 @@ use native.Mathlib.Omega.{arith}
 use lib.ListN.{length, getD, take, drop}
 use Rattle.rules.specs.Keyed.{Key, below, same, rising, find, upsert}
 use Rattle.keys.proofs.Split.{split, none-some}
-use Rattle.keys.proofs.KeyOrder.{same-sym, below-asym, eq-same, Way, lower, level, upper, way}
+use Rattle.keys.proofs.KeyOrder.{same-sym, below-asym, Way, lower, level, upper, way}
 use Rattle.keys.proofs.Clauses.{find-here, find-there, upsert-nil, upsert-lower, upsert-level, upsert-upper}
 use Rattle.keys.proofs.Lookup.{find-key, find-all}
 use Rattle.keys.proofs.Rising.{rising-tail, rising-head}

@@ -3,7 +3,7 @@
 use Prim.Native.Nat.{ℕ, zero, suc, _+_, _*_, _≤_, _<_}
 use mathlib.Core.Path.{_≡_, refl, sym, ap, ap₂, _∙_}
 use mathlib.Core.Bool.{true}
-use mathlib.Core.List.{List, [], _∷_, _++_, map}
+use mathlib.Core.List.{List, _∷_, _++_, map}
 use mathlib.Core.Option.{none, some}
 use lib.IntN.{ℤ, natAbs}
 use lib.ListN.{length, getD, take, drop}
@@ -14,7 +14,7 @@ use Rattle.rules.specs.Tables.{recordAt, positionAt, recordsLayout, positionsLa
 use Rattle.rules.specs.declared.Record.{Record}
 use Rattle.rules.specs.declared.Position.{Position}
 use Rattle.cells.proofs.Decode.{length-decode, getD-decode}
-use Rattle.lookup.specs.Lookup.{keyAt, foundFrom, placeFrom, greatestFound, rowFound, rowPlace, rowGreatest, recordFound, positionFound, suffixGreatest}
+use Rattle.lookup.specs.Lookup.{keyAt, foundFrom, greatestFound, rowFound, rowPlace, rowGreatest, recordFound, positionFound, suffixGreatest}
 use Rattle.lookup.specs.declared.Found.{Found}
 use Rattle.lookup.specs.declared.Found.the-variants.{Row, Absent}
 use Rattle.lookup.specs.declared.Greatest.the-variants.{Suffix, Nothing}

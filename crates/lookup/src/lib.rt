@@ -61,16 +61,16 @@ pub fn place_of(cells: &[i64], count: usize, width: usize, major: i64, minor: i6
     requires { ⌜ (2 ≤ width) × (1 + count * width ≤ length (now cells)) ⌝ }
     ensures { λ r. ⌜ r ≡ rowPlace width (keyOf major minor) count (now (cells .entry)) ⌝ }
 {
-    let mut row = 0;
+    let mut place = 0;
     let mut at = 1;
-    while row < count {
+    while place < count {
         if key_below(major, minor, cells[at], cells[at + 1]) {
-            return row;
+            return place;
         }
-        row += 1;
+        place += 1;
         at += width;
     }
-    row
+    place
 }
 
 // The greatest second figure of the keys with that first figure.

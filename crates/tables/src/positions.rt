@@ -1,7 +1,7 @@
 // The positions table, once it passes test 2: its rows, its lookup, and its changes.
 use lookup::Found;
-use super::rows;
-use super::soundness;
+use scan::rows;
+use scan::soundness;
 use rules::Position;
 ghost use mathlib.Core.Path.{_≡_};
 ghost use mathlib.Core.Bool.{true};

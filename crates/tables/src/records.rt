@@ -1,8 +1,8 @@
 // The records table, once it passes test 1: its rows, its lookup, and its changes.
 use lookup::Found;
 use lookup::Greatest;
-use super::rows;
-use super::soundness;
+use scan::rows;
+use scan::soundness;
 use rules::Record;
 ghost use mathlib.Core.Path.{_≡_};
 ghost use mathlib.Core.Bool.{true};

@@ -8,6 +8,7 @@ use native.Mathlib.Omega.{arith}
 use borrow.Author.Needs.{sfits-of}
 use lib.IntN.{ℤ, pos}
 use lib.ListN.{length, getD}
+use lib.Signed.{ltZ}
 use mir.Facts.{toZ-ofZ}
 use mir.Syntax.{w64}
 use mir.Val.{SFits, toZ, ofZ}
@@ -88,6 +89,10 @@ first-differs : (c : tie.Else1 Inv-loop μ-loop)
   → eqZ (getD (c .before .before .before .before .args .cells .now) (c .before .before .before .loop .at) (pos 0)) (c .before .before .before .before .args .major) ≡ false
 first-differs c = false-eqZ _ _ (λ e. c .if1 .left (ap (ofZ w64) e))
 
+-- The test of a figure against the best so far.
+against : (c : tie.Joined1 Inv-loop μ-loop) {x y : ℤ} → x ≡ y → ltZ (toZ w64 (c .before .before .before .loop .best)) x ≡ ltZ (toZ w64 (c .before .before .before .loop .best)) y
+against c e = ap (ltZ (toZ w64 (c .before .before .before .loop .best))) e
+
 -- The four ways past a row: each leaves what was found after that row.
 row-taken : (c : tie.Joined1 Inv-loop μ-loop)
   → bestOf (c .if1 .any) (toZ w64 (c .if1 .best))
@@ -103,12 +108,12 @@ row-taken c =
     (λ w.
       let t : tie.Then1 Inv-loop μ-loop = record { before = c .before; if1 = w .0 } in
       let g : tie.After-minor Inv-loop μ-loop = record { before = t; minor = w .1 } in
-      rw (w .5, w .4, toZ-ofZ (second-fits g), not-left (c .before .before .before .loop .any) (w .2 .left)) (greater-found _ _ _ _ (first-same t) (simp (toZ-ofZ (second-fits g)) at (w .3 .taken))))
+      rw (w .5, w .4, toZ-ofZ (second-fits g), not-left (c .before .before .before .loop .any) (w .2 .left)) (greater-found _ _ _ _ (first-same t) (sym (against c (toZ-ofZ (second-fits g))) ∙ w .3 .taken)))
     (⊎-elim
     (λ w.
       let t : tie.Then1 Inv-loop μ-loop = record { before = c .before; if1 = w .0 } in
       let g : tie.After-minor Inv-loop μ-loop = record { before = t; minor = w .1 } in
-      rw (w .5, w .4, not-left (c .before .before .before .loop .any) (w .2 .left)) (lesser-found _ _ _ _ (first-same t) (simp (toZ-ofZ (second-fits g)) at (w .3 .left))))
+      rw (w .5, w .4, not-left (c .before .before .before .loop .any) (w .2 .left)) (lesser-found _ _ _ _ (first-same t) (sym (against c (toZ-ofZ (second-fits g))) ∙ w .3 .left)))
     (λ w.
       let t : tie.Else1 Inv-loop μ-loop = record { before = c .before; if1 = w .0 } in
       rw (w .2, w .1) (other-figure _ _ _ _ (first-differs t)))))

@@ -18,13 +18,13 @@ use Rattle.lookup.proofs.place_of.Statement.{statement}
 use Rattle.lookup.proofs.place_of.Tie as tie
 
 abbrev Inv-loop : tie.InvT-loop
-Inv-loop cells count width major minor row₀ at₀ row at =
-    (row ≤ count) × (at ≡ 1 + row * width)
-    × (placeFrom row (keyOf (toZ w64 major) (toZ w64 minor)) (decode keyAt width (count - row) at cells)
+Inv-loop cells count width major minor place₀ at₀ place at =
+    (place ≤ count) × (at ≡ 1 + place * width)
+    × (placeFrom place (keyOf (toZ w64 major) (toZ w64 minor)) (decode keyAt width (count - place) at cells)
       ≡ rowPlace width (keyOf (toZ w64 major) (toZ w64 minor)) count cells)
 
 abbrev μ-loop : tie.MeasureT-loop
-μ-loop cells count width major minor row₀ at₀ row at = count - row
+μ-loop cells count width major minor place₀ at₀ place at = count - place
 
 within : (c : tie.In-loop Inv-loop μ-loop)
   → (c .before .loop .at + 1 < length (c .before .before .args .cells .now))
@@ -56,8 +56,8 @@ key-below-requires c κs = tt
 
 -- The invariant over the key's figures, and the test of the row's key over its cells.
 whole : (c : tie.At-loop Inv-loop μ-loop)
-  → placeFrom (c .loop .row) (keyOf (c .before .args .major) (c .before .args .minor))
-      (decode keyAt (c .before .args .width) (c .before .args .count - c .loop .row) (c .loop .at) (c .before .args .cells .now))
+  → placeFrom (c .loop .place) (keyOf (c .before .args .major) (c .before .args .minor))
+      (decode keyAt (c .before .args .width) (c .before .args .count - c .loop .place) (c .loop .at) (c .before .args .cells .now))
     ≡ rowPlace (c .before .args .width) (keyOf (c .before .args .major) (c .before .args .minor)) (c .before .args .count) (c .before .args .cells .now)
 whole c = simp (toZ-ofZ (c .before .fits .major), toZ-ofZ (c .before .fits .minor)) at (c .loop .inv .2)
 
@@ -76,8 +76,8 @@ returns c =
     let l : tie.At-loop Inv-loop μ-loop = c .before .before .before .before .before in
     sym (place-here _ _ _ _ _ _ (c .before .before .before .before .loop-test .taken) (sym (tested (c .before)) ∙ c .if1 .taken)) ∙ whole l
 
-add-row : tie.Need-add-row Inv-loop μ-loop
-add-row c = omega arith
+add-place : tie.Need-add-place Inv-loop μ-loop
+add-place c = omega arith
 
 add-at : tie.Need-add-at Inv-loop μ-loop
 add-at c = omega (arith, within (c .before .before .before .before))
@@ -110,7 +110,7 @@ place-of-spec =
     shared-slice-copy-out-key-below-2
     key-below-requires
     returns
-    add-row
+    add-place
     add-at
     loop-less
     loop-again

@@ -12,7 +12,7 @@ ghost use Rattle.rules.specs.Refusal.{allOf};
 ghost use Rattle.rules.specs.Rows.{recordKey, positionKey, soundRecord, soundPosition};
 ghost use Rattle.rules.specs.Layout.{decode};
 ghost use Rattle.rules.specs.Tables.{recordAt, positionAt, soundRecords, soundPositions};
-ghost use Rattle.tables.specs.Count.{roomFor, countSound};
+ghost use Rattle.scan.specs.Count.{roomFor, countSound};
 
 pub fn room_for(width: usize, most: usize, cells: usize) -> usize
     requires { ⌜ 0 < width ⌝ }
