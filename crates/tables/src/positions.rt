@@ -1,7 +1,6 @@
 // The positions table, once it passes test 2: its rows, its lookup, and its changes.
 use lookup::Found;
 use scan::rows;
-use scan::soundness;
 use rules::Position;
 ghost use mathlib.Core.Path.{_≡_};
 ghost use mathlib.Core.Bool.{true};
@@ -24,7 +23,7 @@ pub fn count(cells: &[i64]) -> usize
 pub fn room(cells: &[i64]) -> usize
     ensures { λ r. ⌜ r ≡ roomOf positionsLayout (now (cells .entry)) ⌝ }
 {
-    soundness::room_for(5, 1024, cells.len())
+    scan::soundness::room_for(5, 1024, cells.len())
 }
 
 pub fn find_position(cells: &[i64], account: i64, series: i64) -> Found

@@ -2,7 +2,6 @@
 use lookup::Found;
 use lookup::Greatest;
 use scan::rows;
-use scan::soundness;
 use rules::Record;
 ghost use mathlib.Core.Path.{_≡_};
 ghost use mathlib.Core.Bool.{true};
@@ -27,7 +26,7 @@ pub fn count(cells: &[i64]) -> usize
 pub fn room(cells: &[i64]) -> usize
     ensures { λ r. ⌜ r ≡ roomOf recordsLayout (now (cells .entry)) ⌝ }
 {
-    soundness::room_for(13, 4096, cells.len())
+    scan::soundness::room_for(13, 4096, cells.len())
 }
 
 pub fn find_record(cells: &[i64], id: i64, suffix: i64) -> Found
