@@ -80,10 +80,12 @@ replace-row-requires : tie.Need-replace-row-requires
 replace-row-requires c κs =
     let a : tie.After-at = c .before .before .before in
     let f : tie.After-find-row = a .before .before in
+    omega
+    (arith,
     replacement-fits positionsLayout positions-lawful positionKey positions-first soundPosition (start f .args .cells .now) (table (start f))
     (counted f .count .result) (counted f .count .ensures) (positionKey (start f .args .p))
     (f .before .before .position-cells .result) (start f .args .p) (f .before .before .position-cells .ensures)
-    (a .at .given .0 .0) (there a)
+    (a .at .given .0 .0) (there a))
 
 enum-told : tie.Need-enum-told
 enum-told c = search needs
@@ -100,10 +102,12 @@ insert-row-requires : tie.Need-insert-row-requires
 insert-row-requires c κs =
     let p : tie.After-place-of = c .before .before in
     let f : tie.After-find-row = p .before .before .before .before in
+    omega
+    (arith,
     insertion-fits positionsLayout positions-lawful positionKey positions-first soundPosition (start f .args .cells .now) (table (start f))
     (counted f .count .result) (counted f .count .ensures) (positionKey (start f .args .p))
     (f .before .before .position-cells .result) (start f .args .p) (f .before .before .position-cells .ensures)
-    (omega arith) (room (p .before .before)) (p .place-of .result) (placed p)
+    (omega arith) (room (p .before .before)) (p .place-of .result) (placed p))
 
 same-length : tie.Need-same-length
 same-length c = search needs
