@@ -1,15 +1,14 @@
 -- What each clause of the definitions on keyed tables says, as one equation for each way in which the keys can lie. By the definitions. Assumes nothing.
-use Prim.Native.Nat.{ℕ, suc, _+_}
+use Prim.Native.Nat.{_+_}
 use mathlib.Core.Path.{_≡_, refl, _∙_, ap}
 use mathlib.Core.Bool.{Bool, true, false, cond, _&&_}
 use mathlib.Core.List.{List, [], _∷_, map}
 use mathlib.Core.Option.{Option, none, some}
 use lib.IntN.{ℤ}
-use lib.Signed.{leZ}
 use Rattle.integers.specs.Order.{eqZ}
 use Rattle.rules.specs.Keyed.{Key, below, same, isSome, atLeast, rising, find, greatest, upsert, upsertAll, absentFrom}
 use Rattle.rules.specs.Refusal.{allOf}
-use Rattle.keys.proofs.Split.{split, and-intro, and-left, and-right, cond-true, cond-false}
+use Rattle.keys.proofs.Split.{and-intro, and-left, and-right, cond-true, cond-false}
 use Rattle.keys.proofs.KeyOrder.{same-not-below}
 
 pub allOf-nil : allOf [] ≡ true

@@ -1,8 +1,8 @@
 -- How many rows puts add: rows whose keys are there add none, rows of different keys that are absent add their number, and rows of different keys
 -- add as many as the table lacks. By induction on the rows that are put. Assumes nothing.
-use Prim.Native.Nat.{ℕ, suc, _+_, _≤_}
+use Prim.Native.Nat.{ℕ, suc, _+_}
 use mathlib.Core.Path.{_≡_, refl, sym, _∙_, ap, subst}
-use mathlib.Core.Bool.{Bool, true, false, not, cond, _&&_}
+use mathlib.Core.Bool.{Bool, true, false, not, _&&_}
 use mathlib.Core.List.{List, [], _∷_, _++_, map}
 use mathlib.Core.Logic.{_⊎_, inl, inr}
 use mathlib.Core.Option.{Option, none, some}
@@ -12,11 +12,11 @@ use borrow.Author.Tests.{not-true}
 use Rattle.rules.specs.Keyed.{Key, same, isSome, rising, find, upsert, upsertAll, absentFrom}
 use Rattle.rules.specs.Refusal.{allOf}
 use Rattle.keys.proofs.Split.{split, clash, is-false, Found, absent, present, found, and-intro, and-left, and-right}
-use Rattle.keys.proofs.KeyOrder.{same-eq, same-sym, eq-same}
-use Rattle.keys.proofs.Clauses.{allOf-nil, allOf-intro, allOf-head, allOf-tail, isSome-none, isSome-some, upsertAll-nil, upsertAll-cons, absentFrom-nil, absentFrom-new, absentFrom-old}
+use Rattle.keys.proofs.KeyOrder.{same-eq}
+use Rattle.keys.proofs.Clauses.{allOf-nil, allOf-intro, isSome-none, isSome-some, upsertAll-nil, upsertAll-cons, absentFrom-nil, absentFrom-new, absentFrom-old}
 use Rattle.keys.proofs.Lookup.{find-upsert, find-upsert-other}
 use Rattle.keys.proofs.Rising.{upsert-rises, upsert-adds, upsert-replaces}
-use Rattle.keys.proofs.Folds.{Only, only-head, only-tail, upsertAll-append}
+use Rattle.keys.proofs.Folds.{Only, only-head, only-tail, upsertAll-append, find-upsertAll-other}
 
 -- What `isSome` says of a lookup.
 pub isSome-absent : {A : Type 0} (o : Option A) → isSome o ≡ false → o ≡ none
@@ -152,6 +152,19 @@ module _ {Row : Type 0} (key : Row → Key) where
       go : absentFrom key (upsert key new t) rest ≡ absentFrom key t rest → Found (find key (key r) t) → absentFrom key (upsert key new t) (r ∷ rest) ≡ absentFrom key t (r ∷ rest)
       go again (absent f) = absentFrom-new key (upsert key new t) r rest (other ∙ f) ∙ ap (λ (n : ℕ). 1 + n) again ∙ sym (absentFrom-new key t r rest f)
       go again (present x f) = absentFrom-old key (upsert key new t) r x rest (other ∙ f) ∙ ap (λ (n : ℕ). 0 + n) again ∙ sym (absentFrom-old key t r x rest f)
+
+  -- Puts under a property leave absent what is absent outside it.
+  pub absentFrom-upsertAll : (p : Key → Bool) (rs qs t : List Row) → Only key p rs → Only key (λ (k : Key). not (p k)) qs →
+      absentFrom key (upsertAll key rs t) qs ≡ absentFrom key t qs
+  absentFrom-upsertAll p rs [] t o w = absentFrom-nil key (upsertAll key rs t) ∙ sym (absentFrom-nil key t)
+  absentFrom-upsertAll p rs (r ∷ rest) t o w =
+      go (absentFrom-upsertAll p rs rest t o (only-tail key (λ (k : Key). not (p k)) r rest w)) (found (find key (key r) t))
+    where
+      other : find key (key r) (upsertAll key rs t) ≡ find key (key r) t
+      other = find-upsertAll-other key p (key r) rs t o (not-true (p (key r)) (only-head key (λ (k : Key). not (p k)) r rest w))
+      go : absentFrom key (upsertAll key rs t) rest ≡ absentFrom key t rest → Found (find key (key r) t) → absentFrom key (upsertAll key rs t) (r ∷ rest) ≡ absentFrom key t (r ∷ rest)
+      go again (absent f) = absentFrom-new key (upsertAll key rs t) r rest (other ∙ f) ∙ ap (λ (n : ℕ). 1 + n) again ∙ sym (absentFrom-new key t r rest f)
+      go again (present x f) = absentFrom-old key (upsertAll key rs t) r x rest (other ∙ f) ∙ ap (λ (n : ℕ). 0 + n) again ∙ sym (absentFrom-old key t r x rest f)
 
   -- Rows of different keys add as many as the rising table lacks.
   pub upsertAll-counts : (rs t : List Row) → rising key t ≡ true → distinct rs ≡ true → length (upsertAll key rs t) ≡ length t + absentFrom key t rs

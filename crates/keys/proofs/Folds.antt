@@ -1,24 +1,22 @@
 -- Rows put one after the other. Where every row's key has a property: other keys see nothing of the puts, and puts under properties that exclude one another commute.
 -- The table rises, keeps what every row has, and never gets shorter; in a rising table, rows of different keys add as many as were absent.
 -- By induction on the rows that are put. Assumes nothing.
-use Prim.Native.Nat.{ℕ, suc, _+_, _≤_}
-use mathlib.Core.Path.{_≡_, refl, sym, _∙_, ap, subst}
-use mathlib.Core.Bool.{Bool, true, false, not, cond, _&&_}
+use Prim.Native.Nat.{_≤_}
+use mathlib.Core.Path.{_≡_, sym, _∙_, ap, subst}
+use mathlib.Core.Bool.{Bool, true, false}
 use mathlib.Core.List.{List, [], _∷_, _++_, map}
-use mathlib.Core.Logic.{_⊎_, inl, inr}
-use mathlib.Core.Option.{Option, none, some}
 use lib.IntN.{ℤ}
 use lib.ListN.{length}
 use native.Mathlib.Omega.{arith}
 use Rattle.integers.specs.Order.{eqZ}
-use Rattle.rules.specs.Keyed.{Key, below, same, isSome, rising, find, greatest, upsert, upsertAll, absentFrom}
+use Rattle.rules.specs.Keyed.{Key, same, rising, find, greatest, upsert, upsertAll}
 use Rattle.rules.specs.Refusal.{allOf}
-use Rattle.keys.proofs.Split.{split, clash, is-false, Found, absent, present, found, none-some, and-left, and-right}
-use Rattle.keys.proofs.KeyOrder.{same-eq, same-sym}
-use Rattle.keys.proofs.Clauses.{allOf-nil, allOf-intro, allOf-head, allOf-tail, isSome-none, isSome-some, upsertAll-nil, upsertAll-cons, absentFrom-nil, absentFrom-cons, absentFrom-new, absentFrom-old}
-use Rattle.keys.proofs.Lookup.{find-upsert, find-upsert-other, greatest-upsert-other, all-upsert}
+use Rattle.keys.proofs.Split.{clash, is-false}
+use Rattle.keys.proofs.KeyOrder.{same-eq}
+use Rattle.keys.proofs.Clauses.{allOf-nil, allOf-intro, allOf-head, allOf-tail, upsertAll-nil, upsertAll-cons}
+use Rattle.keys.proofs.Lookup.{find-upsert-other, greatest-upsert-other, all-upsert}
 use Rattle.keys.proofs.Commute.{upsert-commute}
-use Rattle.keys.proofs.Rising.{upsert-rises, upsert-longer, upsert-adds, upsert-replaces}
+use Rattle.keys.proofs.Rising.{upsert-rises, upsert-longer}
 
 module _ {Row : Type 0} (key : Row → Key) where
 
@@ -38,6 +36,10 @@ module _ {Row : Type 0} (key : Row → Key) where
   pub only-append : (p : Key → Bool) (xs ys : List Row) → Only p xs → Only p ys → Only p (xs ++ ys)
   only-append p [] ys h k = k
   only-append p (r ∷ rest) ys h k = only-intro p r (rest ++ ys) (only-head p r rest h) (only-append p rest ys (only-tail p r rest h) k)
+
+  pub only-weaken : (p q : Key → Bool) (rs : List Row) → ((k : Key) → p k ≡ true → q k ≡ true) → Only p rs → Only q rs
+  only-weaken p q [] w h = allOf-nil
+  only-weaken p q (r ∷ rest) w h = only-intro q r rest (w (key r) (only-head p r rest h)) (only-weaken p q rest w (only-tail p r rest h))
 
   pub upsertAll-append : (xs ys t : List Row) → upsertAll key (xs ++ ys) t ≡ upsertAll key ys (upsertAll key xs t)
   upsertAll-append [] ys t = ap (λ (x : List Row). upsertAll key ys x) (sym (upsertAll-nil key t))

@@ -1,17 +1,17 @@
 -- The greatest second figure among the rows of a first figure, in a table of any rows: it is that of a row which is there, no row has a greater one,
 -- and there is none exactly where no row has that first figure. By induction on the table. Assumes nothing.
 use mathlib.Core.Path.{_≡_, refl, sym, _∙_, ap, subst}
-use mathlib.Core.Bool.{Bool, true, false, cond}
+use mathlib.Core.Bool.{true, false, cond}
 use mathlib.Core.List.{List, [], _∷_}
 use mathlib.Core.Logic.{_⊎_, inl, inr}
 use mathlib.Core.Option.{Option, none, some}
 use lib.IntN.{ℤ}
 use lib.Signed.{ltZ, leZ}
 use Rattle.integers.specs.Order.{eqZ}
-use Rattle.rules.specs.Keyed.{Key, same, atLeast, find, greatest, upsert}
+use Rattle.rules.specs.Keyed.{Key, same, atLeast, find, greatest}
 use Rattle.rules.specs.Rows.{keyOf}
 use Rattle.keys.proofs.Split.{split, clash, none-some, some-inj, Found, absent, present, found, cond-true, cond-false}
-use Rattle.keys.proofs.Equal.{eqZ-refl, eqZ-eq, eqZ-true, leZ-refl, leZ-trans, leZ-of-ltZ, ltZ-of-not-leZ, not-ltZ-of-leZ}
+use Rattle.keys.proofs.Equal.{eqZ-true, leZ-refl, leZ-trans, leZ-of-ltZ, ltZ-of-not-leZ, not-ltZ-of-leZ}
 use Rattle.keys.proofs.KeyOrder.{same-eq, eq-same, major-differs}
 use Rattle.keys.proofs.Clauses.{find-nil, find-here, find-there, greatest-nil, greatest-here, greatest-there}
 

@@ -1,13 +1,13 @@
 -- Keys: `same` decides equality and `below` is a strict linear order, so of two keys one is below the other or both are the same.
 -- By the laws of the two figures. Assumes nothing.
-use mathlib.Core.Path.{_≡_, refl, sym, _∙_, ap, subst}
-use mathlib.Core.Bool.{Bool, true, false, _&&_, _||_}
+use mathlib.Core.Path.{_≡_, sym, _∙_, ap, subst}
+use mathlib.Core.Bool.{true, false, _&&_}
 use mathlib.Core.Logic.{_⊎_, inl, inr}
 use lib.IntN.{ℤ}
 use lib.Signed.{ltZ}
 use Rattle.integers.specs.Order.{eqZ}
 use Rattle.rules.specs.Keyed.{Key, below, same}
-use Rattle.keys.proofs.Split.{split, clash, is-false, is-true, both-ways, and-intro, and-left, and-right, or-left, or-right, or-cases}
+use Rattle.keys.proofs.Split.{split, clash, is-false, both-ways, and-intro, and-left, and-right, or-left, or-right, or-cases}
 use Rattle.keys.proofs.Equal.{eqZ-refl, eqZ-true, eqZ-eq, ltZ-irrefl, ltZ-trans, ltZ-level}
 
 pub same-refl : (a : Key) → same a a ≡ true

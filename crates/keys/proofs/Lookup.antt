@@ -1,18 +1,17 @@
 -- Lookups in a table of any rows, sorted or not: a found row has the key asked for and every property of the table's rows; a row that is put is found at its key,
 -- and at other keys nothing changes. By induction on the table. Assumes nothing.
-use mathlib.Core.Path.{_≡_, refl, sym, _∙_, ap, subst}
+use mathlib.Core.Path.{_≡_, sym, _∙_, ap, subst}
 use mathlib.Core.Bool.{Bool, true, false}
 use mathlib.Core.List.{List, [], _∷_, map}
 use mathlib.Core.Logic.{_⊎_, inl, inr}
-use mathlib.Core.Option.{Option, none, some}
+use mathlib.Core.Option.{Option, some}
 use lib.IntN.{ℤ}
 use Rattle.integers.specs.Order.{eqZ}
-use Rattle.rules.specs.Keyed.{Key, below, same, atLeast, find, greatest, upsert}
+use Rattle.rules.specs.Keyed.{Key, same, atLeast, find, greatest, upsert}
 use Rattle.rules.specs.Refusal.{allOf}
-use Rattle.keys.proofs.Split.{split, clash, is-false, none-some, some-inj}
-use Rattle.keys.proofs.Equal.{eqZ-refl, eqZ-true}
+use Rattle.keys.proofs.Split.{split, none-some, some-inj}
 use Rattle.keys.proofs.KeyOrder.{same-refl, same-eq, same-sym, Way, lower, level, upper, way}
-use Rattle.keys.proofs.Clauses.{find-nil, find-here, find-there, greatest-nil, greatest-here, greatest-there, upsert-nil, upsert-lower, upsert-level, upsert-upper, allOf-intro, allOf-head, allOf-tail}
+use Rattle.keys.proofs.Clauses.{find-nil, find-here, find-there, greatest-here, greatest-there, upsert-nil, upsert-lower, upsert-level, upsert-upper, allOf-intro, allOf-head, allOf-tail}
 
 module _ {Row : Type 0} (key : Row → Key) where
 

@@ -1,17 +1,16 @@
 -- Tables whose rows strictly rise: a put keeps them rising; it adds one row where the key was absent and none where it was there. No put makes a table shorter.
 -- By induction on the table. Assumes nothing.
-use Prim.Native.Nat.{ℕ, suc, _≤_}
+use Prim.Native.Nat.{suc, _≤_}
 use mathlib.Core.Path.{_≡_, refl, sym, _∙_, ap, subst}
-use mathlib.Core.Bool.{Bool, true, false, _&&_}
+use mathlib.Core.Bool.{true}
 use mathlib.Core.List.{List, [], _∷_, map}
-use mathlib.Core.Option.{Option, none, some}
+use mathlib.Core.Option.{none, some}
 use lib.ListN.{length}
 use native.Mathlib.Omega.{arith}
-use Rattle.rules.specs.Keyed.{Key, below, same, rising, find, upsert}
-use Rattle.rules.specs.Refusal.{allOf}
-use Rattle.keys.proofs.Split.{clash, none-some, and-intro, and-left, and-right}
-use Rattle.keys.proofs.KeyOrder.{same-sym, same-refl, below-trans, below-not-same, above-not-same, Way, lower, level, upper, way}
-use Rattle.keys.proofs.Clauses.{belowAll, allOf-nil, allOf-intro, allOf-head, allOf-tail, rising-nil, find-nil, find-here, find-there, upsert-nil, upsert-lower, upsert-level, upsert-upper}
+use Rattle.rules.specs.Keyed.{Key, below, rising, find, upsert}
+use Rattle.keys.proofs.Split.{none-some, and-intro, and-left, and-right}
+use Rattle.keys.proofs.KeyOrder.{same-sym, below-trans, above-not-same, Way, lower, level, upper, way}
+use Rattle.keys.proofs.Clauses.{belowAll, allOf-nil, allOf-intro, allOf-head, allOf-tail, find-nil, find-here, find-there, upsert-nil, upsert-lower, upsert-level, upsert-upper}
 use Rattle.keys.proofs.Lookup.{all-upsert}
 
 module _ {Row : Type 0} (key : Row → Key) where

@@ -4,7 +4,7 @@ use mathlib.Core.Path.{_≡_, refl, sym, _∙_, ap}
 use mathlib.Core.Bool.{Bool, true, false}
 use mathlib.Core.List.{List, [], _∷_, _++_, map}
 use mathlib.Core.Logic.{_⊎_, inl, inr}
-use mathlib.Core.Option.{Option, some}
+use mathlib.Core.Option.{some}
 use lib.IntN.{ℤ, pos, _+ℤ_}
 use lib.ListN.{length}
 use Rattle.integers.specs.Average.{residualOf}
@@ -13,7 +13,7 @@ use Rattle.rules.specs.Figures.{isBuy}
 use Rattle.rules.specs.Keyed.{find, upsert, upsertAll}
 use Rattle.rules.specs.Rows.{recordKey, moved, newRecord, adjustedRecord}
 use Rattle.rules.specs.Refusal.{anyOf}
-use Rattle.rules.specs.Request.{Request, merge}
+use Rattle.rules.specs.Request.{merge}
 use Rattle.rules.specs.Books.{Books, viewOf}
 use Rattle.rules.specs.Plan.{planBooks, planReply, booked}
 use Rattle.rules.specs.Merge.{Source, pairsOf, sourcesOf, recordsOf, firstOf, sideDiffers, sumOfQuantities, sumOfValues, mergeInverses, mergedRecord, mergeResidual, mergePlan}

@@ -1,7 +1,7 @@
 -- The margin of records on one side, Q the sum of their quantities and V that of quantity times price: Q s - V for buys, its negative for sells.
 -- By induction on the records. Assumes nothing.
 use mathlib.Core.Path.{_≡_, refl, sym, _∙_, ap}
-use mathlib.Core.Bool.{Bool, true, false, cond, not, Bool·beq}
+use mathlib.Core.Bool.{Bool, true, false, cond, Bool·beq}
 use mathlib.Core.List.{List, [], _∷_, map}
 use native.Mathlib.Omega.{arith}
 use borrow.Author.Tests.{not-false}
@@ -11,7 +11,6 @@ use Rattle.rules.specs.Figures.{isBuy}
 use Rattle.rules.specs.Refusal.{anyOf}
 use Rattle.rules.specs.Merge.{sideDiffers, sumOfQuantities, sumOfValues}
 use Rattle.rules.specs.declared.Record.{Record}
-use Rattle.keys.proofs.Split.{clash}
 use Rattle.soundness.proofs.Accepted.{anyOf-head, anyOf-tail}
 use Rattle.margin.specs.Margin.{signedQuantity, marginOf, marginOfAll}
 

@@ -3,12 +3,12 @@
 use mathlib.Core.Path.{_≡_}
 use mathlib.Core.Bool.{cond}
 use mathlib.Core.List.{List, [], _∷_}
-use mathlib.Core.Option.{Option, some}
+use mathlib.Core.Option.{some}
 use lib.IntN.{ℤ, pos, negℤ, _+ℤ_, _-ℤ_, _*ℤ_}
 use Rattle.rules.specs.Figures.{isBuy}
 use Rattle.rules.specs.Keyed.{find}
 use Rattle.rules.specs.Rows.{keyOf, recordKey}
-use Rattle.rules.specs.Request.{Request, merge}
+use Rattle.rules.specs.Request.{merge}
 use Rattle.rules.specs.Books.{Books, viewOf}
 use Rattle.rules.specs.Plan.{planReply}
 use Rattle.rules.specs.Merge.{pairsOf, sourcesOf, recordsOf}

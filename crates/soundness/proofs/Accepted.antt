@@ -1,20 +1,20 @@
 -- What acceptance says: no test of the list applies. In a plan that books these are its own tests and then the four of the booking (13 to 16).
 -- By induction on the tests. Assumes nothing.
-use Prim.Native.Nat.{ℕ, _+_, _≤_}
+use Prim.Native.Nat.{_+_, _≤_}
 use mathlib.Core.Path.{_≡_, refl, sym, _∙_}
-use mathlib.Core.Bool.{Bool, true, false, cond, not, _&&_, _||_}
+use mathlib.Core.Bool.{Bool, true, false, _&&_}
 use mathlib.Core.List.{List, [], _∷_, _++_, map}
 use mathlib.Core.Logic.{_⊎_, inl, inr}
-use mathlib.Core.Option.{Option, none, some}
+use mathlib.Core.Option.{none, some}
 use lib.ListN.{length}
-use lib.Dec.{ltb}
 use borrow.Author.Tests.{ltb-false, not-false}
 use Rattle.rules.specs.Keyed.{absentFrom}
 use Rattle.rules.specs.Rows.{positionKey, soundPosition}
 use Rattle.rules.specs.Refusal.{Test, test, anyOf, allOf, firstRefusal}
 use Rattle.rules.specs.Books.{Books}
-use Rattle.rules.specs.Plan.{Effects, Plan, booking, suffixIsAbove, bookingTests, planTests}
+use Rattle.rules.specs.Plan.{Effects, booking, suffixIsAbove, bookingTests, planTests}
 use Rattle.keys.proofs.Split.{split, none-some, and-left, and-right, or-false-left, or-false-right, cond-true, cond-false}
+use Rattle.keys.proofs.Clauses.{allOf-intro, allOf-head, allOf-tail}
 
 -- ---- lists of tests
 
@@ -31,6 +31,12 @@ passed (t ∷ rest) h = go (passed rest) (split (t .applies))
     go : (firstRefusal rest ≡ none → Passed rest) → (t .applies ≡ true) ⊎ (t .applies ≡ false) → (t .applies ≡ false) × Passed rest
     go again (inl e) = none-some h (cond-true (some t) (firstRefusal rest) e)
     go again (inr e) = (e, again (sym (cond-false (some t) (firstRefusal rest) e) ∙ h))
+
+-- The other way round.
+pub all-passed : (tests : List Test) → Passed tests → firstRefusal tests ≡ none
+unfolding firstRefusal
+all-passed [] h = refl
+all-passed (t ∷ rest) h = cond-false (some t) (firstRefusal rest) (h .0) ∙ all-passed rest (h .1)
 
 pub passed-first : (xs ys : List Test) → Passed (xs ++ ys) → Passed xs
 passed-first [] ys h = tt
@@ -52,6 +58,19 @@ anyOf-head b rest h = or-false-left b (anyOf rest) h
 pub anyOf-tail : (b : Bool) (rest : List Bool) → anyOf (b ∷ rest) ≡ false → anyOf rest ≡ false
 unfolding anyOf
 anyOf-tail b rest h = or-false-right b (anyOf rest) h
+
+pub anyOf-first : {A : Type 0} (p : A → Bool) (xs ys : List A) → anyOf (map p (xs ++ ys)) ≡ false → anyOf (map p xs) ≡ false
+unfolding anyOf
+anyOf-first p [] ys h = refl
+anyOf-first p (x ∷ rest) ys h =
+    let h₀ : p x ≡ false = anyOf-head (p x) (map p (rest ++ ys)) h in
+    let h₁ : anyOf (map p rest) ≡ false = anyOf-first p rest ys (anyOf-tail (p x) (map p (rest ++ ys)) h) in
+    rw (h₀, h₁)
+
+pub allOf-append : {A : Type 0} (p : A → Bool) (xs ys : List A) → allOf (map p xs) ≡ true → allOf (map p ys) ≡ true → allOf (map p (xs ++ ys)) ≡ true
+allOf-append p [] ys h k = k
+allOf-append p (x ∷ rest) ys h k =
+    allOf-intro (p x) (map p (rest ++ ys)) (allOf-head (p x) (map p rest) h) (allOf-append p rest ys (allOf-tail (p x) (map p rest) h) k)
 
 -- ---- plans that book
 

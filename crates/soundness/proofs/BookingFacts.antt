@@ -1,15 +1,14 @@
 -- What sound books and acceptance say of the rows that a plan puts. From these facts alone follow the growth of the tables and that they stay sound;
 -- a new kind of request brings such a record. Assumes nothing.
 use mathlib.Core.Path.{_≡_}
-use mathlib.Core.Bool.{Bool, true}
-use mathlib.Core.List.{List, map}
-use lib.IntN.{ℤ, pos}
+use mathlib.Core.Bool.{true}
+use mathlib.Core.List.{map}
+use lib.IntN.{pos}
 use lib.ListN.{length}
 use Rattle.rules.specs.Rows.{recordKey, positionKey, soundRecord}
 use Rattle.rules.specs.Refusal.{allOf}
 use Rattle.rules.specs.Books.{Books}
 use Rattle.rules.specs.Plan.{Effects, Plan, booking, question}
-use Rattle.rules.specs.declared.Reply.{Reply}
 use Rattle.keys.proofs.Counts.{distinct, hasAll, lacksAll}
 use Rattle.soundness.specs.RowsAnswered.{rowsAnswered}
 

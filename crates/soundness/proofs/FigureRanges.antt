@@ -3,14 +3,14 @@ use Prim.Native.Nat.{ℕ, _≤_}
 use mathlib.Core.Path.{_≡_, refl, sym, ap}
 use mathlib.Core.Bool.{Bool, true, false, not, _&&_, Bool·beq}
 use borrow.Author.Tests.{not-true}
-use lib.IntN.{ℤ, pos, negsuc, negℤ, natAbs}
+use lib.IntN.{ℤ, pos, negℤ, natAbs}
 use lib.Signed.{ltZ, _≤ℤ_, _<ℤ_}
-use Rattle.integers.specs.Order.{eqZ, inRange}
+use Rattle.integers.specs.Order.{eqZ}
 use Rattle.integers.proofs.Linear.{zarith, neg-lin}
 use Rattle.integers.proofs.Parts.{true-eqZ, false-eqZ}
 use Rattle.integers.proofs.Order.{inRange-true, true-inRange, lt-ltZ, le-ltZ}
 use Rattle.integers.proofs.Products.{natAbs-≤, ≤-natAbs}
-use Rattle.rules.specs.Figures.{magnitudeAtMost, validSuffix, validQuantity, validPrice, mostQuantity, greatestOfSuffixes, adjustable, adjusted, inverse}
+use Rattle.rules.specs.Figures.{magnitudeAtMost, validSuffix, validQuantity, validPrice, mostQuantity, greatestOfSuffixes, adjustable, inverse}
 use Rattle.rules.specs.Rows.{validSignedQuantity, validBooked, validParent}
 use Rattle.keys.proofs.Split.{and-intro, and-left, and-right, or-left}
 

@@ -1,12 +1,12 @@
 -- Rows at suffixes from some suffix of their id on: from the next suffix of each id on they are absent from the table, and they differ from a row before.
 -- By induction on the rows. Assumes nothing.
-use mathlib.Core.Path.{_≡_, refl, sym, ap, subst}
-use mathlib.Core.Bool.{Bool, true, false, not}
-use mathlib.Core.List.{List, [], _∷_, _++_, map}
-use lib.IntN.{ℤ, pos}
+use mathlib.Core.Path.{_≡_, sym, ap, subst}
+use mathlib.Core.Bool.{Bool, true, not}
+use mathlib.Core.List.{List, [], _∷_, _++_}
+use lib.IntN.{ℤ, pos, _+ℤ_}
 use lib.Signed.{leZ, _≤ℤ_, _<ℤ_}
-use Rattle.integers.proofs.Linear.{zarith}
-use Rattle.integers.proofs.Order.{leZ-le, le-leZ}
+use Rattle.integers.proofs.Linear.{zarith, +-lin}
+use Rattle.integers.proofs.Order.{leZ-le, le-leZ, ≤ℤ-trans}
 use Rattle.rules.specs.Keyed.{Key, same}
 use Rattle.rules.specs.Rows.{recordKey}
 use Rattle.rules.specs.declared.Record.{Record}
@@ -15,6 +15,9 @@ use Rattle.keys.proofs.Folds.{Only, only-head, only-tail, only-intro, only-appe
 use Rattle.keys.proofs.Counts.{distinct, distinct-nil, distinct-head, distinct-tail, distinct-intro, lacksAll, lacksAll-intro}
 use Rattle.keys.proofs.KeyOrder.{same-ne}
 use Rattle.soundness.proofs.NamedRecord.{nextOf, free-from-next}
+
+pub below-next : (z : ℤ) → z <ℤ (z +ℤ pos 1)
+below-next z = omega (zarith, +-lin z (pos 1))
 
 -- The suffix is at least a number that the id tells.
 unfoldable pub atLeastOf : (ℤ → ℤ) → Key → Bool
@@ -27,6 +30,14 @@ at-least least r h = le-leZ h
 pub is-at-least : (least : ℤ → ℤ) (r : Record) → atLeastOf least (recordKey r) ≡ true → least (r .id) ≤ℤ r .suffix
 unfolding atLeastOf
 is-at-least least r h = leZ-le (least (r .id)) (r .suffix) h
+
+-- From a greater number on is from a smaller one on.
+pub later-weaker : (least lower : ℤ → ℤ) → ((id : ℤ) → lower id ≤ℤ least id) → (rs : List Record) → Only recordKey (atLeastOf least) rs → Only recordKey (atLeastOf lower) rs
+later-weaker least lower h [] o = allOf-nil
+later-weaker least lower h (r ∷ rest) o =
+    only-intro recordKey (atLeastOf lower) r rest
+    (at-least lower r (≤ℤ-trans (h (r .id)) (is-at-least least r (only-head recordKey (atLeastOf least) r rest o))))
+    (later-weaker least lower h rest (only-tail recordKey (atLeastOf least) r rest o))
 
 pub later-absent : (t rs : List Record) → Only recordKey (atLeastOf (nextOf t)) rs → lacksAll recordKey t rs ≡ true
 later-absent t [] o = allOf-nil

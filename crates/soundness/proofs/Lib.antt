@@ -7,4 +7,12 @@ pub mod NamedRecord
 pub mod LaterRows
 pub mod BookingFacts
 pub mod Trade
+pub mod Separation
+pub mod Transfer
 pub mod MergeAccepted
+pub mod MergeSources
+pub mod MergeInverses
+pub mod Merge
+pub mod Requests
+pub mod Growth
+pub mod Kept

@@ -1,21 +1,19 @@
 -- What an accepted merge has passed: tests 3 to 11, read one by one. By the laws of acceptance. Assumes nothing.
 use mathlib.Core.Path.{_≡_}
-use mathlib.Core.Bool.{Bool, true, false}
-use mathlib.Core.List.{List, [], _∷_, map}
+use mathlib.Core.Bool.{true, false}
+use mathlib.Core.List.{List, [], map}
 use mathlib.Core.Option.{Option, none}
 use borrow.Author.Tests.{not-false}
 use lib.IntN.{ℤ, pos}
 use lib.Signed.{_≤ℤ_}
 use Rattle.integers.proofs.Order.{ltZ-le}
 use Rattle.rules.specs.Figures.{mostQuantity}
-use Rattle.rules.specs.Keyed.{isSome}
 use Rattle.rules.specs.NamedRecord.{isElsewhere, isNotAdjustable}
 use Rattle.rules.specs.Refusal.{test, testEach, anyOf}
-use Rattle.rules.specs.Request.{Request, merge}
+use Rattle.rules.specs.Request.{merge}
 use Rattle.rules.specs.Books.{Books, viewOf}
 use Rattle.rules.specs.Handle.{planOf}
 use Rattle.rules.specs.Merge.{Source, pairsOf, mergeFigures, sourcesOf, recordsOf, isMissing, closes, stoodEarlier, firstOf, sideDiffers, sumOfQuantities, mergePlan}
-use Rattle.rules.specs.declared.Record.{Record}
 use Rattle.keys.proofs.Counts.{isSome-absent}
 use Rattle.soundness.specs.SoundBooks.{Accepts}
 use Rattle.soundness.proofs.Accepted.{own-passed}

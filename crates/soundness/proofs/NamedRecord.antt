@@ -1,18 +1,18 @@
 -- The record that a request names, once tests 5 and 7 do not apply, on a sound table: it stands at its key, it is sound and adjustable,
 -- and its id's next suffix is above its own. No row stands at the next suffix of an id or above it. Assumes nothing.
-use mathlib.Core.Path.{_≡_, refl, sym, _∙_, ap, subst}
-use mathlib.Core.Bool.{Bool, true, false, not}
+use mathlib.Core.Path.{_≡_, sym, _∙_, ap, subst}
+use mathlib.Core.Bool.{true, false}
 use mathlib.Core.List.{List, map}
 use mathlib.Core.Option.{Option, none, some}
 use borrow.Author.Tests.{not-false}
 use lib.IntN.{ℤ, pos, _+ℤ_}
-use lib.Signed.{ltZ, leZ, _≤ℤ_, _<ℤ_}
+use lib.Signed.{leZ, _≤ℤ_, _<ℤ_, ≤ℤ-refl}
 use Rattle.integers.specs.Order.{eqZ}
 use Rattle.integers.proofs.Parts.{eqZ-true}
 use Rattle.integers.proofs.Linear.{zarith, +-lin}
 use Rattle.rules.specs.Figures.{adjustable, mostQuantity}
 use Rattle.rules.specs.Keyed.{Key, find, greatest, isSome}
-use Rattle.rules.specs.Rows.{keyOf, recordKey, soundRecord}
+use Rattle.rules.specs.Rows.{keyOf, recordKey, soundRecord, adjustedRecord}
 use Rattle.rules.specs.Refusal.{allOf}
 use Rattle.rules.specs.NamedRecord.{theRecord, isNotAdjustable, nextSuffix}
 use Rattle.rules.specs.declared.Record.{Record}
@@ -37,7 +37,8 @@ pub record Named (t : List Record) (k : Key) : Type 0 where
   pub status : recordOf t k .status ≡ adjustable
   pub positive : pos 1 ≤ℤ recordOf t k .quantity
   pub small : recordOf t k .quantity ≤ℤ pos mostQuantity
-  pub next-above : (recordOf t k .suffix) <ℤ nextOf t (recordOf t k .id)
+  pub next-above : (recordOf t k .suffix) <ℤ nextOf t (k .major)
+  pub next-reached : nextOf t (recordOf t k .id) ≤ℤ nextOf t (k .major)
 
 record-stands : (t : List Record) (k : Key) → isSome (find recordKey k t) ≡ true → find recordKey k t ≡ some (recordOf t k)
 unfolding theRecord
@@ -76,4 +77,10 @@ named t k all h n =
     stands = f; key = e; sound = s; status = a;
     positive = quantity-of r s a .0;
     small = quantity-of r s a .1;
-    next-above = stands-below-next t (r .id) (r .suffix) r (subst (λ (x : Key). find recordKey x t ≡ some r) (sym e) f) }
+    next-above = subst (λ (x : Key). x .minor <ℤ nextOf t (k .major)) (sym e) (stands-below-next t (k .major) (k .minor) r f);
+    next-reached = subst (λ (x : Key). nextOf t (x .major) ≤ℤ nextOf t (k .major)) (sym e) (≤ℤ-refl (nextOf t (k .major))) }
+
+-- The record in its new status has the key at which it stands.
+pub adjusted-stands : (t : List Record) (k : Key) → Named t k → find recordKey (recordKey (adjustedRecord (recordOf t k))) t ≡ some (recordOf t k)
+unfolding adjustedRecord
+adjusted-stands t k n = subst (λ (x : Key). find recordKey x t ≡ some (recordOf t k)) (sym (n .key)) (n .stands)

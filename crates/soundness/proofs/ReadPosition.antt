@@ -1,10 +1,10 @@
 -- The position that a request reads at an account and series, where an absent row reads as zeros: it has that key, it is sound where the table is,
 -- and a position put at that key is what is read there afterwards. Assumes nothing.
-use mathlib.Core.Path.{_≡_, refl, sym, _∙_, ap, subst}
-use mathlib.Core.Bool.{Bool, true}
+use mathlib.Core.Path.{_≡_, _∙_, ap, subst}
+use mathlib.Core.Bool.{true}
 use mathlib.Core.List.{List, [], _∷_, map}
-use mathlib.Core.Option.{Option, none, some}
-use lib.IntN.{ℤ, pos}
+use mathlib.Core.Option.{Option, some}
+use lib.IntN.{ℤ}
 use Rattle.integers.specs.Order.{inRange}
 use Rattle.rules.specs.Figures.{magnitudeAtMost}
 use Rattle.rules.specs.Keyed.{Key, find, upsert, upsertAll}

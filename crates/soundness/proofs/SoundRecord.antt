@@ -1,6 +1,6 @@
 -- A sound record, figure by figure, and back to the one test of it. By the laws of `&&`. Assumes nothing.
 use mathlib.Core.Path.{_≡_}
-use mathlib.Core.Bool.{Bool, true}
+use mathlib.Core.Bool.{true}
 use Rattle.rules.specs.Figures.{validId, validSuffix, validAccount, validSeries, validPrice, validSide}
 use Rattle.rules.specs.Rows.{validKind, validStatus, validSignedQuantity, validBooked, validInto, validParent, soundRecord}
 use Rattle.rules.specs.declared.Record.{Record}

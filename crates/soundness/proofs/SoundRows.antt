@@ -1,17 +1,17 @@
 -- The rows that rules make are sound: a new one from its figures, an adjusted, an inverse and an adjustable one from a sound record that they come from.
 -- Cells that are copied are sound as they were; the others by their ranges. Assumes nothing.
-use mathlib.Core.Path.{_≡_, refl, ap, subst}
-use mathlib.Core.Bool.{Bool, true, false}
-use lib.IntN.{ℤ, pos, negℤ}
+use mathlib.Core.Path.{_≡_, refl, subst}
+use mathlib.Core.Bool.{true, false}
+use lib.IntN.{ℤ, pos}
 use lib.Signed.{_≤ℤ_, _<ℤ_}
 use Rattle.integers.specs.Order.{eqZ, inRange}
 use Rattle.integers.proofs.Linear.{zarith}
-use Rattle.rules.specs.Figures.{validId, validSuffix, validAccount, validSeries, validPrice, validSide, validQuantity, mostQuantity, greatestOfSuffixes, adjustable, adjusted, inverse}
+use Rattle.rules.specs.Figures.{magnitudeAtMost, validId, validSuffix, validAccount, validSeries, validPrice, validSide, mostQuantity, greatestOfSuffixes, adjustable, adjusted, inverse}
 use Rattle.rules.specs.Rows.{validKind, validStatus, validSignedQuantity, validBooked, validInto, validParent, soundRecord, adjustedRecord, newRecord, inverseRecord, adjustableRecord}
 use Rattle.rules.specs.Plan.{suffixIsAbove}
 use Rattle.rules.specs.declared.Record.{Record}
 use Rattle.soundness.proofs.SoundRecord.{SoundRecord, sound-record}
-use Rattle.soundness.proofs.FigureRanges.{quantity-range, signed-range, in-signed, inverse-signed, suffix-range, in-suffix, in-parent}
+use Rattle.soundness.proofs.FigureRanges.{signed-range, in-signed, inverse-signed, suffix-range, in-suffix, in-parent}
 
 -- Test 13 does not apply to a row.
 pub suffix-small : (r : Record) → suffixIsAbove r ≡ false → r .suffix ≤ℤ greatestOfSuffixes
@@ -42,6 +42,10 @@ parent-zero = refl
 pub into-zero : validInto (pos 0) ≡ true
 unfolding validInto eqZ
 into-zero = refl
+
+pub nothing-booked : validBooked (pos 0) ≡ true
+unfolding validBooked magnitudeAtMost inRange
+nothing-booked = refl
 
 -- The quantity of a sound record of status 0.
 pub quantity-of : (r : Record) → SoundRecord r → r .status ≡ adjustable → (pos 1 ≤ℤ r .quantity) × (r .quantity ≤ℤ pos mostQuantity)

@@ -1,21 +1,21 @@
 -- An accepted trade on sound books: its one row is new and sound. What it closes lies between 0 and its quantity, since open figures are not negative,
 -- so its booked cells are in range. Assumes nothing.
-use mathlib.Core.Path.{_≡_, refl, sym, _∙_, ap, subst}
-use mathlib.Core.Bool.{Bool, true, false, cond, not, _&&_}
-use mathlib.Core.List.{List, [], _∷_, map}
+use mathlib.Core.Path.{_≡_, refl}
+use mathlib.Core.Bool.{Bool, true, false, cond}
+use mathlib.Core.List.{[]}
 use mathlib.Core.Logic.{_⊎_, inl, inr}
-use mathlib.Core.Option.{Option, none, some}
+use mathlib.Core.Option.{Option, none}
 use borrow.Author.Tests.{not-false}
 use lib.IntN.{ℤ, pos, negℤ, _-ℤ_}
-use lib.Signed.{ltZ, leZ, _≤ℤ_, _<ℤ_}
-use Rattle.integers.specs.Order.{eqZ, inRange}
+use lib.Signed.{leZ, _≤ℤ_}
+use Rattle.integers.specs.Order.{eqZ}
 use Rattle.integers.proofs.Linear.{zarith, neg-lin, minus-lin}
-use Rattle.integers.proofs.Order.{inRange-true, leZ-le, leZ-lt}
+use Rattle.integers.proofs.Order.{inRange-true}
 use Rattle.rules.specs.Figures.{validId, validAccount, validSeries, validSide, validQuantity, validPrice, isBuy, isToClose, mostQuantity}
-use Rattle.rules.specs.Keyed.{isSome, find, greatest}
-use Rattle.rules.specs.Rows.{keyOf, recordKey, positionKey, newRecord, moved, soundRecord, soundPosition, validKind, validBooked}
-use Rattle.rules.specs.Refusal.{test, allOf}
-use Rattle.rules.specs.Request.{Request, trade}
+use Rattle.rules.specs.Keyed.{greatest}
+use Rattle.rules.specs.Rows.{recordKey, positionKey, newRecord, moved, soundRecord, soundPosition, validKind, validBooked}
+use Rattle.rules.specs.Refusal.{test}
+use Rattle.rules.specs.Request.{trade}
 use Rattle.rules.specs.Books.{Books, viewOf}
 use Rattle.rules.specs.Handle.{planOf}
 use Rattle.rules.specs.Trade.{tradeFigures, openAgainst, smaller, closedBy, longBooked, shortBooked, isClosingError, tradeKind, tradeReply, tradePlan}
@@ -31,7 +31,7 @@ use Rattle.soundness.proofs.Accepted.{own-passed, both}
 use Rattle.soundness.proofs.ReadPosition.{readAt, read-sound}
 use Rattle.soundness.proofs.FigureRanges.{quantity-range, in-booked}
 use Rattle.soundness.proofs.SoundRows.{new-sound}
-use Rattle.soundness.proofs.BookingFacts.{BookingFacts, PlanFacts}
+use Rattle.soundness.proofs.BookingFacts.{PlanFacts}
 
 -- ---- what it has passed
 

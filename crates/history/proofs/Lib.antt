@@ -1,0 +1,17 @@
+pub mod Places
+pub mod Replay
+pub mod Named
+pub mod Refusals
+pub mod Locality
+pub mod Effects
+pub mod OwnKeys
+pub mod Unseen
+pub mod Room
+pub mod SoundnessLaws
+pub mod Exchange
+pub mod Accepted
+pub mod Step
+pub mod TableExchange
+pub mod Demand3
+pub mod ByPlaces
+pub mod Samples

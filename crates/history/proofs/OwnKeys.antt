@@ -1,0 +1,164 @@
+-- Keys only: an accepted request puts rows of no other ids and positions than it names. For each kind of request; a named record has the id that it was asked by, and
+-- refusal 5 says that it is there. Assumes nothing.
+--
+-- What a new kind of request has to bring for demand 3: a clause of `local` (Locality), that its plan is the same in views that agree where it looks; a clause of `own-rows` below;
+-- and in the crate soundness that it adds as many rows as tests 14 and 15 counted and leaves sound books sound. All else is proved once, for every plan. A request that touches
+-- every other is never exchanged: none of these is asked of it, and they are then stated of the other kinds.
+use mathlib.Core.Path.{_≡_, refl, sym, _∙_, ap, subst}
+use mathlib.Core.Bool.{Bool, true, false, not}
+use mathlib.Core.List.{List, [], _∷_, _++_, map}
+use mathlib.Core.Option.{Option, none, some}
+use lib.IntN.{ℤ, pos, _+ℤ_}
+use borrow.Author.Tests.{not-false}
+use Rattle.rules.specs.Keyed.{Key, isSome, find}
+use Rattle.rules.specs.Rows.{keyOf, recordKey, positionKey, orZeros, zeroPosition, moved, adjustedRecord, inverseRecord, adjustableRecord, newRecord}
+use Rattle.rules.specs.NamedRecord.{theRecord, nextSuffix}
+use Rattle.rules.specs.Refusal.{firstRefusal, anyOf}
+use Rattle.rules.specs.Request.{Request, trade, separate, transfer, merge, lineage}
+use Rattle.rules.specs.Books.{Books, View, viewOf}
+use Rattle.rules.specs.Plan.{Effects}
+use Rattle.rules.specs.Trade.{tradePlan}
+use Rattle.rules.specs.Separation.{separationPlan, partRecords}
+use Rattle.rules.specs.Transfer.{transferPlan}
+use Rattle.rules.specs.Merge.{Source, mergePlan, sourcesOf, pairsOf, isAmong, isMissing, recordsOf, mergeInverses, mergedRecord}
+use Rattle.rules.specs.Lineage.{lineagePlan}
+use Rattle.rules.specs.Touching.{idsOf, positionsOf, isNamedIn}
+use Rattle.rules.specs.Handle.{planOf}
+use Rattle.rules.specs.declared.Record.{Record}
+use Rattle.rules.specs.declared.Position.{Position}
+use Rattle.keys.proofs.Clauses.{allOf-nil}
+use Rattle.keys.proofs.Lookup.{find-key}
+use Rattle.keys.proofs.Counts.{isSome-present}
+use Rattle.keys.proofs.Folds.{Only, only-intro}
+use Rattle.history.proofs.Named.{named-here, named-later, among-here, among-later}
+use Rattle.history.proofs.Refusals.{test-passes, rest-passes, each-passes, any-head, any-tail}
+use Rattle.history.proofs.Effects.{effectsOf, ownTests}
+
+-- What is seen under a key has that key.
+pub record TrueToKeys (v : View) : Type 0 where
+  pub record-id : (id suffix : ℤ) (x : Record) → v .recordAt id suffix ≡ some x → x .id ≡ id
+  pub position-key : (account series : ℤ) → positionKey (v .positionAt account series) ≡ keyOf account series
+
+zeros-key : (account series : ℤ) (o : Option Position) → ((p : Position) → o ≡ some p → positionKey p ≡ keyOf account series) →
+    positionKey (orZeros account series o) ≡ keyOf account series
+unfolding orZeros zeroPosition
+zeros-key account series none h = refl
+zeros-key account series (some p) h = h p refl
+
+pub view-true : (b : Books) → TrueToKeys (viewOf b)
+unfolding viewOf
+view-true b = record {
+    record-id = λ id suffix x h. ap (λ (k : Key). k .major) (find-key recordKey (keyOf id suffix) (b .records) x h);
+    position-key = λ account series.
+        zeros-key account series (find positionKey (keyOf account series) (b .positions)) (λ p h. find-key positionKey (keyOf account series) (b .positions) p h) }
+
+-- The rows of these effects have ids and positions that the request names.
+pub record OwnKeys (r : Request) (e : Effects) : Type 0 where
+  pub records : Only recordKey (λ (k : Key). isNamedIn (k .major) (idsOf r)) (e .changed ++ e .added)
+  pub positions : Only positionKey (λ (k : Key). isAmong k (positionsOf r)) (e .positions)
+
+-- The id of the named record, where refusal 5 does not apply.
+named-id : (id : ℤ) (o : Option Record) → ((x : Record) → o ≡ some x → x .id ≡ id) → not (isSome o) ≡ false → theRecord o .id ≡ id
+unfolding theRecord
+named-id id o h f =
+    let w : (x : Record) × (o ≡ some x) = isSome-present o (not-false (isSome o) f) in
+    ap (λ (p : Option Record). theRecord p .id) (w .1) ∙ h (w .0) (w .1)
+
+-- Each row's key has the property, row by row.
+data Each {Row : Type 0} (key : Row → Key) (p : Key → Bool) : List Row → Type 0 where
+  done : Each key p []
+  row : {r : Row} {rest : List Row} → p (key r) ≡ true → Each key p rest → Each key p (r ∷ rest)
+
+each-only : {Row : Type 0} (key : Row → Key) (p : Key → Bool) {rs : List Row} → Each key p rs → Only key p rs
+each-only key p done = allOf-nil
+each-only key p (row {r = r} {rest = rest} h k) = only-intro key p r rest h (each-only key p k)
+
+each-append : {Row : Type 0} (key : Row → Key) (p : Key → Bool) {xs ys : List Row} → Each key p xs → Each key p ys → Each key p (xs ++ ys)
+each-append key p done k = k
+each-append key p (row h more) k = row h (each-append key p more k)
+
+abbrev EachId : List ℤ → List Record → Type 0
+EachId ids rs = Each recordKey (λ (k : Key). isNamedIn (k .major) ids) rs
+
+parts-own : (ids : List ℤ) (r : Record) (suffix : ℤ) (parts : List ℤ) → isNamedIn (r .id) ids ≡ true → EachId ids (partRecords r suffix parts)
+unfolding partRecords adjustableRecord
+parts-own ids r suffix [] h = done
+parts-own ids r suffix (q ∷ rest) h = row h (parts-own ids r (suffix +ℤ pos 1) rest h)
+
+record OwnRows (r : Request) (e : Effects) : Type 0 where
+  records : EachId (idsOf r) (e .changed ++ e .added)
+  positions : Each positionKey (λ (k : Key). isAmong k (positionsOf r)) (e .positions)
+
+-- The sources of a merge are of named ids.
+data NamedSources (ids : List ℤ) : List Source → Type 0 where
+  no-source : NamedSources ids []
+  source : {s : Source} {rest : List Source} → isNamedIn (theRecord (s .found) .id) ids ≡ true → NamedSources ids rest → NamedSources ids (s ∷ rest)
+
+changed-own : (ids : List ℤ) {sources : List Source} → NamedSources ids sources → EachId ids (map adjustedRecord (recordsOf sources))
+unfolding recordsOf adjustedRecord
+changed-own ids no-source = done
+changed-own ids (source h k) = row h (changed-own ids k)
+
+inverses-own : (ids : List ℤ) (into : ℤ) (earlier : List ℤ) {sources : List Source} → NamedSources ids sources → EachId ids (mergeInverses into earlier sources)
+unfolding mergeInverses inverseRecord
+inverses-own ids into earlier no-source = done
+inverses-own ids into earlier (source {s = s} h k) = row h (inverses-own ids into (s .pair .major ∷ earlier) k)
+
+module _ (v : View) (true-to : TrueToKeys v) where
+
+  named-sources : (ids : List ℤ) (ks : List Key) → ((id : ℤ) → isNamedIn id (map (λ (k : Key). k .major) ks) ≡ true → isNamedIn id ids ≡ true) →
+      anyOf (map isMissing (sourcesOf v ks)) ≡ false → NamedSources ids (sourcesOf v ks)
+  unfolding sourcesOf isMissing
+  named-sources ids [] n h = no-source
+  named-sources ids (k ∷ rest) n h =
+      source
+      (subst (λ (id : ℤ). isNamedIn id ids ≡ true)
+        (sym (named-id (k .major) (v .recordAt (k .major) (k .minor)) (true-to .record-id (k .major) (k .minor)) (any-head _ _ h)))
+        (n (k .major) (named-here (k .major) (map (λ (x : Key). x .major) rest))))
+      (named-sources ids rest (λ id w. n id (named-later id (k .major) (map (λ (x : Key). x .major) rest) w)) (any-tail _ _ h))
+
+  -- The position of a key that is among these.
+  among-seen : (account series : ℤ) (ks : List Key) → isAmong (keyOf account series) ks ≡ true → isAmong (positionKey (v .positionAt account series)) ks ≡ true
+  among-seen account series ks h = subst (λ (k : Key). isAmong k ks ≡ true) (sym (true-to .position-key account series)) h
+
+  named-seen : (id suffix : ℤ) → not (isSome (v .recordAt id suffix)) ≡ false → isNamedIn (theRecord (v .recordAt id suffix) .id) (id ∷ []) ≡ true
+  named-seen id suffix f =
+      subst (λ (x : ℤ). isNamedIn x (id ∷ []) ≡ true) (sym (named-id id (v .recordAt id suffix) (true-to .record-id id suffix) f)) (named-here id [])
+
+  -- Each kind's rows, where its own tests pass.
+  own-rows : (r : Request) → firstRefusal (ownTests (planOf v r)) ≡ none → OwnRows r (effectsOf (planOf v r))
+  unfolding planOf idsOf positionsOf tradePlan separationPlan transferPlan mergePlan lineagePlan newRecord adjustedRecord inverseRecord adjustableRecord mergedRecord moved
+  own-rows (trade id account series side quantity price) h = record {
+      records = row (named-here id []) done;
+      positions = row (among-seen account series (keyOf account series ∷ []) (among-here (keyOf account series) [])) done }
+  own-rows (separate id suffix account series parts) h =
+      let n : isNamedIn (theRecord (v .recordAt id suffix) .id) (id ∷ []) ≡ true = named-seen id suffix (test-passes 5 _ _ (rest-passes _ _ h)) in
+      record {
+          records = row n (row n (parts-own (id ∷ []) (theRecord (v .recordAt id suffix)) (nextSuffix (v .greatestSuffix id) +ℤ pos 1) parts n));
+          positions = done }
+  own-rows (transfer id suffix from to series) h =
+      let n : isNamedIn (theRecord (v .recordAt id suffix) .id) (id ∷ []) ≡ true = named-seen id suffix (test-passes 5 _ _ (rest-passes _ _ h)) in
+      let ks : List Key = keyOf from series ∷ keyOf to series ∷ [] in
+      record {
+          records = row n (row n (row n done));
+          positions =
+              row (among-seen from series ks (among-here (keyOf from series) (keyOf to series ∷ [])))
+              (row (among-seen to series ks (among-later (keyOf to series) (keyOf from series) (keyOf to series ∷ []) (among-here (keyOf to series) []))) done) }
+  own-rows (merge id account series pairs) h =
+      let ids : List ℤ = id ∷ map (λ (k : Key). k .major) (pairsOf pairs) in
+      let sources : List Source = sourcesOf v (pairsOf pairs) in
+      let p : Key → Bool = λ (k : Key). isNamedIn (k .major) ids in
+      let n : NamedSources ids sources =
+          named-sources ids (pairsOf pairs) (λ x w. named-later x id (map (λ (k : Key). k .major) (pairsOf pairs)) w)
+          (each-passes 5 _ _ (rest-passes _ _ (rest-passes _ _ h))) in
+      record {
+          records =
+              each-append recordKey p (changed-own ids n)
+              (each-append recordKey p (inverses-own ids id [] n) (row (named-here id (map (λ (k : Key). k .major) (pairsOf pairs))) done));
+          positions = row (among-seen account series (keyOf account series ∷ []) (among-here (keyOf account series) [])) done }
+  own-rows (lineage id suffix) h = record { records = done; positions = done }
+
+  pub own-keys : (r : Request) → firstRefusal (ownTests (planOf v r)) ≡ none → OwnKeys r (effectsOf (planOf v r))
+  own-keys r h = record {
+      records = each-only recordKey (λ (k : Key). isNamedIn (k .major) (idsOf r)) (own-rows r h .records);
+      positions = each-only positionKey (λ (k : Key). isAmong k (positionsOf r)) (own-rows r h .positions) }

@@ -1,0 +1,32 @@
+-- The facts of every kind of request on sound books, where it is accepted. A new kind adds a line. Assumes nothing.
+use mathlib.Core.Path.{_≡_, refl}
+use mathlib.Core.Option.{Option, none, some}
+use lib.IntN.{ℤ, pos}
+use Rattle.rules.specs.Request.{Request, trade, separate, transfer, merge, lineage}
+use Rattle.rules.specs.Books.{Books}
+use Rattle.rules.specs.Handle.{planOf}
+use Rattle.rules.specs.Lineage.{Origin, lineageReply, lineagePlan}
+use Rattle.soundness.specs.SoundBooks.{SoundBooks, planOn, Accepts}
+use Rattle.soundness.specs.RowsAnswered.{rowsAnswered}
+use Rattle.soundness.proofs.BookingFacts.{PlanFacts}
+use Rattle.soundness.proofs.Trade.{trade-facts}
+use Rattle.soundness.proofs.Separation.{separation-facts}
+use Rattle.soundness.proofs.Transfer.{transfer-facts}
+use Rattle.soundness.proofs.Merge.{merge-facts}
+
+-- Lineage answers no rows.
+no-rows : (o : Option Origin) → rowsAnswered (lineageReply o) ≡ pos 0
+unfolding lineageReply
+no-rows none = refl
+no-rows (some o) = refl
+
+lineage-facts : (b : Books) (id suffix : ℤ) → PlanFacts b (planOn b (lineage id suffix))
+unfolding planOf lineagePlan
+lineage-facts b id suffix = no-rows _
+
+pub plan-facts : (b : Books) → SoundBooks b → (r : Request) → Accepts b r → PlanFacts b (planOn b r)
+plan-facts b sound (trade id account series side quantity price) a = trade-facts b sound id account series side quantity price a
+plan-facts b sound (separate id suffix account series parts) a = separation-facts b sound id suffix account series parts a
+plan-facts b sound (transfer id suffix from to series) a = transfer-facts b sound id suffix from to series a
+plan-facts b sound (merge id account series pairs) a = merge-facts b sound id account series pairs a
+plan-facts b sound (lineage id suffix) a = lineage-facts b id suffix
