@@ -1,0 +1,143 @@
+// The ranges of document 01, "Figures and their ranges", and of the rows' cells.
+ghost use mathlib.Core.Path.{_≡_};
+ghost use Prim.Native.Nat.{_≤_};
+ghost use lib.IntN.{pos, negℤ};
+ghost use Rattle.integers.specs.Order.{inRange};
+ghost use Rattle.rules.specs.Figures.{validId, validSuffix, validAccount, validSeries, validQuantity, validPrice, validSide, isBuy, isToClose};
+ghost use Rattle.rules.specs.Rows.{validKind, validStatus, validSignedQuantity, validBooked, validInto, validParent};
+
+pub fn in_range(low: i64, high: i64, z: i64) -> bool
+    ensures { λ r. ⌜ r ≡ inRange low high z ⌝ }
+{
+    if z < low {
+        return false;
+    }
+    z <= high
+}
+
+pub fn valid_id(z: i64) -> bool
+    ensures { λ r. ⌜ r ≡ validId z ⌝ }
+{
+    in_range(1, 999_999_999, z)
+}
+
+pub fn valid_suffix(z: i64) -> bool
+    ensures { λ r. ⌜ r ≡ validSuffix z ⌝ }
+{
+    in_range(0, 65_535, z)
+}
+
+pub fn valid_account(z: i64) -> bool
+    ensures { λ r. ⌜ r ≡ validAccount z ⌝ }
+{
+    in_range(1, 9_999, z)
+}
+
+pub fn valid_series(z: i64) -> bool
+    ensures { λ r. ⌜ r ≡ validSeries z ⌝ }
+{
+    in_range(1, 999_999, z)
+}
+
+pub fn valid_quantity(z: i64) -> bool
+    ensures { λ r. ⌜ r ≡ validQuantity z ⌝ }
+{
+    in_range(1, 1_000_000, z)
+}
+
+pub fn valid_price(z: i64) -> bool
+    ensures { λ r. ⌜ r ≡ validPrice z ⌝ }
+{
+    in_range(-1_000_000_000_000, 1_000_000_000_000, z)
+}
+
+pub fn valid_side(z: i64) -> bool
+    ensures { λ r. ⌜ r ≡ validSide z ⌝ }
+{
+    in_range(1, 4, z)
+}
+
+pub fn is_buy(side: i64) -> bool
+    ensures { λ r. ⌜ r ≡ isBuy side ⌝ }
+{
+    if side == 1 {
+        return true;
+    }
+    side == 3
+}
+
+pub fn is_to_close(side: i64) -> bool
+    ensures { λ r. ⌜ r ≡ isToClose side ⌝ }
+{
+    if side == 3 {
+        return true;
+    }
+    side == 4
+}
+
+pub fn valid_kind(z: i64) -> bool
+    ensures { λ r. ⌜ r ≡ validKind z ⌝ }
+{
+    if z == 0 {
+        return true;
+    }
+    if z == 4 {
+        return true;
+    }
+    if z == 6 {
+        return true;
+    }
+    if z == 10 {
+        return true;
+    }
+    z == 901
+}
+
+pub fn valid_status(z: i64) -> bool
+    ensures { λ r. ⌜ r ≡ validStatus z ⌝ }
+{
+    in_range(0, 2, z)
+}
+
+// Not zero, at most 1,000,000 in magnitude, and negative exactly in an inverse.
+pub fn valid_signed_quantity(status: i64, q: i64) -> bool
+    ensures { λ r. ⌜ r ≡ validSignedQuantity status q ⌝ }
+{
+    if q == 0 {
+        return false;
+    }
+    if !in_range(-1_000_000, 1_000_000, q) {
+        return false;
+    }
+    if q < 0 {
+        return status == 2;
+    }
+    status != 2
+}
+
+pub fn valid_booked(z: i64) -> bool
+    ensures { λ r. ⌜ r ≡ validBooked z ⌝ }
+{
+    in_range(-1_000_000, 1_000_000, z)
+}
+
+pub fn valid_into(z: i64) -> bool
+    ensures { λ r. ⌜ r ≡ validInto z ⌝ }
+{
+    if z == 0 {
+        return true;
+    }
+    valid_id(z)
+}
+
+pub fn valid_parent(parent: i64, suffix: i64) -> bool
+    ensures { λ r. ⌜ r ≡ validParent parent suffix ⌝ }
+{
+    if parent < suffix {
+        return true;
+    }
+    if parent != 0 {
+        return false;
+    }
+    suffix == 0
+}

@@ -1,0 +1,4 @@
+pub mod ReadBack
+pub mod Room
+pub mod RowsScan
+pub mod TableScan

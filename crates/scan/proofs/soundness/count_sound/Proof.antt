@@ -1,0 +1,62 @@
+-- `scan::soundness::count_sound` meets its contract: without a cell 0 the count is not sound, and with one it is tested against the room.
+-- Assumes nothing.
+use Prim.Native.Nat.{_<_, _^_}
+use native.Mathlib.Omega.{arith}
+use mathlib.Core.Path.{_≡_, ap, _∙_}
+use borrow.Author.Needs.{needs}
+use lib.IntN.{pos}
+use lib.ListN.{length, getD}
+use mir.Facts.{toZ-pos}
+use mir.Syntax.{w64}
+use mir.Val.{toZ}
+use Rattle.integers.proofs.Linear.{zarith}
+use Rattle.scan.specs.Count.{roomFor}
+use Rattle.scan.proofs.ReadBack.{read-back}
+use Rattle.scan.proofs.Room.{room-at-most, no-count, count-in-range}
+use Rattle.scan.proofs.soundness.count_sound.Statement.{statement}
+use Rattle.scan.proofs.soundness.count_sound.Tie as tie
+
+room : (c : tie.After-room-for) → c .room-for .result ≡ roomFor (c .before .before .args .width) (c .before .before .args .most) (length (c .before .before .args .cells .now))
+room c = c .room-for .ensures
+
+room-small : (c : tie.After-room-for) → c .room-for .result < 2 ^ 63
+room-small c =
+    let s : tie.Start = c .before .before in
+    omega (arith, room c, room-at-most (s .args .width) (s .args .most) (length (s .args .cells .now)), s .pre .1)
+
+room-back : (c : tie.After-room-for)
+    → toZ w64 (c .room-for .result) ≡ pos (roomFor (c .before .before .args .width) (c .before .before .args .most) (length (c .before .before .args .cells .now)))
+room-back c = toZ-pos w64 (room-small c) ∙ ap pos (room c)
+
+returns : tie.Need-returns
+returns c = no-count _ _ _ (c .if1 .taken)
+
+room-for-requires : tie.Need-room-for-requires
+room-for-requires c κs = search needs
+
+cast-room : tie.Need-cast-room
+cast-room c = omega (zarith, room-small c)
+
+shared-slice-copy-out-in-range : tie.Need-shared-slice-copy-out-in-range
+shared-slice-copy-out-in-range c = search needs
+
+in-range-requires : tie.Need-in-range-requires
+in-range-requires c κs = search needs
+
+returns-2 : tie.Need-returns-2
+returns-2 c =
+    let a : tie.After-room-for = c .before .before in
+    let s : tie.Start = a .before .before in
+    (simp (room-back a, read-back (getD (s .args .cells .now) 0 (pos 0)) (c .before .in-range-arg .given)) at (c .in-range .ensures))
+    ∙ count-in-range (s .args .width) (s .args .most) (s .args .cells .now) (omega arith)
+
+pub count-sound-spec : {M : Type 1} → statement M
+count-sound-spec =
+    tie.close
+    (tie.spec
+    returns
+    room-for-requires
+    cast-room
+    shared-slice-copy-out-in-range
+    in-range-requires
+    returns-2)

@@ -1,0 +1,67 @@
+// A row read into its struct, and a row's cells.
+use rules::Position;
+use rules::Record;
+ghost use mathlib.Core.Path.{_≡_};
+ghost use Prim.Native.Nat.{_+_, _≤_};
+ghost use lib.ListN.{length};
+ghost use Rattle.rules.specs.Tables.{recordAt, recordCells, positionAt, positionCells};
+
+pub fn record_at(cells: &[i64], at: usize) -> Record
+    requires { ⌜ at + 13 ≤ length (now cells) ⌝ }
+    ensures { λ r. ⌜ r ≡ recordAt (now (cells .entry)) at ⌝ }
+{
+    Record {
+        id: cells[at],
+        suffix: cells[at + 1],
+        parent: cells[at + 2],
+        kind: cells[at + 3],
+        status: cells[at + 4],
+        account: cells[at + 5],
+        series: cells[at + 6],
+        side: cells[at + 7],
+        quantity: cells[at + 8],
+        price: cells[at + 9],
+        long: cells[at + 10],
+        short: cells[at + 11],
+        into: cells[at + 12],
+    }
+}
+
+pub fn position_at(cells: &[i64], at: usize) -> Position
+    requires { ⌜ at + 5 ≤ length (now cells) ⌝ }
+    ensures { λ r. ⌜ r ≡ positionAt (now (cells .entry)) at ⌝ }
+{
+    Position {
+        account: cells[at],
+        series: cells[at + 1],
+        long: cells[at + 2],
+        short: cells[at + 3],
+        cash: cells[at + 4],
+    }
+}
+
+pub fn record_cells(r: Record) -> [i64; 13]
+    ensures { λ c. ⌜ c ≡ recordCells r ⌝ }
+{
+    [
+        r.id,
+        r.suffix,
+        r.parent,
+        r.kind,
+        r.status,
+        r.account,
+        r.series,
+        r.side,
+        r.quantity,
+        r.price,
+        r.long,
+        r.short,
+        r.into,
+    ]
+}
+
+pub fn position_cells(p: Position) -> [i64; 5]
+    ensures { λ c. ⌜ c ≡ positionCells p ⌝ }
+{
+    [p.account, p.series, p.long, p.short, p.cash]
+}

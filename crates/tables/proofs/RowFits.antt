@@ -1,0 +1,55 @@
+-- What the shifter asks before a row is put into a sound table: the place is one of the table's, and the cells are there. Over any lawful layout. Assumes nothing.
+use Prim.Native.Nat.{ℕ, suc, _+_, _*_, _≤_, _<_}
+use native.Mathlib.Nat.{mul-le-mul-right}
+use native.Mathlib.Omega.{arith}
+use mathlib.Core.Path.{_≡_, sym, ap, subst, _∙_}
+use mathlib.Core.Bool.{Bool}
+use mathlib.Core.List.{List, [], _∷_}
+use mathlib.Core.Option.{none}
+use lib.IntN.{ℤ, natAbs}
+use lib.ListN.{length}
+use Rattle.rules.specs.Keyed.{Key, find, absentFrom}
+use Rattle.rules.specs.Layout.{Layout, countOf, roomOf, rowsOf}
+use Rattle.cells.specs.Lawful.{Lawful}
+use Rattle.cells.specs.SoundTable.{SoundTable}
+use Rattle.cells.proofs.Count.{length-rowsOf, room-most, fits-cells}
+use Rattle.keys.proofs.Clauses.{absentFrom-nil, absentFrom-new}
+use Rattle.lookup.specs.Lookup.{rowFound, rowPlace}
+use Rattle.lookup.specs.declared.Found.the-variants.{Row, Absent}
+use Rattle.lookup.proofs.TableLookup.{KeyFirst, table-found, table-absent, table-place}
+
+-- A lookup over the counted rows that answers no row: the rules find none.
+pub absent-row : {A : Type 0} (l : Layout A) (key : A → Key) (first : KeyFirst l key) (cells : List ℤ) (k : Key) (n : ℕ) → n ≡ length (rowsOf l cells)
+    → Absent ≡ rowFound (l .width) k n cells → find key k (rowsOf l cells) ≡ none
+absent-row l key first cells k n count f =
+    table-absent l key first cells k (ap (λ (m : ℕ). rowFound (l .width) k m cells) (sym (count ∙ length-rowsOf l cells)) ∙ sym f)
+
+-- Room for the rows and an absent one.
+pub room-for-one : {A : Type 0} (key : A → Key) (new : A) (rows : List A) {room : ℕ} → find key (key new) rows ≡ none
+    → length rows + absentFrom key rows (new ∷ []) ≤ room → length rows < room
+room-for-one key new rows absent fits = omega (arith, absentFrom-new key rows new [] absent, absentFrom-nil key rows)
+
+module _ {A : Type 0} (l : Layout A) (lawful : Lawful l) (key : A → Key) (first : KeyFirst l key) (soundRow : A → Bool)
+    (cells : List ℤ) (table : SoundTable l key soundRow cells) (n : ℕ) (count : n ≡ length (rowsOf l cells)) (k : Key)
+    (row : List ℤ) (new : A) (cells-of : row ≡ l .put new) where
+
+  counted : n ≡ natAbs (countOf cells)
+  counted = count ∙ length-rowsOf l cells
+
+  wide : l .width ≡ length row
+  wide = sym (ap length cells-of ∙ lawful .put-length new)
+
+  pub insertion-fits : l .most ≤ 4096 → length (rowsOf l cells) < roomOf l cells → (place : ℕ) → place ≡ rowPlace (l .width) k n cells
+    → (place ≤ n) × (1 + suc n * length row ≤ length cells) × (n < 4096)
+  insertion-fits small room place at =
+      let placed : place ≡ rowPlace (l .width) k (natAbs (countOf cells)) cells = at ∙ ap (λ (m : ℕ). rowPlace (l .width) k m cells) counted in
+      let more : suc n ≤ roomOf l cells = omega arith in
+      (omega (arith, table-place l key first cells k),
+        subst (λ (w : ℕ). 1 + suc n * w ≤ length cells) wide (fits-cells l lawful cells (suc n) (table .count-cell) more),
+        omega (arith, room-most l cells))
+
+  pub replacement-fits : (at : ℕ) → Row at ≡ rowFound (l .width) k n cells → 1 + suc at * length row ≤ length cells
+  replacement-fits at f =
+      let below : at < length (rowsOf l cells)
+            = table-found l key first cells k at (ap (λ (m : ℕ). rowFound (l .width) k m cells) (sym counted) ∙ sym f) .0 in
+      subst (λ (w : ℕ). 1 + suc at * w ≤ length cells) wide (omega (arith, table .rows-within, mul-le-mul-right (l .width) below))

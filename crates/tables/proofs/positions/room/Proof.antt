@@ -1,0 +1,15 @@
+-- `tables::positions::room` meets its contract: the layout's width and greatest room. Assumes nothing.
+use mathlib.Core.Path.{_∙_}
+use borrow.Author.Needs.{needs}
+use Rattle.scan.proofs.Room.{positions-room}
+use Rattle.tables.proofs.positions.room.Statement.{statement}
+use Rattle.tables.proofs.positions.room.Tie as tie
+
+room-for-requires : tie.Need-room-for-requires
+room-for-requires c κs = search needs
+
+returns : tie.Need-returns
+returns c = c .room-for .ensures ∙ positions-room (c .before .args .cells .now)
+
+pub room-spec : {M : Type 1} → statement M
+room-spec = tie.close (tie.spec room-for-requires returns)

@@ -1,0 +1,3 @@
+// Code on the two lent tables: the rows found, read, added and changed. Every function equals a definition of the rules.
+pub mod records; // the records table, once it is sound
+pub mod positions; // the positions table, once it is sound

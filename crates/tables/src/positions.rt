@@ -1,0 +1,69 @@
+// The positions table, once it passes test 2: its rows, its lookup, and its changes.
+use lookup::Found;
+use scan::rows;
+use rules::Position;
+ghost use mathlib.Core.Path.{_≡_};
+ghost use mathlib.Core.Bool.{true};
+ghost use mathlib.Core.List.{_∷_, []};
+ghost use Prim.Native.Nat.{_+_, _≤_};
+ghost use lib.ListN.{length};
+ghost use Rattle.rules.specs.Keyed.{find, upsert, absentFrom};
+ghost use Rattle.rules.specs.Rows.{keyOf, positionKey, soundPosition, orZeros};
+ghost use Rattle.rules.specs.Layout.{roomOf, rowsOf, write};
+ghost use Rattle.rules.specs.Tables.{positionsLayout, soundPositions};
+ghost use Rattle.lookup.specs.Lookup.{positionFound};
+
+pub fn count(cells: &[i64]) -> usize
+    requires { ⌜ soundPositions (now cells) ≡ true ⌝ }
+    ensures { λ r. ⌜ r ≡ length (rowsOf positionsLayout (now (cells .entry))) ⌝ }
+{
+    cells[0] as usize
+}
+
+pub fn room(cells: &[i64]) -> usize
+    ensures { λ r. ⌜ r ≡ roomOf positionsLayout (now (cells .entry)) ⌝ }
+{
+    scan::soundness::room_for(5, 1024, cells.len())
+}
+
+pub fn find_position(cells: &[i64], account: i64, series: i64) -> Found
+    requires { ⌜ soundPositions (now cells) ≡ true ⌝ }
+    ensures { λ r. ⌜ r ≡ positionFound (now (cells .entry)) account series ⌝ }
+{
+    lookup::find_row(cells, count(cells), 5, account, series)
+}
+
+// The position of an account and series; zeros where it has no row.
+pub fn position_of(cells: &[i64], account: i64, series: i64) -> Position
+    requires { ⌜ soundPositions (now cells) ≡ true ⌝ }
+    ensures { λ r. ⌜ r ≡ orZeros account series (find positionKey (keyOf account series) (rowsOf positionsLayout (now (cells .entry)))) ⌝ }
+{
+    match find_position(cells, account, series) {
+        Found::Row(row) => rows::position_at(cells, 1 + row * 5),
+        Found::Absent => Position {
+            account,
+            series,
+            long: 0,
+            short: 0,
+            cash: 0,
+        },
+    }
+}
+
+// The row of its key written anew, or made where it belongs.
+pub fn put_position(cells: &mut [i64], p: Position)
+    requires { ⌜ (soundPositions (now cells) ≡ true) × (soundPosition p ≡ true) × (length (rowsOf positionsLayout (now cells)) + absentFrom positionKey (rowsOf positionsLayout (now cells)) (p ∷ []) ≤ roomOf positionsLayout (now cells)) ⌝ }
+    ensures { λ done. ⌜ (now (cells .exit) ≡ write positionsLayout (now (cells .entry)) (upsert positionKey p (rowsOf positionsLayout (now (cells .entry))))) × (soundPositions (now (cells .exit)) ≡ true) ⌝ }
+{
+    let account = p.account;
+    let series = p.series;
+    let n = count(cells);
+    let row = rows::position_cells(p);
+    match lookup::find_row(cells, n, 5, account, series) {
+        Found::Row(at) => shifter::replace_row(cells, at, &row),
+        Found::Absent => {
+            let place = lookup::place_of(cells, n, 5, account, series);
+            shifter::insert_row(cells, n, place, &row);
+        }
+    }
+}

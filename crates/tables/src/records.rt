@@ -1,0 +1,73 @@
+// The records table, once it passes test 1: its rows, its lookup, and its changes.
+use lookup::Found;
+use lookup::Greatest;
+use scan::rows;
+use rules::Record;
+ghost use mathlib.Core.Path.{_≡_};
+ghost use mathlib.Core.Bool.{true};
+ghost use mathlib.Core.Option.{none};
+ghost use Prim.Native.Nat.{_+_, _*_, _<_};
+ghost use lib.IntN.{pos};
+ghost use lib.ListN.{length};
+ghost use Rattle.rules.specs.Keyed.{find, upsert};
+ghost use Rattle.rules.specs.Rows.{recordKey, soundRecord, adjustedRecord};
+ghost use Rattle.rules.specs.Layout.{roomOf, rowsOf, write};
+ghost use Rattle.rules.specs.Tables.{recordAt, recordsLayout, soundRecords};
+ghost use Rattle.lookup.specs.Lookup.{recordFound, suffixGreatest};
+
+pub fn count(cells: &[i64]) -> usize
+    requires { ⌜ soundRecords (now cells) ≡ true ⌝ }
+    ensures { λ r. ⌜ r ≡ length (rowsOf recordsLayout (now (cells .entry))) ⌝ }
+{
+    cells[0] as usize
+}
+
+// How many rows there is room for.
+pub fn room(cells: &[i64]) -> usize
+    ensures { λ r. ⌜ r ≡ roomOf recordsLayout (now (cells .entry)) ⌝ }
+{
+    scan::soundness::room_for(13, 4096, cells.len())
+}
+
+pub fn find_record(cells: &[i64], id: i64, suffix: i64) -> Found
+    requires { ⌜ soundRecords (now cells) ≡ true ⌝ }
+    ensures { λ r. ⌜ r ≡ recordFound (now (cells .entry)) id suffix ⌝ }
+{
+    lookup::find_row(cells, count(cells), 13, id, suffix)
+}
+
+pub fn greatest_suffix(cells: &[i64], id: i64) -> Greatest
+    requires { ⌜ soundRecords (now cells) ≡ true ⌝ }
+    ensures { λ r. ⌜ r ≡ suffixGreatest (now (cells .entry)) id ⌝ }
+{
+    lookup::greatest_of(cells, count(cells), 13, id)
+}
+
+// Row `row`, from 0.
+pub fn read_record(cells: &[i64], row: usize) -> Record
+    requires { ⌜ (soundRecords (now cells) ≡ true) × (row < length (rowsOf recordsLayout (now cells))) ⌝ }
+    ensures { λ r. ⌜ r ≡ recordAt (now (cells .entry)) (1 + row * 13) ⌝ }
+{
+    rows::record_at(cells, 1 + row * 13)
+}
+
+// A new row, where its key belongs.
+pub fn insert_record(cells: &mut [i64], r: Record)
+    requires { ⌜ (soundRecords (now cells) ≡ true) × (soundRecord r ≡ true) × (find recordKey (recordKey r) (rowsOf recordsLayout (now cells)) ≡ none) × (length (rowsOf recordsLayout (now cells)) < roomOf recordsLayout (now cells)) ⌝ }
+    ensures { λ done. ⌜ (now (cells .exit) ≡ write recordsLayout (now (cells .entry)) (upsert recordKey r (rowsOf recordsLayout (now (cells .entry))))) × (soundRecords (now (cells .exit)) ≡ true) ⌝ }
+{
+    let n = count(cells);
+    let id = r.id;
+    let suffix = r.suffix;
+    let place = lookup::place_of(cells, n, 13, id, suffix);
+    let row = rows::record_cells(r);
+    shifter::insert_row(cells, n, place, &row);
+}
+
+// Status 1 in row `row`, which is adjustable.
+pub fn adjust_record(cells: &mut [i64], row: usize)
+    requires { ⌜ (soundRecords (now cells) ≡ true) × (row < length (rowsOf recordsLayout (now cells))) × ((recordAt (now cells) (1 + row * 13)) .status ≡ pos 0) ⌝ }
+    ensures { λ done. ⌜ (now (cells .exit) ≡ write recordsLayout (now (cells .entry)) (upsert recordKey (adjustedRecord (recordAt (now (cells .entry)) (1 + row * 13))) (rowsOf recordsLayout (now (cells .entry))))) × (soundRecords (now (cells .exit)) ≡ true) ⌝ }
+{
+    cells[1 + row * 13 + 4] = 1;
+}
