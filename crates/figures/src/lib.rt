@@ -1,7 +1,5 @@
 // The ranges of document 01, "Figures and their ranges", and of the rows' cells.
 ghost use mathlib.Core.Path.{_≡_};
-ghost use Prim.Native.Nat.{_≤_};
-ghost use lib.IntN.{pos, negℤ};
 ghost use Rattle.integers.specs.Order.{inRange};
 ghost use Rattle.rules.specs.Figures.{validId, validSuffix, validAccount, validSeries, validQuantity, validPrice, validSide, isBuy, isToClose};
 ghost use Rattle.rules.specs.Rows.{validKind, validStatus, validSignedQuantity, validBooked, validInto, validParent};
