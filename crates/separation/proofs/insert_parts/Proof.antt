@@ -1,0 +1,123 @@
+-- `separation::insert_parts` meets its contract. The loop's invariant: the rows left to put come to the table with all of them put, and are ready to be put.
+-- The measure is how many parts are left. Assumes nothing.
+use Prim.Native.Nat.{_-_, _+_, _<_}
+use native.Mathlib.Omega.{arith}
+use mathlib.Core.Path.{_≡_, sym, subst}
+use mathlib.Core.List.{List}
+use lib.IntN.{ℤ, pos, _+ℤ_}
+use lib.ListN.{length, getD}
+use mir.Facts.{toZ-ofZ}
+use mir.Syntax.{w64}
+use mir.Val.{SFits, toZ, ofZ}
+use borrow.Author.Needs.{needs}
+use Rattle.rules.specs.Rows.{recordKey}
+use Rattle.rules.specs.Tables.{recordsLayout}
+use Rattle.scan.proofs.ReadBack.{read-back}
+use Rattle.verdict.proofs.Puts.{putOne}
+use Rattle.verdict.proofs.Parts.{partRecord}
+use Rattle.separation.proofs.PartsPut.{PutSoFar, put-start, insert-next, suffix-fits, put-next, put-end}
+use Rattle.separation.proofs.insert_parts.Statement.{statement}
+use Rattle.separation.proofs.insert_parts.Tie as tie
+
+abbrev Inv-loop : tie.InvT-loop
+Inv-loop records₀ r first parts suffix₀ account at₀ records suffix at = PutSoFar records₀ r (toZ w64 first) parts records (toZ w64 suffix) at
+
+abbrev μ-loop : tie.MeasureT-loop
+μ-loop records₀ r first parts suffix₀ account at₀ records suffix at = length parts - at
+
+more : (c : tie.In-loop Inv-loop μ-loop) → c .before .loop .at < length (c .before .before .before .args .parts .now)
+more c = omega arith
+
+-- The next part, and its row.
+module _ (c : tie.After-adjustable-record Inv-loop μ-loop) where
+  abbrev turn : tie.At-loop Inv-loop μ-loop
+  turn = c .before .before .before .before
+
+  abbrev start : tie.Start Inv-loop μ-loop
+  start = turn .before .before
+
+  abbrev suffix : ℤ
+  suffix = toZ w64 (turn .loop .suffix)
+
+  abbrev part : ℤ
+  part = getD (start .args .parts .now) (turn .loop .at) (pos 0)
+
+  row : c .adjustable-record .result ≡ partRecord (start .args .r) suffix part
+  row =
+      simp
+      (read-back (start .args .r .account) (turn .before .struct-told .given .1 .1 .1 .1 .1 .0 .1), read-back part (c .before .before .quantity .given))
+      at (c .adjustable-record .ensures)
+
+  next-fits : SFits w64 (suffix +ℤ pos 1)
+  next-fits =
+      suffix-fits (start .args .records .now) (start .args .r) _ (start .args .parts .now) (turn .loop .records) suffix (turn .loop .at) (turn .loop .inv)
+      (more (c .before .before .before))
+
+loop-holds : tie.Need-loop-holds Inv-loop μ-loop
+loop-holds c =
+    let s : tie.Start Inv-loop μ-loop = c .before in
+    simp (toZ-ofZ (s .fits .first)) (put-start (s .args .records .now) (s .args .r) (s .args .first) (s .args .parts .now) (s .pre))
+
+mul-quantity : tie.Need-mul-quantity Inv-loop μ-loop
+mul-quantity c = search needs
+
+shared-slice-copy-out-quantity : tie.Need-shared-slice-copy-out-quantity Inv-loop μ-loop
+shared-slice-copy-out-quantity c = omega arith
+
+adjustable-record-requires : tie.Need-adjustable-record-requires Inv-loop μ-loop
+adjustable-record-requires c κs = search needs
+
+insert-record-requires : tie.Need-insert-record-requires Inv-loop μ-loop
+insert-record-requires c κs =
+    rw (row c)
+    (insert-next (start c .args .records .now) (start c .args .r) _ (start c .args .parts .now) (turn c .loop .records) (suffix c) (turn c .loop .at) (turn c .loop .inv)
+    (more (c .before .before .before)))
+
+add-suffix : tie.Need-add-suffix Inv-loop μ-loop
+add-suffix c = next-fits (c .before .before)
+
+add-at : tie.Need-add-at Inv-loop μ-loop
+add-at c = omega arith
+
+loop-less : tie.Need-loop-less Inv-loop μ-loop
+loop-less c = omega arith
+
+loop-again : tie.Need-loop-again Inv-loop μ-loop
+loop-again c =
+    let a : tie.After-adjustable-record Inv-loop μ-loop = c .before .before in
+    let put : c .before .insert-record .last .0 ≡ putOne recordsLayout recordKey (turn a .loop .records) (partRecord (start a .args .r) (suffix a) (part a)) =
+          rw (row a) at (c .before .insert-record .ensures .0) in
+    subst
+    (λ (z : ℤ). PutSoFar (start a .args .records .now) (start a .args .r) (toZ w64 (ofZ w64 (start a .args .first))) (start a .args .parts .now) (c .before .insert-record .last .0) z (turn a .loop .at + 1))
+    (sym (toZ-ofZ (next-fits a)))
+    (put-next (start a .args .records .now) (start a .args .r) _ (start a .args .parts .now) (turn a .loop .records) (suffix a) (turn a .loop .at) (turn a .loop .inv)
+    (more (a .before .before .before)) (c .before .insert-record .last .0) put (c .before .insert-record .ensures .1) (c .before .insert-record .kept .0))
+
+same-length : tie.Need-same-length Inv-loop μ-loop
+same-length c = c .before .loop .inv .same-size
+
+returns : tie.Need-returns Inv-loop μ-loop
+returns c =
+    let l : tie.At-loop Inv-loop μ-loop = c .before in
+    let s : tie.Start Inv-loop μ-loop = l .before .before in
+    let so-far : PutSoFar (s .args .records .now) (s .args .r) (s .args .first) (s .args .parts .now) (l .loop .records) (toZ w64 (l .loop .suffix)) (l .loop .at) =
+          simp (toZ-ofZ (s .fits .first)) at (l .loop .inv) in
+    put-end (s .args .records .now) (s .args .r) (s .args .first) (s .args .parts .now) (l .loop .records) (toZ w64 (l .loop .suffix)) (l .loop .at) so-far (c .loop-test .left)
+
+pub insert-parts-spec : {M : Type 1} → statement M
+insert-parts-spec =
+    tie.close
+    (tie.spec
+    Inv-loop
+    μ-loop
+    loop-holds
+    mul-quantity
+    shared-slice-copy-out-quantity
+    adjustable-record-requires
+    insert-record-requires
+    add-suffix
+    add-at
+    loop-less
+    loop-again
+    same-length
+    returns)

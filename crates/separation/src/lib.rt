@@ -1,0 +1,153 @@
+// Separation: tests 3, 5 to 7, 11, 13 and 14, the booking, and the public call. The position does not move.
+use lookup::Found;
+use verdict::Verdict;
+use rules::Record;
+use rules::Reply;
+use tables::records;
+ghost use mathlib.Core.Path.{_≡_};
+ghost use mathlib.Core.Bool.{true};
+ghost use mathlib.Core.List.{map};
+ghost use mathlib.Core.Option.{some};
+ghost use Prim.Native.Nat.{_+_, _≤_};
+ghost use lib.IntN.{pos};
+ghost use lib.ListN.{length};
+ghost use lib.Signed.{_≤ℤ_};
+ghost use Rattle.rules.specs.Figures.{validQuantity};
+ghost use Rattle.rules.specs.Keyed.{upsertAll, greatest};
+ghost use Rattle.rules.specs.Rows.{recordKey, soundRecord};
+ghost use Rattle.rules.specs.NamedRecord.{nextSuffix};
+ghost use Rattle.rules.specs.Refusal.{allOf};
+ghost use Rattle.rules.specs.Request as Request;
+ghost use Rattle.rules.specs.Layout.{roomOf, rowsOf, write};
+ghost use Rattle.rules.specs.Tables.{recordsLayout, soundRecords, soundPositions};
+ghost use Rattle.rules.specs.Handle.{handle};
+ghost use Rattle.rules.specs.Separation.{sumOf, separationFigures, partRecords};
+ghost use Rattle.verdict.specs.Verdict.{tablesOf, answered, verdictOn, acceptedOn};
+ghost use Rattle.verdict.specs.declared.Verdict.the-variants.{Accepted};
+
+fn parts_valid(parts: &[i64]) -> bool
+    ensures { λ r. ⌜ r ≡ allOf (map validQuantity (now (parts .entry))) ⌝ }
+{
+    let mut i = 0;
+    while i < parts.len() {
+        if !figures::valid_quantity(parts[i]) {
+            return false;
+        }
+        i += 1;
+    }
+    true
+}
+
+fn figures_valid(id: i64, suffix: i64, account: i64, series: i64, parts: &[i64]) -> bool
+    ensures { λ r. ⌜ r ≡ separationFigures id suffix account series (now (parts .entry)) ⌝ }
+{
+    if !figures::valid_id(id) {
+        return false;
+    }
+    if !figures::valid_suffix(suffix) {
+        return false;
+    }
+    if !figures::valid_account(account) {
+        return false;
+    }
+    if !figures::valid_series(series) {
+        return false;
+    }
+    if parts.len() < 2 {
+        return false;
+    }
+    if 1000 < parts.len() {
+        return false;
+    }
+    parts_valid(parts)
+}
+
+fn sum_of(parts: &[i64]) -> i64
+    requires { ⌜ (length (now parts) ≤ 1000) × (allOf (map validQuantity (now parts)) ≡ true) ⌝ }
+    ensures { λ r. ⌜ r ≡ sumOf (now (parts .entry)) ⌝ }
+{
+    let mut sum: i64 = 0;
+    let mut i = 0;
+    while i < parts.len() {
+        sum += parts[i];
+        i += 1;
+    }
+    sum
+}
+
+fn verdict(records: &[i64], positions: &[i64], id: i64, suffix: i64, account: i64, series: i64, parts: &[i64]) -> Verdict
+    requires { ⌜ (soundRecords (now records) ≡ true) × (soundPositions (now positions) ≡ true) ⌝ }
+    ensures { λ r. ⌜ r ≡ verdictOn (now (records .entry)) (now (positions .entry)) (Request.separate id suffix account series (now (parts .entry))) ⌝ }
+{
+    if !figures_valid(id, suffix, account, series, parts) {
+        return Verdict::Refused { number: 3, place: 0 };
+    }
+    let Found::Row(row) = records::find_record(records, id, suffix) else {
+        return Verdict::Refused { number: 5, place: 0 };
+    };
+    let r = records::read_record(records, row);
+    if requests::is_elsewhere(r, account, series) {
+        return Verdict::Refused { number: 6, place: 0 };
+    }
+    if r.status != 0 {
+        return Verdict::Refused { number: 7, place: 0 };
+    }
+    if sum_of(parts) != r.quantity {
+        return Verdict::Refused { number: 11, place: 0 };
+    }
+    let last = requests::next_suffix(records, id) + parts.len() as i64;
+    if 65_535 < last {
+        return Verdict::Refused { number: 13, place: 0 };
+    }
+    if requests::lacks_records_room(records, parts.len() + 1) {
+        return Verdict::Refused { number: 14, place: 0 };
+    }
+    Verdict::Accepted
+}
+
+// One adjustable row a part, in the order given, with successive suffixes from `first` on.
+fn insert_parts(records: &mut [i64], r: Record, first: i64, parts: &[i64])
+    requires { ⌜ (soundRecords (now records) ≡ true) × (allOf (map soundRecord (partRecords r first (now parts))) ≡ true) × (length (rowsOf recordsLayout (now records)) + length (now parts) ≤ roomOf recordsLayout (now records)) × (nextSuffix (greatest recordKey (r .id) (rowsOf recordsLayout (now records))) ≤ℤ first) × (pos 0 ≤ℤ first) ⌝ }
+    ensures { λ done. ⌜ (now (records .exit) ≡ write recordsLayout (now (records .entry)) (upsertAll recordKey (partRecords r first (now (parts .entry))) (rowsOf recordsLayout (now (records .entry))))) × (soundRecords (now (records .exit)) ≡ true) ⌝ }
+{
+    let mut suffix = first;
+    let account = r.account;
+    let mut at = 0;
+    while at < parts.len() {
+        let quantity = parts[at];
+        records::insert_record(&mut *records, requests::adjustable_record(r, suffix, 6, account, quantity, 0, 0));
+        suffix += 1;
+        at += 1;
+    }
+}
+
+fn book(records: &mut [i64], positions: &[i64], id: i64, suffix: i64, account: i64, series: i64, parts: &[i64]) -> Reply
+    requires { ⌜ (soundRecords (now records) ≡ true) × (soundPositions (now positions) ≡ true) × (verdictOn (now records) (now positions) (Request.separate id suffix account series (now parts)) ≡ Accepted) ⌝ }
+    ensures { λ r. ⌜ answered r (now (records .exit)) (now (positions .entry)) ≡ acceptedOn (now (records .entry)) (now (positions .entry)) (Request.separate id suffix account series (now (parts .entry))) ⌝ }
+{
+    let Found::Row(row) = records::find_record(records, id, suffix) else {
+        return Reply::Refused { number: 5, place: 0 };
+    };
+    let r = records::read_record(records, row);
+    let next = requests::next_suffix(records, id);
+    records::adjust_record(&mut *records, row);
+    records::insert_record(&mut *records, requests::inverse_record(r, next, 6, 0, 0, 0));
+    insert_parts(records, r, next + 1, parts);
+    let rows = parts.len() as i64 + 1;
+    Reply::Booked { rows, residual: 0 }
+}
+
+pub fn separate(records: &mut [i64], positions: &mut [i64], id: i64, suffix: i64, account: i64, series: i64, parts: &[i64]) -> Reply
+    ensures { λ r. ⌜ answered r (now (records .exit)) (now (positions .exit)) ≡ handle (tablesOf (now (records .entry)) (now (positions .entry))) (Request.separate id suffix account series (now (parts .entry))) ⌝ }
+{
+    if !scan::soundness::records_sound(records) {
+        return Reply::Refused { number: 1, place: 0 };
+    }
+    if !scan::soundness::positions_sound(positions) {
+        return Reply::Refused { number: 2, place: 0 };
+    }
+    match verdict(records, positions, id, suffix, account, series, parts) {
+        Verdict::Refused { number, place } => Reply::Refused { number, place },
+        Verdict::Accepted => book(records, positions, id, suffix, account, series, parts),
+    }
+}

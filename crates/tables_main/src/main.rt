@@ -1,0 +1,90 @@
+// The table code, run: tables with no row, one, many and a full room, and damaged ones. It prints what each call answers, and the cells where they are few.
+mod add;
+mod damage;
+
+use lookup::Found;
+use lookup::Greatest;
+use tables::positions;
+use tables::records;
+
+// What the lookups say of a sound records table.
+fn ask(cells: &[i64], id: i64, suffix: i64) {
+    if !scan::soundness::records_sound(cells) {
+        printing::line(b"not sound");
+        return;
+    }
+    match records::find_record(cells, id, suffix) {
+        Found::Row(row) => printing::value(b"row ", row as i64),
+        Found::Absent => printing::line(b"absent"),
+    }
+    match records::greatest_suffix(cells, id) {
+        Greatest::Suffix(s) => printing::value(b"greatest suffix ", s),
+        Greatest::Nothing => printing::line(b"no record of that id"),
+    }
+}
+
+// No row, then one, then three, added in an order that is not the keys'; a key that is there, and a full room, are refused.
+fn few_rows() {
+    printing::line(b"few records, room for three");
+    let mut cells = [-1; 45];
+    cells[0] = 0;
+    ask(&cells, 5, 0);
+    add::tell(add::record(&mut cells, 5, 0, 10));
+    ask(&cells, 5, 0);
+    add::tell(add::record(&mut cells, 5, 1, 11));
+    add::tell(add::record(&mut cells, 5, 1, 12));
+    add::tell(add::record(&mut cells, 4, 7, 13));
+    add::tell(add::record(&mut cells, 6, 0, 14));
+    ask(&cells, 5, 1);
+    ask(&cells, 5, 2);
+    printing::cells(&cells);
+    add::tell(add::adjust(&mut cells, 5, 0));
+    add::tell(add::adjust(&mut cells, 5, 0));
+    printing::cells(&cells);
+}
+
+// A room of 4,096 rows, filled from the greatest id down, in a slice with space for more.
+fn full_room() {
+    printing::line(b"4,096 records, added from the greatest id down");
+    let mut cells = [-1; 53_300];
+    cells[0] = 0;
+    let n = add::down(&mut cells, 4_097);
+    printing::value(b"added ", n as i64);
+    ask(&cells, 1, 0);
+    ask(&cells, 2, 0);
+    ask(&cells, 4_097, 0);
+    ask(&cells, 4_098, 0);
+    printing::value(b"past the room: ", cells[53_249]);
+}
+
+// Positions: made where absent, written anew where present.
+fn few_positions() {
+    printing::line(b"positions, room for two");
+    let mut cells = [-1; 13];
+    cells[0] = 0;
+    add::tell(add::position(&mut cells, 2, 1, 100, 0, 0));
+    add::tell(add::position(&mut cells, 1, 1, 0, 7, -3));
+    add::tell(add::position(&mut cells, 2, 1, 90, 5, 2));
+    add::tell(add::position(&mut cells, 3, 1, 0, 0, 0));
+    printing::cells(&cells);
+}
+
+// Tables that fail test 1, one damage each.
+fn damaged() {
+    printing::line(b"damaged records");
+    let mut cells = [-1; 40];
+    cells[0] = 0;
+    add::tell(add::record(&mut cells, 5, 0, 10));
+    add::tell(add::record(&mut cells, 5, 1, 11));
+    damage::each(&mut cells);
+    ask(&cells, 5, 1);
+    ask(&cells[0..0], 5, 1);
+    ask(&cells[0..26], 5, 1);
+}
+
+fn main() {
+    few_rows();
+    full_room();
+    few_positions();
+    damaged();
+}

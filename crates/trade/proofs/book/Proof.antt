@@ -1,0 +1,256 @@
+-- `trade::book` meets its contract: the row and the position of the rules are put, and the answer is theirs. What each call requires follows from the verdict.
+-- Assumes nothing.
+use mathlib.Core.Path.{_≡_, sym, _∙_, ap, subst}
+use mathlib.Core.Bool.{Bool, true}
+use mathlib.Core.List.{List}
+use mathlib.Core.Logic.{⊎-elim}
+use borrow.Author.Needs.{needs}
+use lib.IntN.{ℤ, pos, _-ℤ_}
+use mir.Facts.{toZ-ofZ}
+use mir.Syntax.{w64}
+use mir.Val.{SFits, toZ, ofZ}
+use Rattle.rules.specs.Figures.{validQuantity}
+use Rattle.rules.specs.Rows.{recordKey, positionKey, newRecord, moved, soundPosition}
+use Rattle.rules.specs.Tables.{recordsLayout, positionsLayout}
+use Rattle.rules.specs.Trade.{tradeKind}
+use Rattle.rules.specs.declared.Record.{Record}
+use Rattle.rules.specs.declared.Position.{Position}
+use Rattle.rules.specs.declared.Reply.the-variants.{ClosingError}
+use Rattle.scan.proofs.ReadBack.{read-back}
+use Rattle.verdict.specs.Verdict.{answered}
+use Rattle.verdict.proofs.Puts.{putOne}
+use Rattle.verdict.proofs.Ready.{InsertReady, PutReady}
+use Rattle.verdict.proofs.Room.{positionRead}
+use Rattle.verdict.proofs.SoundReads.{position-read-sound}
+use Rattle.verdict.proofs.Trade.{tradeClosed, tradeLong, tradeShort, tradeError, tradePosition, tradeRow}
+use Rattle.verdict.proofs.TradeReady.{trade-quantity, trade-insert, trade-put, trade-returns-error, trade-returns-plain}
+use Rattle.trade.specs.Booking.{bookingOf}
+use Rattle.trade.proofs.TradeBooked.{opened-fits, booking-moves, closed-is, long-is, short-is, error-is, moved-is}
+use Rattle.trade.proofs.book.Statement.{statement}
+use Rattle.trade.proofs.book.Tie as tie
+
+-- What the function is given, and what the rules make of it.
+module _ (s : tie.Start) where
+  abbrev rs : List ℤ
+  rs = s .args .records .now
+
+  abbrev ps : List ℤ
+  ps = s .args .positions .now
+
+  abbrev closedOf : ℤ
+  closedOf = tradeClosed ps (s .args .account) (s .args .series) (s .args .side) (s .args .quantity)
+
+  abbrev errorOf : Bool
+  errorOf = tradeError ps (s .args .account) (s .args .series) (s .args .side) (s .args .quantity)
+
+  abbrev rowOf : Record
+  rowOf = tradeRow ps (s .args .account) (s .args .series) (s .args .side) (s .args .quantity) (s .args .id) (s .args .price)
+
+  abbrev leftOf : Position
+  leftOf = tradePosition ps (s .args .account) (s .args .series) (s .args .side) (s .args .quantity)
+
+  quantity-valid : validQuantity (s .args .quantity) ≡ true
+  quantity-valid =
+      trade-quantity rs ps (s .args .id) (s .args .account) (s .args .series) (s .args .side) (s .args .quantity) (s .args .price) (s .pre .0) (s .pre .1) (s .pre .2)
+
+  insertable : InsertReady rs rowOf
+  insertable =
+      trade-insert rs ps (s .args .id) (s .args .account) (s .args .series) (s .args .side) (s .args .quantity) (s .args .price) (s .pre .0) (s .pre .1) (s .pre .2)
+
+  puttable : PutReady ps leftOf
+  puttable =
+      trade-put rs ps (s .args .id) (s .args .account) (s .args .series) (s .args .side) (s .args .quantity) (s .args .price) (s .pre .0) (s .pre .1) (s .pre .2)
+
+-- The position that was read.
+module _ (c : tie.After-position-of) where
+  abbrev start : tie.Start
+  start = c .before .before
+
+  read : c .position-of .result ≡ positionRead (ps start) (start .args .account) (start .args .series)
+  read = simp (toZ-ofZ (start .fits .account), toZ-ofZ (start .fits .series)) at (c .position-of .ensures)
+
+  read-sound : soundPosition (c .position-of .result) ≡ true
+  read-sound = ap soundPosition read ∙ position-read-sound (ps start) (start .pre .1) (start .args .account) (start .args .series)
+
+-- What the trade closes and books.
+module _ (c : tie.After-booking-of) where
+  abbrev s : tie.Start
+  s = start (c .before)
+
+  booked : c .booking-of .result ≡ bookingOf (s .args .side) (s .args .quantity) (c .before .position-of .result)
+  booked = simp (toZ-ofZ (s .fits .side), toZ-ofZ (s .fits .quantity)) at (c .booking-of .ensures)
+
+  closed : c .booking-of .result .closed ≡ closedOf s
+  closed = closed-is (ps s) (s .args .account) (s .args .series) (s .args .side) (s .args .quantity) (c .before .position-of .result) (c .booking-of .result) (read (c .before)) booked
+
+  long : c .booking-of .result .long ≡ tradeLong (ps s) (s .args .account) (s .args .series) (s .args .side) (s .args .quantity)
+  long = long-is (ps s) (s .args .account) (s .args .series) (s .args .side) (s .args .quantity) (c .before .position-of .result) (c .booking-of .result) (read (c .before)) booked
+
+  short : c .booking-of .result .short ≡ tradeShort (ps s) (s .args .account) (s .args .series) (s .args .side) (s .args .quantity)
+  short = short-is (ps s) (s .args .account) (s .args .series) (s .args .side) (s .args .quantity) (c .before .position-of .result) (c .booking-of .result) (read (c .before)) booked
+
+  error : c .booking-of .result .error ≡ errorOf s
+  error = error-is (ps s) (s .args .account) (s .args .series) (s .args .side) (s .args .quantity) (c .before .position-of .result) (c .booking-of .result) (read (c .before)) booked
+
+  left : moved (c .before .position-of .result) (c .booking-of .result .long) (c .booking-of .result .short) (pos 0) ≡ leftOf s
+  left = moved-is (ps s) (s .args .account) (s .args .series) (s .args .side) (s .args .quantity) (c .before .position-of .result) (c .booking-of .result) (read (c .before)) booked
+
+-- The row that is made.
+module _ (c : tie.After-struct-told) where
+  abbrev b : tie.After-booking-of
+  b = c .before .before
+
+  kind : toZ w64 (c .before .if1 .kind) ≡ tradeKind (b .booking-of .result .error)
+  unfolding tradeKind
+  kind =
+      ⊎-elim
+      (λ w. ap (toZ w64) (w .1) ∙ sym (ap tradeKind (w .0 .taken)))
+      (λ w. ap (toZ w64) (w .1) ∙ sym (ap tradeKind (w .0 .left)))
+      (c .before .if1 .came)
+
+  row : record {
+      id = toZ w64 (ofZ w64 (s b .args .id));
+      suffix = pos 0;
+      parent = pos 0;
+      kind = toZ w64 (c .before .if1 .kind);
+      status = pos 0;
+      account = toZ w64 (ofZ w64 (s b .args .account));
+      series = toZ w64 (ofZ w64 (s b .args .series));
+      side = toZ w64 (ofZ w64 (s b .args .side));
+      quantity = toZ w64 (ofZ w64 (s b .args .quantity));
+      price = toZ w64 (ofZ w64 (s b .args .price));
+      long = toZ w64 (ofZ w64 (b .booking-of .result .long));
+      short = toZ w64 (ofZ w64 (b .booking-of .result .short));
+      into = pos 0 } ≡ rowOf (s b)
+  unfolding newRecord
+  row =
+      let kind-is : toZ w64 (c .before .if1 .kind) ≡ tradeKind (errorOf (s b)) = kind ∙ ap tradeKind (error b) in
+      let long-is : toZ w64 (ofZ w64 (b .booking-of .result .long)) ≡ rowOf (s b) .long
+            = read-back (b .booking-of .result .long) (c .struct-told .given .1 .0 .1) ∙ long b in
+      let short-is : toZ w64 (ofZ w64 (b .booking-of .result .short)) ≡ rowOf (s b) .short
+            = read-back (b .booking-of .result .short) (c .struct-told .given .1 .1 .0 .1) ∙ short b in
+      λ i. record {
+        id = toZ-ofZ (s b .fits .id) i;
+        suffix = pos 0;
+        parent = pos 0;
+        kind = kind-is i;
+        status = pos 0;
+        account = toZ-ofZ (s b .fits .account) i;
+        series = toZ-ofZ (s b .fits .series) i;
+        side = toZ-ofZ (s b .fits .side) i;
+        quantity = toZ-ofZ (s b .fits .quantity) i;
+        price = toZ-ofZ (s b .fits .price) i;
+        long = long-is i;
+        short = short-is i;
+        into = pos 0 }
+
+-- The row inserted.
+module _ (c : tie.After-insert-record) where
+  abbrev d : tie.After-booking-of
+  d = b (c .before .before)
+
+  inserted : c .insert-record .last .0 ≡ putOne recordsLayout recordKey (rs (s d)) (rowOf (s d))
+  inserted = c .insert-record .ensures .0 ∙ ap (putOne recordsLayout recordKey (rs (s d))) (row (c .before .before))
+
+-- The position that the trade leaves.
+module _ (c : tie.After-moved) where
+  abbrev e : tie.After-booking-of
+  e = d (c .before .before .before .before)
+
+  leaves : c .moved .result ≡ leftOf (s e)
+  leaves =
+      (simp (read-back (e .booking-of .result .long) (c .before .before .struct-told2 .given .1 .0 .1), read-back (e .booking-of .result .short) (c .before .struct-told3 .given .1 .1 .0 .1))
+      at (c .moved .ensures))
+      ∙ left e
+
+put : (c : tie.After-put-position) → c .put-position .last .0 ≡ putOne positionsLayout positionKey (ps (s (e (c .before .before)))) (leftOf (s (e (c .before .before))))
+put c = c .put-position .ensures .0 ∙ ap (putOne positionsLayout positionKey (ps (s (e (c .before .before))))) (leaves (c .before .before))
+
+-- The excess of a closing error.
+module _ (c : tie.After-struct-told4) where
+  abbrev p : tie.After-put-position
+  p = c .before .before .before .before
+
+  abbrev f : tie.After-booking-of
+  f = e (p .before .before)
+
+  excess-fits : SFits w64 (s f .args .quantity -ℤ closedOf (s f))
+  excess-fits =
+      opened-fits (s f .args .side) (s f .args .quantity) (positionRead (ps (s f)) (s f .args .account) (s f .args .series)) (quantity-valid (s f))
+      (position-read-sound (ps (s f)) (s f .pre .1) (s f .args .account) (s f .args .series))
+
+  excess : (toZ w64 (ofZ w64 (s f .args .quantity)) -ℤ toZ w64 (ofZ w64 (f .booking-of .result .closed))) ≡ s f .args .quantity -ℤ closedOf (s f)
+  excess =
+      let closed-back : toZ w64 (ofZ w64 (f .booking-of .result .closed)) ≡ closedOf (s f)
+            = read-back (f .booking-of .result .closed) (c .struct-told4 .given .0 .1) ∙ closed f in
+      λ i. toZ-ofZ (s f .fits .quantity) i -ℤ closed-back i
+
+position-of-requires : tie.Need-position-of-requires
+position-of-requires c κs = search needs
+
+booking-of-requires : tie.Need-booking-of-requires
+booking-of-requires c κs = simp (toZ-ofZ (start c .fits .quantity)) (quantity-valid (start c), read-sound c)
+
+insert-record-requires : tie.Need-insert-record-requires
+insert-record-requires c κs =
+    let s : tie.Start = s (b (c .before)) in
+    subst (λ (r : Record). InsertReady (rs s) r) (sym (row (c .before))) (insertable s)
+
+moved-requires : tie.Need-moved-requires
+moved-requires c κs =
+    let b : tie.After-booking-of = d (c .before .before .before) in
+    simp (read-back (b .booking-of .result .long) (c .before .struct-told2 .given .1 .0 .1), read-back (b .booking-of .result .short) (c .struct-told3 .given .1 .1 .0 .1))
+    (booking-moves (s b .args .side) (s b .args .quantity) (b .before .position-of .result) (quantity-valid (s b)) (read-sound (b .before)) (b .booking-of .result) (booked b))
+
+put-position-requires : tie.Need-put-position-requires
+put-position-requires c κs = subst (λ (q : Position). PutReady (ps (s (e (c .before)))) q) (sym (leaves (c .before))) (puttable (s (e (c .before))))
+
+sub-t23 : tie.Need-sub-t23
+sub-t23 c = subst (SFits w64) (sym (excess c)) (excess-fits c)
+
+same-length : tie.Need-same-length
+same-length c = search needs
+
+same-length-2 : tie.Need-same-length-2
+same-length-2 c = search needs
+
+returns : tie.Need-returns
+returns c =
+    let s : tie.Start = s (f c) in
+    let excess-back : toZ w64 (ofZ w64 (toZ w64 (ofZ w64 (s .args .quantity)) -ℤ toZ w64 (ofZ w64 (f c .booking-of .result .closed)))) ≡ s .args .quantity -ℤ closedOf s
+          = ap (λ (z : ℤ). toZ w64 (ofZ w64 z)) (excess c) ∙ toZ-ofZ (excess-fits c) in
+    let i : tie.After-insert-record = p c .before .before .before .before .before .before in
+    ap (λ (z : ℤ). answered (ClosingError z) (i .insert-record .last .0) (p c .put-position .last .0)) excess-back
+    ∙ trade-returns-error (rs s) (ps s) (s .args .id) (s .args .account) (s .args .series) (s .args .side) (s .args .quantity) (s .args .price)
+      (i .insert-record .last .0) (p c .put-position .last .0) (inserted i) (put (p c)) (sym (error (f c)) ∙ c .before .before .if2 .taken)
+
+same-length-3 : tie.Need-same-length-3
+same-length-3 c = search needs
+
+same-length-4 : tie.Need-same-length-4
+same-length-4 c = search needs
+
+returns-2 : tie.Need-returns-2
+returns-2 c =
+    let p : tie.After-put-position = c .before .before in
+    let s : tie.Start = s (e (p .before .before)) in
+    let i : tie.After-insert-record = p .before .before .before .before .before .before in
+    trade-returns-plain (rs s) (ps s) (s .args .id) (s .args .account) (s .args .series) (s .args .side) (s .args .quantity) (s .args .price)
+    (i .insert-record .last .0) (p .put-position .last .0) (inserted i) (put p) (sym (error (e (p .before .before))) ∙ c .if2 .left)
+
+pub book-spec : {M : Type 1} → statement M
+book-spec =
+    tie.close
+    (tie.spec
+    position-of-requires
+    booking-of-requires
+    insert-record-requires
+    moved-requires
+    put-position-requires
+    sub-t23
+    same-length
+    same-length-2
+    returns
+    same-length-3
+    same-length-4
+    returns-2)

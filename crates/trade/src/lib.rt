@@ -1,0 +1,173 @@
+// Trade: tests 3, 4 and 14 to 16, the booking, and the public call.
+use verdict::Verdict;
+use rules::Position;
+use rules::Record;
+use rules::Reply;
+use tables::positions;
+use tables::records;
+ghost use mathlib.Core.Path.{_≡_};
+ghost use mathlib.Core.Bool.{true};
+ghost use Rattle.rules.specs.Figures.{validQuantity};
+ghost use Rattle.rules.specs.Rows.{soundPosition};
+ghost use Rattle.rules.specs.Request as Request;
+ghost use Rattle.rules.specs.Tables.{soundRecords, soundPositions};
+ghost use Rattle.rules.specs.Handle.{handle};
+ghost use Rattle.rules.specs.Trade as Trade;
+ghost use Rattle.rules.specs.Trade.{tradeFigures};
+ghost use Rattle.verdict.specs.Verdict.{tablesOf, answered, verdictOn, acceptedOn};
+ghost use Rattle.verdict.specs.declared.Verdict.the-variants.{Accepted};
+ghost use Rattle.trade.specs.Booking.{bookingOf, positionAfter};
+
+// What a trade closes and books.
+pub struct Booking {
+    pub closed: i64,
+    pub long: i64,
+    pub short: i64,
+    pub error: bool,
+}
+
+fn figures_valid(id: i64, account: i64, series: i64, side: i64, quantity: i64, price: i64) -> bool
+    ensures { λ r. ⌜ r ≡ tradeFigures id account series side quantity price ⌝ }
+{
+    if !figures::valid_id(id) {
+        return false;
+    }
+    if !figures::valid_account(account) {
+        return false;
+    }
+    if !figures::valid_series(series) {
+        return false;
+    }
+    if !figures::valid_side(side) {
+        return false;
+    }
+    if !figures::valid_quantity(quantity) {
+        return false;
+    }
+    figures::valid_price(price)
+}
+
+// The smaller of the quantity and what is open against it, for a trade to close; nothing for a trade to open.
+fn closed_by(side: i64, quantity: i64, p: Position) -> i64
+    ensures { λ r. ⌜ r ≡ Trade.closedBy side quantity p ⌝ }
+{
+    if !figures::is_to_close(side) {
+        return 0;
+    }
+    let mut open = p.long;
+    if figures::is_buy(side) {
+        open = p.short;
+    }
+    if quantity <= open { quantity } else { open }
+}
+
+fn booking_of(side: i64, quantity: i64, p: Position) -> Booking
+    requires { ⌜ (validQuantity quantity ≡ true) × (soundPosition p ≡ true) ⌝ }
+    ensures { λ r. ⌜ r ≡ bookingOf side quantity p ⌝ }
+{
+    let closed = closed_by(side, quantity, p);
+    let opened = quantity - closed;
+    let undone = -closed;
+    let mut error = false;
+    if figures::is_to_close(side) {
+        error = closed < quantity;
+    }
+    if figures::is_buy(side) {
+        Booking {
+            closed,
+            long: opened,
+            short: undone,
+            error,
+        }
+    } else {
+        Booking {
+            closed,
+            long: undone,
+            short: opened,
+            error,
+        }
+    }
+}
+
+// The position of the account and series, as the trade will leave it.
+fn position_after(cells: &[i64], account: i64, series: i64, side: i64, quantity: i64) -> Position
+    requires { ⌜ (soundPositions (now cells) ≡ true) × (validQuantity quantity ≡ true) ⌝ }
+    ensures { λ r. ⌜ r ≡ positionAfter (now (cells .entry)) account series side quantity ⌝ }
+{
+    let p = positions::position_of(cells, account, series);
+    let b = booking_of(side, quantity, p);
+    requests::moved(p, b.long, b.short, 0)
+}
+
+fn verdict(records: &[i64], positions: &[i64], id: i64, account: i64, series: i64, side: i64, quantity: i64, price: i64) -> Verdict
+    requires { ⌜ (soundRecords (now records) ≡ true) × (soundPositions (now positions) ≡ true) ⌝ }
+    ensures { λ r. ⌜ r ≡ verdictOn (now (records .entry)) (now (positions .entry)) (Request.trade id account series side quantity price) ⌝ }
+{
+    if !figures_valid(id, account, series, side, quantity, price) {
+        return Verdict::Refused { number: 3, place: 0 };
+    }
+    let lookup::Greatest::Nothing = records::greatest_suffix(records, id) else {
+        return Verdict::Refused { number: 4, place: 0 };
+    };
+    if requests::lacks_records_room(records, 1) {
+        return Verdict::Refused { number: 14, place: 0 };
+    }
+    let absent = requests::absent_position(positions, account, series);
+    if requests::lacks_positions_room(positions, absent) {
+        return Verdict::Refused { number: 15, place: 0 };
+    }
+    if !scan::soundness::sound_position(position_after(positions, account, series, side, quantity)) {
+        return Verdict::Refused { number: 16, place: 0 };
+    }
+    Verdict::Accepted
+}
+
+fn book(records: &mut [i64], positions: &mut [i64], id: i64, account: i64, series: i64, side: i64, quantity: i64, price: i64) -> Reply
+    requires { ⌜ (soundRecords (now records) ≡ true) × (soundPositions (now positions) ≡ true) × (verdictOn (now records) (now positions) (Request.trade id account series side quantity price) ≡ Accepted) ⌝ }
+    ensures { λ r. ⌜ answered r (now (records .exit)) (now (positions .exit)) ≡ acceptedOn (now (records .entry)) (now (positions .entry)) (Request.trade id account series side quantity price) ⌝ }
+{
+    let p = positions::position_of(positions, account, series);
+    let b = booking_of(side, quantity, p);
+    let mut kind = 0;
+    if b.error {
+        kind = 10;
+    }
+    let row = Record {
+        id,
+        suffix: 0,
+        parent: 0,
+        kind,
+        status: 0,
+        account,
+        series,
+        side,
+        quantity,
+        price,
+        long: b.long,
+        short: b.short,
+        into: 0,
+    };
+    records::insert_record(records, row);
+    let left = requests::moved(p, b.long, b.short, 0);
+    positions::put_position(positions, left);
+    if b.error {
+        Reply::ClosingError { excess: quantity - b.closed }
+    } else {
+        Reply::Booked { rows: 1, residual: 0 }
+    }
+}
+
+pub fn trade(records: &mut [i64], positions: &mut [i64], id: i64, account: i64, series: i64, side: i64, quantity: i64, price: i64) -> Reply
+    ensures { λ r. ⌜ answered r (now (records .exit)) (now (positions .exit)) ≡ handle (tablesOf (now (records .entry)) (now (positions .entry))) (Request.trade id account series side quantity price) ⌝ }
+{
+    if !scan::soundness::records_sound(records) {
+        return Reply::Refused { number: 1, place: 0 };
+    }
+    if !scan::soundness::positions_sound(positions) {
+        return Reply::Refused { number: 2, place: 0 };
+    }
+    match verdict(records, positions, id, account, series, side, quantity, price) {
+        Verdict::Refused { number, place } => Reply::Refused { number, place },
+        Verdict::Accepted => book(records, positions, id, account, series, side, quantity, price),
+    }
+}

@@ -1,0 +1,2 @@
+pub mod Negated
+pub mod BySide

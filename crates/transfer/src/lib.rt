@@ -1,0 +1,192 @@
+// Account transfer: tests 3, 5 to 8 and 12 to 16, the booking, and the public call.
+use lookup::Found;
+use verdict::Verdict;
+use rules::Position;
+use rules::Record;
+use rules::Reply;
+use tables::positions;
+use tables::records;
+ghost use mathlib.Core.Path.{_≡_};
+ghost use mathlib.Core.Bool.{true, false};
+ghost use mathlib.Core.Option.{some};
+ghost use lib.IntN.{pos, negℤ};
+ghost use Rattle.rules.specs.Figures.{magnitudeAtMost, isToClose, transferKind};
+ghost use Rattle.rules.specs.Keyed.{find};
+ghost use Rattle.rules.specs.Rows.{keyOf, recordKey, soundPosition, moved, inverseRecord, adjustableRecord};
+ghost use Rattle.rules.specs.NamedRecord.{isElsewhere, isNotAdjustable};
+ghost use Rattle.rules.specs.Layout.{rowsOf};
+ghost use Rattle.rules.specs.Request as Request;
+ghost use Rattle.rules.specs.Tables.{recordsLayout, soundRecords, soundPositions};
+ghost use Rattle.rules.specs.Handle.{handle};
+ghost use Rattle.rules.specs.Transfer.{transferFigures, inLong, inShort, holdsTooLittle};
+ghost use Rattle.verdict.specs.Verdict.{tablesOf, answered, verdictOn, acceptedOn};
+ghost use Rattle.verdict.specs.declared.Verdict.the-variants.{Accepted};
+
+fn figures_valid(id: i64, suffix: i64, from: i64, to: i64, series: i64) -> bool
+    ensures { λ r. ⌜ r ≡ transferFigures id suffix from to series ⌝ }
+{
+    if !figures::valid_id(id) {
+        return false;
+    }
+    if !figures::valid_suffix(suffix) {
+        return false;
+    }
+    if !figures::valid_account(from) {
+        return false;
+    }
+    if !figures::valid_account(to) {
+        return false;
+    }
+    if !figures::valid_series(series) {
+        return false;
+    }
+    from != to
+}
+
+// An amount in the long of a buy, 0 for a sell; and in the short.
+fn in_long(side: i64, amount: i64) -> i64
+    ensures { λ r. ⌜ r ≡ inLong side amount ⌝ }
+{
+    if figures::is_buy(side) { amount } else { 0 }
+}
+
+fn in_short(side: i64, amount: i64) -> i64
+    ensures { λ r. ⌜ r ≡ inShort side amount ⌝ }
+{
+    if figures::is_buy(side) { 0 } else { amount }
+}
+
+// 12: the old account's long (buy) or short (sell) is below the quantity.
+fn holds_too_little(r: Record, p: Position) -> bool
+    ensures { λ s. ⌜ s ≡ holdsTooLittle r p ⌝ }
+{
+    if figures::is_buy(r.side) {
+        return p.long < r.quantity;
+    }
+    p.short < r.quantity
+}
+
+// A position with an amount more in the side's figure.
+fn shifted(p: Position, side: i64, amount: i64) -> Position
+    requires { ⌜ (soundPosition p ≡ true) × (magnitudeAtMost 1000000 amount ≡ true) ⌝ }
+    ensures { λ r. ⌜ r ≡ moved p (inLong side amount) (inShort side amount) (pos 0) ⌝ }
+{
+    requests::moved(p, in_long(side, amount), in_short(side, amount), 0)
+}
+
+// The old account's position without the record's quantity, and the new account's with it.
+fn taken_from(p: Position, r: Record) -> Position
+    requires { ⌜ (soundPosition p ≡ true) × (magnitudeAtMost 1000000 (r .quantity) ≡ true) ⌝ }
+    ensures { λ s. ⌜ s ≡ moved p (inLong (r .side) (negℤ (r .quantity))) (inShort (r .side) (negℤ (r .quantity))) (pos 0) ⌝ }
+{
+    shifted(p, r.side, -r.quantity)
+}
+
+fn given_to(p: Position, r: Record) -> Position
+    requires { ⌜ (soundPosition p ≡ true) × (magnitudeAtMost 1000000 (r .quantity) ≡ true) ⌝ }
+    ensures { λ s. ⌜ s ≡ moved p (inLong (r .side) (r .quantity)) (inShort (r .side) (r .quantity)) (pos 0) ⌝ }
+{
+    shifted(p, r.side, r.quantity)
+}
+
+// The inverse row in the old account, and the row that arrives in the new one.
+fn inverse_row(r: Record, next: i64) -> Record
+    requires { ⌜ magnitudeAtMost 1000000 (r .quantity) ≡ true ⌝ }
+    ensures { λ s. ⌜ s ≡ inverseRecord r next transferKind (inLong (r .side) (negℤ (r .quantity))) (inShort (r .side) (negℤ (r .quantity))) (pos 0) ⌝ }
+{
+    let q = -r.quantity;
+    requests::inverse_record(r, next, 4, in_long(r.side, q), in_short(r.side, q), 0)
+}
+
+fn arrived_row(r: Record, suffix: i64, to: i64) -> Record
+    ensures { λ s. ⌜ s ≡ adjustableRecord r suffix transferKind to (r .quantity) (inLong (r .side) (r .quantity)) (inShort (r .side) (r .quantity)) ⌝ }
+{
+    requests::adjustable_record(r, suffix, 4, to, r.quantity, in_long(r.side, r.quantity), in_short(r.side, r.quantity))
+}
+
+fn verdict(records: &[i64], positions: &[i64], id: i64, suffix: i64, from: i64, to: i64, series: i64) -> Verdict
+    requires { ⌜ (soundRecords (now records) ≡ true) × (soundPositions (now positions) ≡ true) ⌝ }
+    ensures { λ r. ⌜ r ≡ verdictOn (now (records .entry)) (now (positions .entry)) (Request.transfer id suffix from to series) ⌝ }
+{
+    if !figures_valid(id, suffix, from, to, series) {
+        return Verdict::Refused { number: 3, place: 0 };
+    }
+    let Found::Row(row) = records::find_record(records, id, suffix) else {
+        return Verdict::Refused { number: 5, place: 0 };
+    };
+    let r = records::read_record(records, row);
+    if requests::is_elsewhere(r, from, series) {
+        return Verdict::Refused { number: 6, place: 0 };
+    }
+    if r.status != 0 {
+        return Verdict::Refused { number: 7, place: 0 };
+    }
+    if figures::is_to_close(r.side) {
+        return Verdict::Refused { number: 8, place: 0 };
+    }
+    verdict_on_record(records, positions, r, id, suffix, from, to, series)
+}
+
+// Tests 12 to 16, of a record that passes 5 to 8.
+fn verdict_on_record(records: &[i64], positions: &[i64], r: Record, id: i64, suffix: i64, from: i64, to: i64, series: i64) -> Verdict
+    requires { ⌜ (soundRecords (now records) ≡ true) × (soundPositions (now positions) ≡ true) ⌝ }
+    requires { ⌜ (transferFigures id suffix from to series ≡ true) × (find recordKey (keyOf id suffix) (rowsOf recordsLayout (now records)) ≡ some r) × (isElsewhere from series r ≡ false) × (isNotAdjustable r ≡ false) × (isToClose (r .side) ≡ false) ⌝ }
+    ensures { λ v. ⌜ v ≡ verdictOn (now (records .entry)) (now (positions .entry)) (Request.transfer id suffix from to series) ⌝ }
+{
+    let old = positions::position_of(positions, from, series);
+    if holds_too_little(r, old) {
+        return Verdict::Refused { number: 12, place: 0 };
+    }
+    if 65_535 < requests::next_suffix(records, id) + 1 {
+        return Verdict::Refused { number: 13, place: 0 };
+    }
+    if requests::lacks_records_room(records, 2) {
+        return Verdict::Refused { number: 14, place: 0 };
+    }
+    let absent = requests::absent_position(positions, from, series) + requests::absent_position(positions, to, series);
+    if requests::lacks_positions_room(positions, absent) {
+        return Verdict::Refused { number: 15, place: 0 };
+    }
+    let new = positions::position_of(positions, to, series);
+    if !scan::soundness::sound_position(taken_from(old, r)) {
+        return Verdict::Refused { number: 16, place: 0 };
+    }
+    if !scan::soundness::sound_position(given_to(new, r)) {
+        return Verdict::Refused { number: 16, place: 0 };
+    }
+    Verdict::Accepted
+}
+
+fn book(records: &mut [i64], positions: &mut [i64], id: i64, suffix: i64, from: i64, to: i64, series: i64) -> Reply
+    requires { ⌜ (soundRecords (now records) ≡ true) × (soundPositions (now positions) ≡ true) × (verdictOn (now records) (now positions) (Request.transfer id suffix from to series) ≡ Accepted) ⌝ }
+    ensures { λ r. ⌜ answered r (now (records .exit)) (now (positions .exit)) ≡ acceptedOn (now (records .entry)) (now (positions .entry)) (Request.transfer id suffix from to series) ⌝ }
+{
+    let Found::Row(row) = records::find_record(records, id, suffix) else {
+        return Reply::Refused { number: 5, place: 0 };
+    };
+    let r = records::read_record(records, row);
+    let next = requests::next_suffix(records, id);
+    let old = positions::position_of(positions, from, series);
+    let new = positions::position_of(positions, to, series);
+    records::adjust_record(&mut *records, row);
+    records::insert_record(&mut *records, inverse_row(r, next));
+    records::insert_record(records, arrived_row(r, next + 1, to));
+    positions::put_position(&mut *positions, taken_from(old, r));
+    positions::put_position(positions, given_to(new, r));
+    Reply::Booked { rows: 2, residual: 0 }
+}
+
+pub fn transfer(records: &mut [i64], positions: &mut [i64], id: i64, suffix: i64, from: i64, to: i64, series: i64) -> Reply
+    ensures { λ r. ⌜ answered r (now (records .exit)) (now (positions .exit)) ≡ handle (tablesOf (now (records .entry)) (now (positions .entry))) (Request.transfer id suffix from to series) ⌝ }
+{
+    if !scan::soundness::records_sound(records) {
+        return Reply::Refused { number: 1, place: 0 };
+    }
+    if !scan::soundness::positions_sound(positions) {
+        return Reply::Refused { number: 2, place: 0 };
+    }
+    match verdict(records, positions, id, suffix, from, to, series) {
+        Verdict::Refused { number, place } => Reply::Refused { number, place },
+        Verdict::Accepted => book(records, positions, id, suffix, from, to, series),
+    }
+}

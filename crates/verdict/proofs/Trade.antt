@@ -1,0 +1,138 @@
+-- The verdict on a trade, test by test in their order, and the tables and answer of an accepted one. 13 never applies: the new row's suffix is 0.
+-- By the definitions. Assumes nothing.
+use Prim.Native.Nat.{ℕ, _+_}
+use mathlib.Core.Path.{_≡_, refl, _∙_, ap}
+use mathlib.Core.Bool.{Bool, true, false, not}
+use mathlib.Core.List.{List, [], _∷_}
+use mathlib.Core.Option.{none, some}
+use lib.Dec.{ltb}
+use lib.IntN.{ℤ, pos, _-ℤ_}
+use lib.ListN.{length, drop}
+use Rattle.rules.specs.Keyed.{greatest, isSome, upsert, upsertAll}
+use Rattle.rules.specs.Rows.{recordKey, positionKey, newRecord, moved, soundPosition}
+use Rattle.rules.specs.Refusal.{Test, test, anyOf, allOf, firstRefusal}
+use Rattle.rules.specs.Request.{trade}
+use Rattle.rules.specs.Books.{viewOf}
+use Rattle.rules.specs.Plan.{planTests, bookingTests, suffixIsAbove, booked, planReply}
+use Rattle.rules.specs.Trade.{tradeFigures, closedBy, longBooked, shortBooked, isClosingError, tradeKind, tradeReply, tradePlan}
+use Rattle.rules.specs.Layout.{roomOf, rowsOf, write}
+use Rattle.rules.specs.Tables.{booksOf, writeBooks, recordsLayout, positionsLayout}
+use Rattle.rules.specs.Handle.{planOf, planTables}
+use Rattle.rules.specs.declared.Record.{Record}
+use Rattle.rules.specs.declared.Position.{Position}
+use Rattle.rules.specs.declared.Reply.the-variants.{Booked, ClosingError}
+use Rattle.verdict.specs.Verdict.{answered, verdictOn, acceptedOn, absentPosition}
+use Rattle.verdict.specs.declared.Verdict.{Verdict}
+use Rattle.verdict.specs.declared.Verdict.the-variants.{Accepted, Refused}
+use Rattle.verdict.proofs.Chain.{verdictBy, accepts, refuses, passes, and-true}
+use Rattle.verdict.proofs.Room.{positionRead, absent-one}
+
+-- What a trade closes and books, the position that it leaves, and its row.
+module _ (ps : List ℤ) (account series side quantity : ℤ) where
+
+  abbrev pub tradeClosed : ℤ
+  tradeClosed = closedBy side quantity (positionRead ps account series)
+
+  abbrev pub tradeLong : ℤ
+  tradeLong = longBooked side quantity tradeClosed
+
+  abbrev pub tradeShort : ℤ
+  tradeShort = shortBooked side quantity tradeClosed
+
+  abbrev pub tradeError : Bool
+  tradeError = isClosingError side quantity tradeClosed
+
+  abbrev pub tradePosition : Position
+  tradePosition = moved (positionRead ps account series) tradeLong tradeShort (pos 0)
+
+  abbrev pub tradeRow : ℤ → ℤ → Record
+  tradeRow id price = newRecord id (tradeKind tradeError) account series side quantity price tradeLong tradeShort
+
+module _ (rs ps : List ℤ) (id account series side quantity price : ℤ) where
+
+  -- ---- the verdict
+
+  abbrev theVerdict : Verdict
+  theVerdict = verdictOn rs ps (trade id account series side quantity price)
+
+  -- The tests of a trade, by how many positions it adds and whether the position it leaves is sound.
+  abbrev testsBy : ℕ → Bool → List Test
+  testsBy absent sound =
+      test 3 (not (tradeFigures id account series side quantity price))
+      ∷ test 4 (isSome (greatest recordKey id (rowsOf recordsLayout rs)))
+      ∷ test 14 (ltb (roomOf recordsLayout rs) (length (rowsOf recordsLayout rs) + 1))
+      ∷ test 15 (ltb (roomOf positionsLayout ps) (length (rowsOf positionsLayout ps) + absent))
+      ∷ test 16 (not sound)
+      ∷ []
+
+  abbrev tradeTests : List Test
+  tradeTests = testsBy (absentPosition ps account series) (soundPosition (tradePosition ps account series side quantity))
+
+  trade-verdict : theVerdict ≡ verdictBy tradeTests
+  unfolding verdictOn planOf tradePlan viewOf booksOf planTests bookingTests suffixIsAbove newRecord anyOf allOf firstRefusal test
+  trade-verdict = λ i. verdictBy (testsBy
+      (absent-one ps account series (tradeLong ps account series side quantity) (tradeShort ps account series side quantity) (pos 0) i)
+      (and-true (soundPosition (tradePosition ps account series side quantity)) i))
+
+  pub trade-refused-3 : tradeFigures id account series side quantity price ≡ false → theVerdict ≡ Refused (pos 3) (pos 0)
+  trade-refused-3 e = trade-verdict ∙ refuses 3 _ _ (ap not e)
+
+  module _ (figures : tradeFigures id account series side quantity price ≡ true) where
+
+    past-3 : theVerdict ≡ verdictBy (drop 1 tradeTests)
+    past-3 = trade-verdict ∙ passes 3 _ _ (ap not figures)
+
+    pub trade-refused-4 : (g : ℤ) → greatest recordKey id (rowsOf recordsLayout rs) ≡ some g → theVerdict ≡ Refused (pos 4) (pos 0)
+    unfolding isSome
+    trade-refused-4 g e = past-3 ∙ refuses 4 _ _ (ap isSome e)
+
+    module _ (new-id : greatest recordKey id (rowsOf recordsLayout rs) ≡ none) where
+
+      past-4 : theVerdict ≡ verdictBy (drop 2 tradeTests)
+      unfolding isSome
+      past-4 = past-3 ∙ passes 4 _ _ (ap isSome new-id)
+
+      pub trade-refused-14 : ltb (roomOf recordsLayout rs) (length (rowsOf recordsLayout rs) + 1) ≡ true → theVerdict ≡ Refused (pos 14) (pos 0)
+      trade-refused-14 e = past-4 ∙ refuses 14 _ _ e
+
+      module _ (records-room : ltb (roomOf recordsLayout rs) (length (rowsOf recordsLayout rs) + 1) ≡ false) where
+
+        past-14 : theVerdict ≡ verdictBy (drop 3 tradeTests)
+        past-14 = past-4 ∙ passes 14 _ _ records-room
+
+        pub trade-refused-15 : ltb (roomOf positionsLayout ps) (length (rowsOf positionsLayout ps) + absentPosition ps account series) ≡ true → theVerdict ≡ Refused (pos 15) (pos 0)
+        trade-refused-15 e = past-14 ∙ refuses 15 _ _ e
+
+        module _ (positions-room : ltb (roomOf positionsLayout ps) (length (rowsOf positionsLayout ps) + absentPosition ps account series) ≡ false) where
+
+          past-15 : theVerdict ≡ verdictBy (drop 4 tradeTests)
+          past-15 = past-14 ∙ passes 15 _ _ positions-room
+
+          pub trade-refused-16 : soundPosition (tradePosition ps account series side quantity) ≡ false → theVerdict ≡ Refused (pos 16) (pos 0)
+          trade-refused-16 e = past-15 ∙ refuses 16 _ _ (ap not e)
+
+          pub trade-accepted : soundPosition (tradePosition ps account series side quantity) ≡ true → theVerdict ≡ Accepted
+          trade-accepted e = past-15 ∙ passes 16 _ _ (ap not e) ∙ accepts
+
+  -- ---- the booking
+
+  abbrev recordsAfter : List ℤ
+  recordsAfter = write recordsLayout rs (upsert recordKey (tradeRow ps account series side quantity id price) (rowsOf recordsLayout rs))
+
+  abbrev positionsAfter : List ℤ
+  positionsAfter = write positionsLayout ps (upsert positionKey (tradePosition ps account series side quantity) (rowsOf positionsLayout ps))
+
+  pub trade-booked : acceptedOn rs ps (trade id account series side quantity price)
+    ≡ answered (tradeReply (tradeError ps account series side quantity) (quantity -ℤ tradeClosed ps account series side quantity)) recordsAfter positionsAfter
+  unfolding acceptedOn planOf tradePlan viewOf booksOf planReply planTables writeBooks booked upsertAll
+  trade-booked = refl
+
+  pub trade-booked-error : tradeError ps account series side quantity ≡ true → acceptedOn rs ps (trade id account series side quantity price)
+    ≡ answered (ClosingError (quantity -ℤ tradeClosed ps account series side quantity)) recordsAfter positionsAfter
+  unfolding tradeReply
+  trade-booked-error e = trade-booked ∙ ap (λ (b : Bool). answered (tradeReply b (quantity -ℤ tradeClosed ps account series side quantity)) recordsAfter positionsAfter) e
+
+  pub trade-booked-plain : tradeError ps account series side quantity ≡ false → acceptedOn rs ps (trade id account series side quantity price)
+    ≡ answered (Booked (pos 1) (pos 0)) recordsAfter positionsAfter
+  unfolding tradeReply
+  trade-booked-plain e = trade-booked ∙ ap (λ (b : Bool). answered (tradeReply b (quantity -ℤ tradeClosed ps account series side quantity)) recordsAfter positionsAfter) e

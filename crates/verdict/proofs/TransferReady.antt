@@ -1,0 +1,132 @@
+-- What the booking of an accepted transfer requires, step by step, and what it comes to. Assumes nothing.
+use mathlib.Core.Path.{_≡_, sym, _∙_, ap, subst}
+use mathlib.Core.Bool.{true, false}
+use mathlib.Core.List.{List, [], _∷_}
+use mathlib.Core.Option.{Option, none, some}
+use lib.IntN.{ℤ, pos, _+ℤ_}
+use lib.Signed.{_≤ℤ_}
+use Rattle.rules.specs.Figures.{adjustable, greatestOfSuffixes}
+use Rattle.rules.specs.Keyed.{find, isSome}
+use Rattle.rules.specs.Rows.{keyOf, recordKey, positionKey, adjustedRecord, adjustableRecord, soundRecord}
+use Rattle.rules.specs.NamedRecord.{theRecord, isNotAdjustable}
+use Rattle.rules.specs.Request.{transfer}
+use Rattle.rules.specs.Books.{viewOf}
+use Rattle.rules.specs.Transfer.{transferPlan}
+use Rattle.rules.specs.Layout.{rowsOf}
+use Rattle.rules.specs.Tables.{booksOf, recordsLayout, positionsLayout, soundRecords, soundPositions}
+use Rattle.rules.specs.Handle.{planOf}
+use Rattle.rules.specs.declared.Record.{Record}
+use Rattle.rules.specs.declared.Reply.the-variants.{Booked}
+use Rattle.keys.proofs.Clauses.{isSome-none, allOf-head, allOf-tail}
+use Rattle.keys.proofs.Split.{clash}
+use Rattle.cells.proofs.RowCells.{records-lawful, positions-lawful}
+use Rattle.cells.proofs.SoundCells.{positions-known}
+use Rattle.soundness.specs.SoundBooks.{Accepts}
+use Rattle.soundness.proofs.FigureRanges.{suffix-range}
+use Rattle.soundness.proofs.NamedRecord.{nextOf}
+use Rattle.soundness.proofs.SoundRecord.{record-sound}
+use Rattle.soundness.proofs.Transfer.{TransferPassed, transfer-passed, transfer-facts}
+use Rattle.verdict.specs.Verdict.{tablesOf, answered, verdictOn, acceptedOn}
+use Rattle.verdict.specs.declared.Verdict.the-variants.{Accepted}
+use Rattle.verdict.proofs.Acceptance.{sound-books, accepted-accepts}
+use Rattle.verdict.proofs.Puts.{putOne, putAll, put-one, put-none, put-next}
+use Rattle.verdict.proofs.Ready.{Ready, ready, InsertReady, insert-ready, PutReady, put-ready}
+use Rattle.verdict.proofs.SoundReads.{next-range, status-adjustable}
+use Rattle.verdict.proofs.Transfer.{transferInverse, transferArrived, transferRows, transferOld, transferNew, transfer-booked}
+
+-- ---- what is required
+
+module _ (rs ps : List ℤ) (id suffix from to series : ℤ)
+  (records-sound : soundRecords rs ≡ true) (positions-sound : soundPositions ps ≡ true)
+  (accepted : verdictOn rs ps (transfer id suffix from to series) ≡ Accepted) where
+
+  accepts : Accepts (booksOf (tablesOf rs ps)) (transfer id suffix from to series)
+  accepts = accepted-accepts rs ps (transfer id suffix from to series) accepted
+
+  has-passed : TransferPassed (rowsOf recordsLayout rs) id suffix from to
+  unfolding booksOf
+  has-passed = transfer-passed (booksOf (tablesOf rs ps)) id suffix from to series accepts
+
+  -- The named record is there.
+  pub transfer-found : find recordKey (keyOf id suffix) (rowsOf recordsLayout rs) ≡ none → ⊥
+  transfer-found e = clash (has-passed .record-found) (ap (λ (o : Option Record). isSome o) e ∙ isSome-none Record)
+
+  module _ (r : Record) (named : find recordKey (keyOf id suffix) (rowsOf recordsLayout rs) ≡ some r) where
+
+    abbrev next : ℤ
+    next = nextOf (rowsOf recordsLayout rs) id
+
+    pub transfer-status : r .status ≡ adjustable
+    unfolding theRecord
+    transfer-status = status-adjustable r (subst (λ (o : Option Record). isNotAdjustable (theRecord o) ≡ false) named (has-passed .record-adjustable))
+
+    pub transfer-ready : Ready rs ps (adjustedRecord r ∷ []) (transferInverse r next ∷ transferArrived r next to ∷ []) (transferOld ps r from series ∷ transferNew ps r to series ∷ [])
+    unfolding planOf transferPlan viewOf booksOf theRecord
+    transfer-ready =
+        subst
+        (λ (o : Option Record). Ready rs ps (adjustedRecord (theRecord o) ∷ []) (transferInverse (theRecord o) next ∷ transferArrived (theRecord o) next to ∷ [])
+          (transferOld ps (theRecord o) from series ∷ transferNew ps (theRecord o) to series ∷ []))
+        named
+        (ready rs ps _ _ (transfer-facts (booksOf (tablesOf rs ps)) (sound-books rs ps records-sound positions-sound) id suffix from to series accepts) accepts)
+
+    pub transfer-next : (pos 0 ≤ℤ next) × ((next +ℤ pos 1) ≤ℤ greatestOfSuffixes)
+    unfolding adjustableRecord
+    transfer-next =
+        (next-range rs records-sound id .0,
+        suffix-range (next +ℤ pos 1)
+        (record-sound (transferArrived r next to)
+        (allOf-head (soundRecord (transferArrived r next to)) [] (allOf-tail (soundRecord (transferInverse r next)) (soundRecord (transferArrived r next to) ∷ []) (transfer-ready .added-sound))) .suffix) .1)
+
+    module _ (rs₁ : List ℤ) (e₁ : rs₁ ≡ putOne recordsLayout recordKey rs (adjustedRecord r)) where
+
+      adjusted-put : rs₁ ≡ putAll recordsLayout recordKey rs (adjustedRecord r ∷ [])
+      adjusted-put = e₁ ∙ put-one recordsLayout recordKey rs (adjustedRecord r)
+
+      pub transfer-insert-inverse : soundRecords rs₁ ≡ true → InsertReady rs₁ (transferInverse r next)
+      transfer-insert-inverse sound =
+          insert-ready rs ps (adjustedRecord r ∷ []) [] (transferArrived r next to ∷ []) (transferInverse r next) _ transfer-ready records-sound rs₁ adjusted-put sound
+
+      module _ (rs₂ : List ℤ) (e₂ : rs₂ ≡ putOne recordsLayout recordKey rs₁ (transferInverse r next)) where
+
+        inverse-put : rs₂ ≡ putAll recordsLayout recordKey rs (adjustedRecord r ∷ transferInverse r next ∷ [])
+        inverse-put = put-next recordsLayout recordKey records-lawful rs rs₁ (adjustedRecord r ∷ []) adjusted-put rs₂ (transferInverse r next) e₂
+
+        pub transfer-insert-arrived : soundRecords rs₂ ≡ true → InsertReady rs₂ (transferArrived r next to)
+        transfer-insert-arrived sound =
+            insert-ready rs ps (adjustedRecord r ∷ []) (transferInverse r next ∷ []) [] (transferArrived r next to) _ transfer-ready records-sound rs₂ inverse-put sound
+
+    pub transfer-put-old : PutReady ps (transferOld ps r from series)
+    transfer-put-old =
+        put-ready rs ps _ _ [] (transferNew ps r to series ∷ []) (transferOld ps r from series) transfer-ready positions-sound
+        ps (put-none positionsLayout positionKey positions-lawful ps (positions-known ps positions-sound .count-sound)) positions-sound
+
+    pub transfer-put-new : (ps₁ : List ℤ) → ps₁ ≡ putOne positionsLayout positionKey ps (transferOld ps r from series) → soundPositions ps₁ ≡ true
+      → PutReady ps₁ (transferNew ps r to series)
+    transfer-put-new ps₁ e sound =
+        put-ready rs ps _ _ (transferOld ps r from series ∷ []) [] (transferNew ps r to series) transfer-ready positions-sound
+        ps₁ (e ∙ put-one positionsLayout positionKey ps (transferOld ps r from series)) sound
+
+-- ---- what it comes to
+
+module _ (rs ps : List ℤ) (id suffix from to series : ℤ) (r : Record) (named : find recordKey (keyOf id suffix) (rowsOf recordsLayout rs) ≡ some r) where
+
+  abbrev after : ℤ
+  after = nextOf (rowsOf recordsLayout rs) id
+
+  pub transfer-returns : (rs₁ rs₂ rs₃ ps₁ ps₂ : List ℤ)
+    → rs₁ ≡ putOne recordsLayout recordKey rs (adjustedRecord r)
+    → rs₂ ≡ putOne recordsLayout recordKey rs₁ (transferInverse r after)
+    → rs₃ ≡ putOne recordsLayout recordKey rs₂ (transferArrived r after to)
+    → ps₁ ≡ putOne positionsLayout positionKey ps (transferOld ps r from series)
+    → ps₂ ≡ putOne positionsLayout positionKey ps₁ (transferNew ps r to series)
+    → answered (Booked (pos 2) (pos 0)) rs₃ ps₂ ≡ acceptedOn rs ps (transfer id suffix from to series)
+  transfer-returns rs₁ rs₂ rs₃ ps₁ ps₂ e₁ e₂ e₃ f₁ f₂ =
+      let adjusted : rs₁ ≡ putAll recordsLayout recordKey rs (adjustedRecord r ∷ []) = e₁ ∙ put-one recordsLayout recordKey rs (adjustedRecord r) in
+      let inverted : rs₂ ≡ putAll recordsLayout recordKey rs (adjustedRecord r ∷ transferInverse r after ∷ []) =
+            put-next recordsLayout recordKey records-lawful rs rs₁ (adjustedRecord r ∷ []) adjusted rs₂ (transferInverse r after) e₂ in
+      let arrived : rs₃ ≡ putAll recordsLayout recordKey rs (transferRows r after to) =
+            put-next recordsLayout recordKey records-lawful rs rs₂ (adjustedRecord r ∷ transferInverse r after ∷ []) inverted rs₃ (transferArrived r after to) e₃ in
+      let moved : ps₂ ≡ putAll positionsLayout positionKey ps (transferOld ps r from series ∷ transferNew ps r to series ∷ []) =
+            put-next positionsLayout positionKey positions-lawful ps ps₁ (transferOld ps r from series ∷ []) (f₁ ∙ put-one positionsLayout positionKey ps (transferOld ps r from series))
+            ps₂ (transferNew ps r to series) f₂ in
+      (λ i. answered (Booked (pos 2) (pos 0)) (arrived i) (moved i)) ∙ sym (transfer-booked rs ps id suffix from to series r named)

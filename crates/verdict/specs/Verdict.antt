@@ -1,0 +1,45 @@
+-- The verdict on a request, as the code gives it: accepted, or the first refusal with its number and place.
+use Prim.Native.Nat.{ℕ}
+use mathlib.Core.Bool.{cond}
+use mathlib.Core.List.{List}
+use mathlib.Core.Option.{Option, none, some}
+use lib.IntN.{ℤ, pos}
+use Rattle.rules.specs.Keyed.{find, isSome}
+use Rattle.rules.specs.Rows.{keyOf, positionKey}
+use Rattle.rules.specs.Refusal.{Test, firstRefusal}
+use Rattle.rules.specs.Request.{Request}
+use Rattle.rules.specs.Books.{viewOf}
+use Rattle.rules.specs.Plan.{Plan, planTests, planReply}
+use Rattle.rules.specs.Layout.{rowsOf}
+use Rattle.rules.specs.Tables.{Tables, booksOf, positionsLayout}
+use Rattle.rules.specs.Handle.{Answer, planOf, planTables}
+use Rattle.rules.specs.declared.Reply.{Reply}
+use Rattle.verdict.specs.declared.Verdict.{Verdict}
+use Rattle.verdict.specs.declared.Verdict.the-variants.{Accepted, Refused}
+
+abbrev pub tablesOf : List ℤ → List ℤ → Tables
+tablesOf records positions = record { records = records; positions = positions }
+
+-- An answer with the cells of both tables at the end.
+abbrev pub answered : Reply → List ℤ → List ℤ → Answer
+answered reply records positions = record { reply = reply; tables = tablesOf records positions }
+
+abbrev pub planFor : List ℤ → List ℤ → Request → Plan
+planFor records positions r = planOf (viewOf (booksOf (tablesOf records positions))) r
+
+unfoldable pub verdictOf : Option Test → Verdict
+verdictOf none = Accepted
+verdictOf (some t) = Refused (pos (t .number)) (pos (t .place))
+
+-- Refusals 3 to 16, on sound tables.
+unfoldable pub verdictOn : List ℤ → List ℤ → Request → Verdict
+verdictOn records positions r = verdictOf (firstRefusal (planTests (booksOf (tablesOf records positions)) (planFor records positions r)))
+
+-- What an accepted request answers and leaves.
+unfoldable pub acceptedOn : List ℤ → List ℤ → Request → Answer
+acceptedOn records positions r =
+    record { reply = planReply (planFor records positions r); tables = planTables (planFor records positions r) (tablesOf records positions) }
+
+-- 1 where the account and series have no row, else 0.
+unfoldable pub absentPosition : List ℤ → ℤ → ℤ → ℕ
+absentPosition cells account series = cond (isSome (find positionKey (keyOf account series) (rowsOf positionsLayout cells))) 0 1
