@@ -1,8 +1,7 @@
 -- The parts of a separation from the front: what the tests and the sum of those that are left come to, part by part. With at most 1,000 parts of at most
 -- 1,000,000 each, every sum on the way fits. Assumes nothing.
-use Prim.Native.Nat.{ℕ, suc, _+_, _*_, _≤_, _<_}
+use Prim.Native.Nat.{ℕ, _+_, _*_, _≤_, _<_}
 use native.Mathlib.Numerals.{add-one}
-use native.Mathlib.Omega.{arith}
 use mathlib.Core.Path.{_≡_, sym, ap, _∙_}
 use mathlib.Core.Bool.{Bool, true, false, _&&_}
 use mathlib.Core.List.{List, [], _∷_, map}
@@ -19,7 +18,7 @@ use Rattle.rules.specs.Figures.{validId, validSuffix, validAccount, validSeries
 use Rattle.rules.specs.Refusal.{allOf}
 use Rattle.rules.specs.Separation.{sumOf, separationFigures}
 use Rattle.keys.proofs.Split.{and-left, and-right}
-use Rattle.keys.proofs.Clauses.{allOf-nil, allOf-cons, allOf-head, allOf-tail}
+use Rattle.keys.proofs.Clauses.{allOf-nil, allOf-cons, allOf-head}
 use Rattle.soundness.proofs.FigureRanges.{quantity-range}
 
 module _ (parts : List ℤ) (i : ℕ) where

@@ -3,9 +3,8 @@ use Prim.Native.Nat.{_+_, _*_, _≤_, _<_}
 use native.Mathlib.Omega.{arith}
 use mathlib.Core.Path.{_≡_, sym, ap, _∙_}
 use mathlib.Core.Bool.{true, false, not}
-use mathlib.Core.List.{List, map}
+use mathlib.Core.List.{map}
 use mathlib.Core.Option.{some}
-use lib.Dec.{ltb}
 use lib.IntN.{ℤ, pos, _+ℤ_}
 use lib.ListN.{length}
 use lib.Signed.{ltZ, _≤ℤ_}
@@ -23,7 +22,7 @@ use Rattle.rules.specs.Rows.{keyOf, recordKey}
 use Rattle.rules.specs.NamedRecord.{isElsewhere, isNotAdjustable}
 use Rattle.rules.specs.Refusal.{allOf}
 use Rattle.rules.specs.Separation.{sumOf, separationFigures}
-use Rattle.rules.specs.Layout.{roomOf, rowsOf}
+use Rattle.rules.specs.Layout.{rowsOf}
 use Rattle.rules.specs.Tables.{recordAt, recordsLayout}
 use Rattle.rules.specs.declared.Record.{Record}
 use Rattle.figures.proofs.Tests.{failed, passed, is-literal, not-literal}
