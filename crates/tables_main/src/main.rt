@@ -4,7 +4,6 @@ mod damage;
 
 use lookup::Found;
 use lookup::Greatest;
-use tables::positions;
 use tables::records;
 
 // What the lookups say of a sound records table.

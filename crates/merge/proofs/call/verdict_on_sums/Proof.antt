@@ -1,0 +1,280 @@
+-- `merge::call::verdict_on_sums` meets its contract: tests 11 and 13 to 16 in their order, each of what the calls before it answered. Assumes nothing.
+use Prim.Native.Nat.{_+_, _/_, _≤_}
+use native.Mathlib.Omega.{arith}
+use mathlib.Core.Path.{_≡_, refl, sym, _∙_, ap}
+use mathlib.Core.Bool.{Bool, true, false}
+use mathlib.Core.List.{List, [], map}
+use borrow.Author.Needs.{needs, sfits-of}
+use borrow.Author.Tests.{not-true}
+use lib.Dec.{ltb}
+use lib.IntN.{ℤ, pos}
+use lib.ListN.{length}
+use lib.Signed.{ltZ, _≤ℤ_}
+use mir.Facts.{toZ-ofZ}
+use mir.Syntax.{w64}
+use mir.Val.{SFits, toZ, ofZ}
+use Rattle.integers.specs.Average.{residualOf}
+use Rattle.integers.specs.Averageable.{Averageable}
+use Rattle.integers.specs.Order.{inRange}
+use Rattle.integers.proofs.Linear.{zarith}
+use Rattle.rules.specs.Figures.{magnitudeAtMost, mostQuantity}
+use Rattle.rules.specs.Rows.{soundPosition, validBooked}
+use Rattle.rules.specs.Refusal.{anyOf}
+use Rattle.rules.specs.Plan.{suffixIsAbove}
+use Rattle.rules.specs.Layout.{roomOf, rowsOf}
+use Rattle.rules.specs.Tables.{recordsLayout, positionsLayout}
+use Rattle.rules.specs.Merge.{isMissing, sumOfQuantities, sumOfValues, mergeInverses, mergeResidual}
+use Rattle.rules.specs.declared.Record.{Record}
+use Rattle.figures.proofs.Tests.{failed, passed}
+use Rattle.verdict.specs.Verdict.{absentPosition}
+use Rattle.verdict.proofs.Room.{positionRead, absent-at-most-one}
+use Rattle.verdict.proofs.SoundReads.{position-read-sound}
+use Rattle.merge_sources.specs.Sources.{sourcesIn, sourceRecords}
+use Rattle.merge_sources.proofs.MergeFacts.{figures-count}
+use Rattle.merge_sources.proofs.SourceSums.{sources-averageable}
+use Rattle.merge_sources.proofs.SumRanges.{residual-small}
+use Rattle.merge_sources.proofs.MergeVerdict.{mergePosition, merge-refused-11, merge-refused-13, merge-refused-14, merge-refused-15, merge-refused-16, merge-accepted}
+use Rattle.merge.proofs.call.verdict_on_sums.Statement.{statement}
+use Rattle.merge.proofs.call.verdict_on_sums.Tie as tie
+
+module _ (s : tie.Start) where
+  abbrev rs : List ℤ
+  rs = s .args .records .now
+
+  abbrev ps : List ℤ
+  ps = s .args .positions .now
+
+  abbrev id : ℤ
+  id = s .args .id
+
+  abbrev account : ℤ
+  account = s .args .account
+
+  abbrev series : ℤ
+  series = s .args .series
+
+  abbrev list : List ℤ
+  list = s .args .pairs .now
+
+  abbrev sources : List Record
+  sources = sourceRecords rs list
+
+  none-missing : anyOf (map isMissing (sourcesIn rs list)) ≡ false
+  none-missing = not-true (anyOf (map isMissing (sourcesIn rs list))) (s .pre .1 .0 .2)
+
+  count : (2 ≤ length list / 2) × (length list ≤ 2000)
+  count = figures-count id account series list (s .pre .1 .0 .0)
+
+-- ---- test 11
+
+sum-is : (c : tie.After-sum-of-quantities) → toZ w64 (ofZ w64 (c .sum-of-quantities .result)) ≡ sumOfQuantities (sources (c .before))
+sum-is c = let f : SFits w64 (c .sum-of-quantities .result) = sfits-of (c .sum-of-quantities .ok) in toZ-ofZ f ∙ c .sum-of-quantities .ensures
+
+abbrev start1 : tie.Else1 → tie.Start
+start1 c = c .before .before
+
+sum-left : (c : tie.Else1) → ltZ (pos mostQuantity) (sumOfQuantities (sources (start1 c))) ≡ false
+sum-left c = rw (sum-is (c .before)) at (c .if1 .left)
+
+-- ---- tests 13 to 15
+
+abbrev start2 : tie.Else2 → tie.Start
+start2 c = start1 (c .before .before)
+
+suffixes : (c : tie.Else2) → anyOf (map suffixIsAbove (mergeInverses (pos 0) [] (sourcesIn (rs (start2 c)) (list (start2 c))))) ≡ false
+suffixes c = sym (c .before .suffix-above .ensures) ∙ c .if2 .left
+
+abbrev start3 : tie.Else3 → tie.Start
+start3 c = start2 (c .before .before)
+
+records-room : (c : tie.Else3) → ltb (roomOf recordsLayout (rs (start3 c))) (length (rowsOf recordsLayout (rs (start3 c))) + (length (list (start3 c)) / 2 + 1)) ≡ false
+records-room c = sym (c .before .lacks-records-room .ensures) ∙ c .if3 .left
+
+absent-is : (c : tie.After-absent-position) →
+    c .absent-position .result ≡ absentPosition (ps (start3 (c .before))) (account (start3 (c .before))) (series (start3 (c .before)))
+absent-is c =
+    let s : tie.Start = start3 (c .before) in
+    simp (toZ-ofZ (s .fits .account), toZ-ofZ (s .fits .series)) at (c .absent-position .ensures)
+
+abbrev start4 : tie.After-lacks-positions-room → tie.Start
+start4 c = start3 (c .before .before)
+
+room-answer : (c : tie.After-lacks-positions-room) → c .lacks-positions-room .result
+    ≡ ltb (roomOf positionsLayout (ps (start4 c)))
+      (length (rowsOf positionsLayout (ps (start4 c))) + absentPosition (ps (start4 c)) (account (start4 c)) (series (start4 c)))
+room-answer c = rw (absent-is (c .before)) at (c .lacks-positions-room .ensures)
+
+positions-room : (c : tie.Else4) → ltb (roomOf positionsLayout (ps (start4 (c .before))))
+    (length (rowsOf positionsLayout (ps (start4 (c .before)))) + absentPosition (ps (start4 (c .before))) (account (start4 (c .before))) (series (start4 (c .before)))) ≡ false
+positions-room c = sym (room-answer (c .before)) ∙ c .if4 .left
+
+-- ---- test 16
+
+-- Where the sum of quantities was tested.
+abbrev tested : tie.Else4 → tie.Else1
+tested c = c .before .before .before .before .before .before .before
+
+module _ (c : tie.After-sum-of-values) where
+  abbrev s5 : tie.Start
+  s5 = start1 (tested (c .before))
+
+  value-is : toZ w64 (ofZ w64 (c .sum-of-values .result)) ≡ sumOfValues (sources s5)
+  value-is = let f : SFits w64 (c .sum-of-values .result) = sfits-of (c .sum-of-values .ok) in toZ-ofZ f ∙ c .sum-of-values .ensures
+
+  small : sumOfQuantities (sources s5) ≤ℤ pos mostQuantity
+  small = let h : ltZ (pos mostQuantity) (sumOfQuantities (sources s5)) ≡ false = sum-left (tested (c .before)) in omega zarith
+
+  ready : Averageable (sumOfValues (sources s5)) (sumOfQuantities (sources s5))
+  ready = sources-averageable (rs s5) (list s5) (s5 .pre .0 .0) (s5 .pre .1 .0 .2) (s5 .pre .1 .1 .0 .1) small (omega (arith, count s5 .0))
+
+module _ (c : tie.After-residual) where
+  abbrev s6 : tie.Start
+  s6 = s5 (c .before)
+
+  residual-is : toZ w64 (ofZ w64 (c .residual .result)) ≡ mergeResidual (sources s6)
+  unfolding mergeResidual
+  residual-is =
+      let f : SFits w64 (c .residual .result) = sfits-of (c .residual .ok) in
+      toZ-ofZ f
+      ∙ c .residual .ensures
+      ∙ ap (λ (z : ℤ). residualOf (s6 .args .buy) z (toZ w64 (ofZ w64 (tested (c .before .before) .before .sum-of-quantities .result)))) (value-is (c .before))
+      ∙ ap (λ (z : ℤ). residualOf (s6 .args .buy) (sumOfValues (sources s6)) z) (sum-is (tested (c .before .before) .before))
+      ∙ ap (λ (b : Bool). residualOf b (sumOfValues (sources s6)) (sumOfQuantities (sources s6))) (s6 .pre .1 .1 .1 .2)
+
+  small-residual : magnitudeAtMost 1000000 (mergeResidual (sources s6)) ≡ true
+  unfolding mergeResidual
+  small-residual = residual-small _ (sumOfValues (sources s6)) (sumOfQuantities (sources s6)) (ready (c .before))
+
+position-is : (c : tie.After-position-of) → c .position-of .result ≡ positionRead (ps (s6 (c .before))) (account (s6 (c .before))) (series (s6 (c .before)))
+position-is c =
+    let s : tie.Start = s6 (c .before) in
+    simp (toZ-ofZ (s .fits .account), toZ-ofZ (s .fits .series)) at (c .position-of .ensures)
+
+none-booked : validBooked (pos 0) ≡ true
+unfolding validBooked magnitudeAtMost inRange
+none-booked = refl
+
+moved-is : (c : tie.After-moved) →
+    c .moved .result ≡ mergePosition (ps (s6 (c .before .before))) (account (s6 (c .before .before))) (series (s6 (c .before .before))) (sources (s6 (c .before .before)))
+moved-is c = rw (position-is (c .before), residual-is (c .before .before)) at (c .moved .ensures)
+
+abbrev start7 : tie.After-sound-position → tie.Start
+start7 c = s6 (c .before .before .before)
+
+sound-answer : (c : tie.After-sound-position) →
+    c .sound-position .result ≡ soundPosition (mergePosition (ps (start7 c)) (account (start7 c)) (series (start7 c)) (sources (start7 c)))
+sound-answer c = rw (moved-is (c .before)) at (c .sound-position .ensures)
+
+abbrev else4 : tie.After-sound-position → tie.Else4
+else4 c = c .before .before .before .before .before
+
+abbrev else3 : tie.Else4 → tie.Else3
+else3 c = c .before .before .before
+
+-- ---- the needs
+
+sum-of-quantities-requires : tie.Need-sum-of-quantities-requires
+sum-of-quantities-requires c κs = (c .pre .0 .0, c .pre .1 .0 .2, count c .1)
+
+returns : tie.Need-returns
+returns c =
+    let s : tie.Start = c .before .before in
+    sym
+    (merge-refused-11 (rs s) (ps s) (id s) (account s) (series s) (list s)
+    (s .pre .1 .0 .0) (s .pre .1 .0 .1) (none-missing s) (s .pre .1 .1 .0 .0) (s .pre .1 .1 .0 .1) (s .pre .1 .1 .0 .2) (s .pre .1 .1 .1 .0) (s .pre .1 .1 .1 .1)
+    (rw (sum-is (c .before)) at (c .if1 .taken)))
+
+suffix-above-requires : tie.Need-suffix-above-requires
+suffix-above-requires c κs = (start1 c .pre .0 .0, count (start1 c) .1)
+
+returns-2 : tie.Need-returns-2
+returns-2 c =
+    let s : tie.Start = start1 (c .before .before) in
+    sym
+    (merge-refused-13 (rs s) (ps s) (id s) (account s) (series s) (list s)
+    (s .pre .1 .0 .0) (s .pre .1 .0 .1) (none-missing s) (s .pre .1 .1 .0 .0) (s .pre .1 .1 .0 .1) (s .pre .1 .1 .0 .2) (s .pre .1 .1 .1 .0) (s .pre .1 .1 .1 .1)
+    (sum-left (c .before .before)) (sym (c .before .suffix-above .ensures) ∙ c .if2 .taken))
+
+add-lacks-records-room : tie.Need-add-lacks-records-room
+add-lacks-records-room c = search needs
+
+lacks-records-room-requires : tie.Need-lacks-records-room-requires
+lacks-records-room-requires c κs = (start2 c .pre .0 .0, omega (arith, count (start2 c) .1))
+
+returns-3 : tie.Need-returns-3
+returns-3 c =
+    let e : tie.Else2 = c .before .before in
+    let s : tie.Start = start2 e in
+    sym
+    (merge-refused-14 (rs s) (ps s) (id s) (account s) (series s) (list s)
+    (s .pre .1 .0 .0) (s .pre .1 .0 .1) (none-missing s) (s .pre .1 .1 .0 .0) (s .pre .1 .1 .0 .1) (s .pre .1 .1 .0 .2) (s .pre .1 .1 .1 .0) (s .pre .1 .1 .1 .1)
+    (sum-left (e .before .before)) (suffixes e) (sym (c .before .lacks-records-room .ensures) ∙ c .if3 .taken))
+
+absent-position-requires : tie.Need-absent-position-requires
+absent-position-requires c κs = search needs
+
+lacks-positions-room-requires : tie.Need-lacks-positions-room-requires
+lacks-positions-room-requires c κs =
+    let s : tie.Start = start3 (c .before) in
+    (s .pre .0 .1, omega (arith, absent-is c, absent-at-most-one (ps s) (account s) (series s)))
+
+returns-4 : tie.Need-returns-4
+returns-4 c =
+    let g : tie.Else3 = c .before .before .before in
+    let e : tie.Else2 = g .before .before in
+    let s : tie.Start = start2 e in
+    sym
+    (merge-refused-15 (rs s) (ps s) (id s) (account s) (series s) (list s)
+    (s .pre .1 .0 .0) (s .pre .1 .0 .1) (none-missing s) (s .pre .1 .1 .0 .0) (s .pre .1 .1 .0 .1) (s .pre .1 .1 .0 .2) (s .pre .1 .1 .1 .0) (s .pre .1 .1 .1 .1)
+    (sum-left (e .before .before)) (suffixes e) (records-room g) (sym (room-answer (c .before)) ∙ c .if4 .taken))
+
+sum-of-values-requires : tie.Need-sum-of-values-requires
+sum-of-values-requires c κs =
+    let s : tie.Start = start1 (tested c) in
+    let h : ltZ (pos mostQuantity) (sumOfQuantities (sources s)) ≡ false = sum-left (tested c) in
+    (s .pre .0 .0, s .pre .1 .0 .2, count s .1, s .pre .1 .1 .0 .1, omega zarith)
+
+residual-requires : tie.Need-residual-requires
+residual-requires c κs = rw (value-is c, sum-is (tested (c .before) .before)) (ready c)
+
+position-of-requires : tie.Need-position-of-requires
+position-of-requires c κs = search needs
+
+moved-requires : tie.Need-moved-requires
+moved-requires c κs =
+    let s : tie.Start = s6 (c .before) in
+    rw (position-is c, residual-is (c .before))
+    (position-read-sound (ps s) (s .pre .0 .1) (account s) (series s), none-booked, none-booked, small-residual (c .before))
+
+sound-position-requires : tie.Need-sound-position-requires
+sound-position-requires c κs = search needs
+
+returns-5 : tie.Need-returns-5
+returns-5 c =
+    let f : tie.Else4 = else4 (c .before) in
+    let g : tie.Else3 = else3 f in
+    let e : tie.Else2 = g .before .before in
+    let s : tie.Start = start2 e in
+    sym
+    (merge-refused-16 (rs s) (ps s) (id s) (account s) (series s) (list s)
+    (s .pre .1 .0 .0) (s .pre .1 .0 .1) (none-missing s) (s .pre .1 .1 .0 .0) (s .pre .1 .1 .0 .1) (s .pre .1 .1 .0 .2) (s .pre .1 .1 .1 .0) (s .pre .1 .1 .1 .1)
+    (sum-left (e .before .before)) (suffixes e) (records-room g) (positions-room f) (failed (sound-answer (c .before)) (c .if5 .taken)))
+
+returns-6 : tie.Need-returns-6
+returns-6 c =
+    let f : tie.Else4 = else4 (c .before) in
+    let g : tie.Else3 = else3 f in
+    let e : tie.Else2 = g .before .before in
+    let s : tie.Start = start2 e in
+    sym
+    (merge-accepted (rs s) (ps s) (id s) (account s) (series s) (list s)
+    (s .pre .1 .0 .0) (s .pre .1 .0 .1) (none-missing s) (s .pre .1 .1 .0 .0) (s .pre .1 .1 .0 .1) (s .pre .1 .1 .0 .2) (s .pre .1 .1 .1 .0) (s .pre .1 .1 .1 .1)
+    (sum-left (e .before .before)) (suffixes e) (records-room g) (positions-room f) (passed (sound-answer (c .before)) (c .if5 .left)))
+
+pub verdict-on-sums-spec : {M : Type 1} → statement M
+verdict-on-sums-spec =
+    tie.close
+    (tie.spec
+    sum-of-quantities-requires returns suffix-above-requires returns-2 add-lacks-records-room lacks-records-room-requires returns-3
+    absent-position-requires lacks-positions-room-requires returns-4 sum-of-values-requires residual-requires position-of-requires
+    moved-requires sound-position-requires returns-5 returns-6)
