@@ -1,19 +1,27 @@
-// The changes of an accepted merge to its sources and their ids.
+// The changes of an accepted merge.
+use super::sources;
 use lookup::Found;
+use rules::Record;
+use rules::Reply;
+use tables::positions;
 use tables::records;
 ghost use mathlib.Core.Path.{_≡_};
 ghost use mathlib.Core.Bool.{true, false};
-ghost use mathlib.Core.List.{[], map};
+ghost use mathlib.Core.List.{[], map, _++_, _∷_};
 ghost use Prim.Native.Nat.{_+_, _≤_, _<_};
 ghost use lib.IntN.{pos};
 ghost use lib.ListN.{length};
 ghost use Rattle.rules.specs.Keyed.{isSome, find, upsert, upsertAll};
-ghost use Rattle.rules.specs.Rows.{keyOf, recordKey, soundRecord, adjustedRecord};
+ghost use Rattle.rules.specs.Figures.{mergeKind};
+ghost use Rattle.rules.specs.Rows.{keyOf, recordKey, soundRecord, adjustedRecord, newRecord};
 ghost use Rattle.rules.specs.NamedRecord.{isNotAdjustable};
 ghost use Rattle.rules.specs.Refusal.{anyOf, allOf};
+ghost use Rattle.rules.specs.Request as Request;
 ghost use Rattle.rules.specs.Layout.{roomOf, rowsOf, write};
-ghost use Rattle.rules.specs.Tables.{recordsLayout, soundRecords};
+ghost use Rattle.rules.specs.Tables.{recordsLayout, soundRecords, soundPositions};
 ghost use Rattle.rules.specs.Merge.{mergeInverses, pairsOf};
+ghost use Rattle.verdict.specs.Verdict.{answered, verdictOn, acceptedOn};
+ghost use Rattle.verdict.specs.declared.Verdict.the-variants.{Accepted};
 ghost use Rattle.merge_sources.specs.Sources.{sourcesIn, allFound, sourceRecords, recordNamed, inverseNamed};
 ghost use Rattle.merge_sources.specs.Pairs.{repeatsFrom};
 
@@ -29,7 +37,7 @@ fn adjust_source(records: &mut [i64], id: i64, suffix: i64)
 }
 
 // Each source becomes status 1.
-pub fn adjust_sources(records: &mut [i64], pairs: &[i64])
+fn adjust_sources(records: &mut [i64], pairs: &[i64])
     requires { ⌜ (soundRecords (now records) ≡ true) × (allFound (now records) (now pairs) ≡ true) × (anyOf (map isNotAdjustable (sourceRecords (now records) (now pairs))) ≡ false) × (anyOf (repeatsFrom [] (pairsOf (now pairs))) ≡ false) ⌝ }
     ensures { λ done. ⌜ (now (records .exit) ≡ write recordsLayout (now (records .entry)) (upsertAll recordKey (map adjustedRecord (sourceRecords (now (records .entry)) (now (pairs .entry)))) (rowsOf recordsLayout (now (records .entry))))) × (soundRecords (now (records .exit)) ≡ true) ⌝ }
 {
@@ -55,7 +63,7 @@ fn insert_inverse(records: &mut [i64], id: i64, suffix: i64, into: i64)
 }
 
 // Each source gets its inverse row, in list order.
-pub fn insert_inverses(records: &mut [i64], pairs: &[i64], into: i64)
+fn insert_inverses(records: &mut [i64], pairs: &[i64], into: i64)
     requires { ⌜ (soundRecords (now records) ≡ true) × (allFound (now records) (now pairs) ≡ true) × (allOf (map soundRecord (mergeInverses into [] (sourcesIn (now records) (now pairs)))) ≡ true) × (length (rowsOf recordsLayout (now records)) + length (pairsOf (now pairs)) ≤ roomOf recordsLayout (now records)) ⌝ }
     ensures { λ done. ⌜ (now (records .exit) ≡ write recordsLayout (now (records .entry)) (upsertAll recordKey (mergeInverses into [] (sourcesIn (now (records .entry)) (now (pairs .entry)))) (rowsOf recordsLayout (now (records .entry))))) × (soundRecords (now (records .exit)) ≡ true) ⌝ }
 {
@@ -65,4 +73,44 @@ pub fn insert_inverses(records: &mut [i64], pairs: &[i64], into: i64)
         insert_inverse(&mut *records, pairs[2 * i], pairs[2 * i + 1], into);
         i += 1;
     }
+}
+
+// The merged row: its account, series and side code are the first source's.
+fn merged_row(first: Record, id: i64, quantity: i64, price: i64) -> Record
+    ensures { λ r. ⌜ r ≡ newRecord id mergeKind (first .account) (first .series) (first .side) quantity price (pos 0) (pos 0) ⌝ }
+{
+    Record {
+        id,
+        suffix: 0,
+        parent: 0,
+        kind: 901,
+        status: 0,
+        account: first.account,
+        series: first.series,
+        side: first.side,
+        quantity,
+        price,
+        long: 0,
+        short: 0,
+        into: 0,
+    }
+}
+
+pub fn book(records: &mut [i64], positions: &mut [i64], id: i64, account: i64, series: i64, pairs: &[i64]) -> Reply
+    requires { ⌜ (soundRecords (now records) ≡ true) × (soundPositions (now positions) ≡ true) × (verdictOn (now records) (now positions) (Request.merge id account series (now pairs)) ≡ Accepted) ⌝ }
+    ensures { λ r. ⌜ answered r (now (records .exit)) (now (positions .exit)) ≡ acceptedOn (now (records .entry)) (now (positions .entry)) (Request.merge id account series (now (pairs .entry))) ⌝ }
+{
+    let first = sources::source_record(records, pairs, 0);
+    let quantity = sources::sum_of_quantities(records, pairs);
+    let value = sources::sum_of_values(records, pairs);
+    let price = integers::average(value, quantity);
+    let residual = integers::residual(figures::is_buy(first.side), value, quantity);
+    let merged = merged_row(first, id, quantity, price);
+    let left = requests::moved(positions::position_of(positions, account, series), 0, 0, residual);
+    adjust_sources(&mut *records, pairs);
+    insert_inverses(&mut *records, pairs, id);
+    records::insert_record(records, merged);
+    positions::put_position(positions, left);
+    let rows = (pairs.len() / 2) as i64 + 1;
+    Reply::Booked { rows, residual }
 }

@@ -1,8 +1,10 @@
-// The verdict on a merge.
+// The verdict on a merge, and the public call.
 use merge_sources::Place;
+use super::booking;
 use merge_sources::pairs;
 use super::sources;
 use verdict::Verdict;
+use rules::Reply;
 use tables::positions;
 use tables::records;
 ghost use mathlib.Core.Path.{_≡_};
@@ -19,8 +21,9 @@ ghost use Rattle.rules.specs.Refusal.{anyOf};
 ghost use Rattle.rules.specs.Request as Request;
 ghost use Rattle.rules.specs.Layout.{rowsOf};
 ghost use Rattle.rules.specs.Tables.{recordsLayout, soundRecords, soundPositions};
+ghost use Rattle.rules.specs.Handle.{handle};
 ghost use Rattle.rules.specs.Merge.{mergeFigures, pairsOf, closes, sideDiffers, firstOf};
-ghost use Rattle.verdict.specs.Verdict.{verdictOn};
+ghost use Rattle.verdict.specs.Verdict.{tablesOf, answered, verdictOn};
 ghost use Rattle.verdict.specs.declared.Verdict.the-variants.{Refused};
 ghost use Rattle.merge_sources.specs.Sources.{allFound, sourceRecords};
 ghost use Rattle.merge_sources.specs.Pairs.{repeatsFrom};
@@ -35,7 +38,7 @@ fn refused_at(number: i64, place: usize) -> Verdict
     }
 }
 
-pub fn verdict(records: &[i64], positions: &[i64], id: i64, account: i64, series: i64, pairs: &[i64]) -> Verdict
+fn verdict(records: &[i64], positions: &[i64], id: i64, account: i64, series: i64, pairs: &[i64]) -> Verdict
     requires { ⌜ (soundRecords (now records) ≡ true) × (soundPositions (now positions) ≡ true) ⌝ }
     ensures { λ r. ⌜ r ≡ verdictOn (now (records .entry)) (now (positions .entry)) (Request.merge id account series (now (pairs .entry))) ⌝ }
 {
@@ -96,4 +99,19 @@ fn verdict_on_sums(records: &[i64], positions: &[i64], id: i64, account: i64, se
         return Verdict::Refused { number: 16, place: 0 };
     }
     Verdict::Accepted
+}
+
+pub fn merge(records: &mut [i64], positions: &mut [i64], id: i64, account: i64, series: i64, pairs: &[i64]) -> Reply
+    ensures { λ r. ⌜ answered r (now (records .exit)) (now (positions .exit)) ≡ handle (tablesOf (now (records .entry)) (now (positions .entry))) (Request.merge id account series (now (pairs .entry))) ⌝ }
+{
+    if !scan::soundness::records_sound(records) {
+        return Reply::Refused { number: 1, place: 0 };
+    }
+    if !scan::soundness::positions_sound(positions) {
+        return Reply::Refused { number: 2, place: 0 };
+    }
+    match verdict(records, positions, id, account, series, pairs) {
+        Verdict::Refused { number, place } => Reply::Refused { number, place },
+        Verdict::Accepted => booking::book(records, positions, id, account, series, pairs),
+    }
 }

@@ -1,0 +1,326 @@
+-- `merge::booking::book` meets its contract: what the sources come to is read first; then they are adjusted, their inverses and the merged row inserted, and the
+-- position put, each as the rules put it, one after the other. Assumes nothing.
+use Prim.Native.Nat.{ℕ, _+_, _*_, _/_, _≤_, _<_}
+use native.Mathlib.Omega.{arith}
+use mathlib.Core.Path.{_≡_, refl, sym, _∙_, ap, subst}
+use mathlib.Core.Bool.{Bool, true, false}
+use mathlib.Core.List.{List, [], _∷_, map}
+use mathlib.Core.Option.{none}
+use borrow.Author.Needs.{needs, sfits-of}
+use lib.IntN.{ℤ, pos, _+ℤ_}
+use lib.ListN.{length}
+use lib.Signed.{_≤ℤ_}
+use mir.Facts.{toZ-ofZ, toZ-pos}
+use mir.Syntax.{w64}
+use mir.Val.{SFits, toZ, ofZ}
+use Rattle.integers.specs.Average.{averageOf, residualOf}
+use Rattle.integers.specs.Averageable.{Averageable}
+use Rattle.integers.specs.Order.{inRange}
+use Rattle.rules.specs.Figures.{magnitudeAtMost, mostQuantity, isBuy, mergeKind}
+use Rattle.rules.specs.Keyed.{find, upsert, upsertAll, absentFrom}
+use Rattle.rules.specs.Rows.{recordKey, positionKey, soundRecord, soundPosition, validBooked, newRecord}
+use Rattle.rules.specs.Refusal.{anyOf, allOf}
+use Rattle.rules.specs.Layout.{roomOf, rowsOf, write}
+use Rattle.rules.specs.Tables.{recordsLayout, positionsLayout, soundRecords}
+use Rattle.rules.specs.Merge.{Source, pairsOf, stoodEarlier, firstOf, sumOfQuantities, sumOfValues, mergeResidual, mergedRecord, mergeInverses}
+use Rattle.rules.specs.declared.Record.{Record}
+use Rattle.rules.specs.declared.Position.{Position}
+use Rattle.rules.specs.declared.Reply.the-variants.{Booked}
+use Rattle.scan.proofs.ReadBack.{read-back}
+use Rattle.verdict.specs.Verdict.{answered, acceptedOn}
+use Rattle.verdict.proofs.Room.{positionRead}
+use Rattle.verdict.proofs.SoundReads.{position-read-sound}
+use Rattle.merge_sources.specs.Sources.{sourcesIn, sourceRecords, allFound}
+use Rattle.merge_sources.specs.Pairs.{pairAt, repeatsFrom}
+use Rattle.merge_sources.proofs.SourceList.{record-found, first-at, source-found}
+use Rattle.merge_sources.proofs.Earlier.{sources-stood-earlier}
+use Rattle.merge_sources.proofs.SourceSums.{sources-averageable}
+use Rattle.merge_sources.proofs.SumRanges.{residual-small}
+use Rattle.merge_sources.proofs.MergeVerdict.{mergePosition}
+use Rattle.merge_sources.proofs.MergeFacts.{MergeFacts, figures-count, merge-accepted-facts}
+use Rattle.merge_sources.proofs.MergeBooking.{sourcesAdjusted, inversesInserted, recordsMerged, all-found, found-adjusted, inverses-sound, inverses-room, merged-absent, merged-sound, merged-room, merge-booked}
+use Rattle.merge.proofs.booking.book.Statement.{statement}
+use Rattle.merge.proofs.booking.book.Tie as tie
+
+module _ (s : tie.Start) where
+  abbrev rs : List ℤ
+  rs = s .args .records .now
+
+  abbrev ps : List ℤ
+  ps = s .args .positions .now
+
+  abbrev id : ℤ
+  id = s .args .id
+
+  abbrev account : ℤ
+  account = s .args .account
+
+  abbrev series : ℤ
+  series = s .args .series
+
+  abbrev list : List ℤ
+  list = s .args .pairs .now
+
+  abbrev sources : List Record
+  sources = sourceRecords rs list
+
+  facts : MergeFacts rs ps id account series list (sourcesIn rs list)
+  facts = merge-accepted-facts rs ps id account series list (s .pre .0) (s .pre .1) (s .pre .2)
+
+  found : allFound rs list ≡ true
+  found = all-found rs ps id account series list (s .pre .0) facts
+
+  count : (2 ≤ length list / 2) × (length list ≤ 2000)
+  count = figures-count id account series list (facts .passed .figures)
+
+  differ : anyOf (repeatsFrom [] (pairsOf list)) ≡ false
+  differ = ap anyOf (sym (sources-stood-earlier rs list)) ∙ facts .passed .sources-differ
+
+  ready : Averageable (sumOfValues sources) (sumOfQuantities sources)
+  ready = sources-averageable rs list (s .pre .0) found (facts .passed .sources-adjustable) (facts .passed .sum-small) (omega (arith, count .0))
+
+  small-residual : magnitudeAtMost 1000000 (mergeResidual sources) ≡ true
+  unfolding mergeResidual
+  small-residual = residual-small _ (sumOfValues sources) (sumOfQuantities sources) ready
+
+-- ---- what the sources come to
+
+abbrev start1 : tie.After-source-record → tie.Start
+start1 c = c .before .before
+
+sum-is : (c : tie.After-sum-of-quantities) → toZ w64 (ofZ w64 (c .sum-of-quantities .result)) ≡ sumOfQuantities (sources (start1 (c .before .before)))
+sum-is c = let f : SFits w64 (c .sum-of-quantities .result) = sfits-of (c .sum-of-quantities .ok) in toZ-ofZ f ∙ c .sum-of-quantities .ensures
+
+abbrev start2 : tie.After-sum-of-values → tie.Start
+start2 c = start1 (c .before .before .before .before)
+
+value-is : (c : tie.After-sum-of-values) → toZ w64 (ofZ w64 (c .sum-of-values .result)) ≡ sumOfValues (sources (start2 c))
+value-is c = let f : SFits w64 (c .sum-of-values .result) = sfits-of (c .sum-of-values .ok) in toZ-ofZ f ∙ c .sum-of-values .ensures
+
+price-is : (c : tie.After-average) → toZ w64 (ofZ w64 (c .average .result)) ≡ averageOf (sumOfValues (sources (start2 (c .before)))) (sumOfQuantities (sources (start2 (c .before))))
+price-is c =
+    let f : SFits w64 (c .average .result) = sfits-of (c .average .ok) in
+    toZ-ofZ f ∙ rw (value-is (c .before), sum-is (c .before .before .before)) at (c .average .ensures)
+
+first-is : (c : tie.After-source-record) → firstOf (sources (start1 c)) ≡ c .source-record .result
+first-is c =
+    let s : tie.Start = start1 c in
+    first-at (rs s) (list s) ∙ record-found (rs s) (list s) 0 (omega (arith, count s .0)) (c .source-record .result) (c .source-record .ensures)
+
+abbrev read : tie.After-sum-of-values → tie.After-source-record
+read c = c .before .before .before .before
+
+buy-is : (c : tie.After-is-buy) → c .is-buy .result ≡ isBuy (firstOf (sources (start2 (c .before .before .before))) .side)
+buy-is c =
+    let a : tie.After-source-record = read (c .before .before .before) in
+    let e : c .is-buy .result ≡ isBuy (a .source-record .result .side) =
+    simp (read-back (a .source-record .result .side) (c .before .struct-told .given .1 .1 .1 .1 .1 .1 .1 .0 .1)) at (c .is-buy .ensures) in
+    e ∙ ap (λ (r : Record). isBuy (r .side)) (sym (first-is a))
+
+abbrev summed : tie.After-residual → tie.After-sum-of-values
+summed c = c .before .before .before .before
+
+abbrev start3 : tie.After-residual → tie.Start
+start3 c = start2 (summed c)
+
+residual-is : (c : tie.After-residual) → toZ w64 (ofZ w64 (c .residual .result)) ≡ mergeResidual (sources (start3 c))
+unfolding mergeResidual
+residual-is c =
+    let f : SFits w64 (c .residual .result) = sfits-of (c .residual .ok) in
+    let v : tie.After-sum-of-values = summed c in
+    let buy : Bool = c .before .is-buy .result in
+    toZ-ofZ f
+    ∙ c .residual .ensures
+    ∙ ap (λ (z : ℤ). residualOf buy z (toZ w64 (ofZ w64 (v .before .before .sum-of-quantities .result)))) (value-is v)
+    ∙ ap (λ (z : ℤ). residualOf buy (sumOfValues (sources (start3 c))) z) (sum-is (v .before .before))
+    ∙ ap (λ (b : Bool). residualOf b (sumOfValues (sources (start3 c))) (sumOfQuantities (sources (start3 c)))) (buy-is (c .before))
+
+merged-is : (c : tie.After-merged-row) → c .merged-row .result ≡ mergedRecord (id (start3 (c .before))) (sources (start3 (c .before)))
+unfolding mergedRecord
+merged-is c =
+    let s : tie.Start = start3 (c .before) in
+    let v : tie.After-sum-of-values = summed (c .before) in
+    let a : tie.After-source-record = read v in
+    let q : ℤ = sumOfQuantities (sources s) in
+    let p : ℤ = averageOf (sumOfValues (sources s)) q in
+    let e : c .merged-row .result ≡ newRecord (id s) mergeKind (a .source-record .result .account) (a .source-record .result .series) (a .source-record .result .side)
+          (toZ w64 (ofZ w64 (v .before .before .sum-of-quantities .result))) (toZ w64 (ofZ w64 (c .before .before .before .before .average .result))) (pos 0) (pos 0)
+          = simp (toZ-ofZ (s .fits .id)) at (c .merged-row .ensures) in
+    e
+    ∙ ap (λ (z : ℤ). newRecord (id s) mergeKind (a .source-record .result .account) (a .source-record .result .series) (a .source-record .result .side) z
+    (toZ w64 (ofZ w64 (c .before .before .before .before .average .result))) (pos 0) (pos 0)) (sum-is (v .before .before))
+    ∙ ap (λ (z : ℤ). newRecord (id s) mergeKind (a .source-record .result .account) (a .source-record .result .series) (a .source-record .result .side) q z (pos 0) (pos 0))
+    (price-is (c .before .before .before .before))
+    ∙ ap (λ (r : Record). newRecord (id s) mergeKind (r .account) (r .series) (r .side) q p (pos 0) (pos 0)) (sym (first-is a))
+
+-- ---- the position as the merge leaves it
+
+abbrev start4 : tie.After-position-of → tie.Start
+start4 c = start3 (c .before .before .before)
+
+position-is : (c : tie.After-position-of) → c .position-of .result ≡ positionRead (ps (start4 c)) (account (start4 c)) (series (start4 c))
+position-is c =
+    let s : tie.Start = start4 c in
+    simp (toZ-ofZ (s .fits .account), toZ-ofZ (s .fits .series)) at (c .position-of .ensures)
+
+none-booked : validBooked (pos 0) ≡ true
+unfolding validBooked magnitudeAtMost inRange
+none-booked = refl
+
+left-is : (c : tie.After-moved) → c .moved .result ≡ mergePosition (ps (start4 (c .before))) (account (start4 (c .before))) (series (start4 (c .before))) (sources (start4 (c .before)))
+left-is c = rw (position-is (c .before), residual-is (c .before .before .before .before)) at (c .moved .ensures)
+
+-- ---- the records, one change after the other
+
+abbrev start5 : tie.After-adjust-sources → tie.Start
+start5 c = start4 (c .before .before .before)
+
+adjusted-is : (c : tie.After-adjust-sources) → c .adjust-sources .last .0 ≡ sourcesAdjusted (rs (start5 c)) (id (start5 c)) (list (start5 c))
+adjusted-is c = c .adjust-sources .ensures .0
+
+abbrev start6 : tie.After-insert-inverses → tie.Start
+start6 c = start5 (c .before .before .before)
+
+inserted-is : (c : tie.After-insert-inverses) → c .insert-inverses .last .0 ≡ inversesInserted (rs (start6 c)) (id (start6 c)) (list (start6 c))
+inserted-is c =
+    let s : tie.Start = start6 c in
+    let before : List ℤ = c .before .before .before .adjust-sources .last .0 in
+    let e : c .insert-inverses .last .0 ≡ write recordsLayout before (upsertAll recordKey (mergeInverses (id s) [] (sourcesIn before (list s))) (rowsOf recordsLayout before))
+          = simp (toZ-ofZ (s .fits .id)) at (c .insert-inverses .ensures .0) in
+    e ∙ ap (λ (xs : List ℤ). write recordsLayout xs (upsertAll recordKey (mergeInverses (id s) [] (sourcesIn xs (list s))) (rowsOf recordsLayout xs))) (adjusted-is (c .before .before .before))
+
+abbrev start7 : tie.After-insert-record → tie.Start
+start7 c = start6 (c .before .before .before)
+
+-- Where the merged row was made, seen from the inverses.
+abbrev made : tie.After-insert-inverses → tie.After-merged-row
+made c = c .before .before .before .before .before .before .before .before
+
+records-are : (c : tie.After-insert-record) → c .insert-record .last .0 ≡ recordsMerged (rs (start7 c)) (id (start7 c)) (list (start7 c))
+records-are c =
+    let i : tie.After-insert-inverses = c .before .before .before in
+    c .insert-record .ensures .0
+    ∙ ap (λ (r : Record). write recordsLayout (i .insert-inverses .last .0) (upsert recordKey r (rowsOf recordsLayout (i .insert-inverses .last .0)))) (merged-is (made i))
+    ∙ ap (λ (xs : List ℤ). write recordsLayout xs (upsert recordKey (mergedRecord (id (start7 c)) (sources (start7 c))) (rowsOf recordsLayout xs))) (inserted-is i)
+
+-- Where the position was made, seen from the last insertion.
+abbrev moved-at : tie.After-insert-record → tie.After-moved
+moved-at c = c .before .before .before .before .before .before .before .before
+
+-- The rows of the answer.
+abbrev start8 : tie.After-positions → tie.Start
+start8 c = start7 (c .before .before .before .before)
+
+rows-bits : (s : tie.Start) → toZ w64 (length (list s) / 2) ≡ pos (length (list s) / 2)
+rows-bits s = toZ-pos w64 (omega (arith, count s .1))
+
+rows-fit : (s : tie.Start) → SFits w64 (pos (length (list s) / 2) +ℤ pos 1)
+rows-fit s = record { sfits = omega (arith, count s .1) }
+
+source-record-requires : tie.Need-source-record-requires
+source-record-requires c κs = (c .before .pre .0, found (c .before), omega (arith, count (c .before) .0))
+
+sum-of-quantities-requires : tie.Need-sum-of-quantities-requires
+sum-of-quantities-requires c κs = let s : tie.Start = start1 (c .before) in (s .pre .0, found s, count s .1)
+
+sum-of-values-requires : tie.Need-sum-of-values-requires
+sum-of-values-requires c κs =
+    let s : tie.Start = start1 (c .before .before .before) in
+    (s .pre .0, found s, count s .1, facts s .passed .sources-adjustable, facts s .passed .sum-small)
+
+average-requires : tie.Need-average-requires
+average-requires c κs = rw (value-is c, sum-is (c .before .before)) (ready (start2 c))
+
+is-buy-requires : tie.Need-is-buy-requires
+is-buy-requires c κs = search needs
+
+residual-requires : tie.Need-residual-requires
+residual-requires c κs =
+    let v : tie.After-sum-of-values = c .before .before .before in
+    rw (value-is v, sum-is (v .before .before)) (ready (start2 v))
+
+merged-row-requires : tie.Need-merged-row-requires
+merged-row-requires c κs = search needs
+
+position-of-requires : tie.Need-position-of-requires
+position-of-requires c κs = search needs
+
+moved-requires : tie.Need-moved-requires
+moved-requires c κs =
+    let s : tie.Start = start4 c in
+    rw (position-is c, residual-is (c .before .before .before)) (position-read-sound (ps s) (s .pre .1) (account s) (series s), none-booked, none-booked, small-residual s)
+
+adjust-sources-requires : tie.Need-adjust-sources-requires
+adjust-sources-requires c κs =
+    let s : tie.Start = start4 (c .before .before) in
+    (s .pre .0, found s, facts s .passed .sources-adjustable, differ s)
+
+insert-inverses-requires : tie.Need-insert-inverses-requires
+insert-inverses-requires c κs =
+    let a : tie.After-adjust-sources = c .before .before in
+    let s : tie.Start = start5 a in
+    let e : sourcesAdjusted (rs s) (id s) (list s) ≡ a .adjust-sources .last .0 = sym (adjusted-is a) in
+    (a .adjust-sources .ensures .1,
+    subst (λ (xs : List ℤ). allFound xs (list s) ≡ true) e (found-adjusted (rs s) (ps s) (id s) (account s) (series s) (list s) (s .pre .0) (facts s)),
+    simp (toZ-ofZ (s .fits .id))
+    (subst (λ (xs : List ℤ). allOf (map soundRecord (mergeInverses (id s) [] (sourcesIn xs (list s)))) ≡ true) e
+    (inverses-sound (rs s) (ps s) (id s) (account s) (series s) (list s) (s .pre .0) (facts s))),
+    subst (λ (xs : List ℤ). length (rowsOf recordsLayout xs) + length (pairsOf (list s)) ≤ roomOf recordsLayout xs) e
+    (inverses-room (rs s) (ps s) (id s) (account s) (series s) (list s) (s .pre .0) (facts s)))
+
+insert-record-requires : tie.Need-insert-record-requires
+insert-record-requires c κs =
+    let i : tie.After-insert-inverses = c .before .before in
+    let s : tie.Start = start6 i in
+    let e : inversesInserted (rs s) (id s) (list s) ≡ i .insert-inverses .last .0 = sym (inserted-is i) in
+    let m : mergedRecord (id s) (sources s) ≡ made i .merged-row .result = sym (merged-is (made i)) in
+    (i .insert-inverses .ensures .1,
+    subst (λ (r : Record). soundRecord r ≡ true) m (merged-sound (rs s) (ps s) (id s) (account s) (series s) (list s) (s .pre .0) (facts s)),
+    subst (λ (r : Record). find recordKey (recordKey r) (rowsOf recordsLayout (i .insert-inverses .last .0)) ≡ none) m
+    (subst (λ (xs : List ℤ). find recordKey (recordKey (mergedRecord (id s) (sources s))) (rowsOf recordsLayout xs) ≡ none) e
+    (merged-absent (rs s) (ps s) (id s) (account s) (series s) (list s) (s .pre .0) (facts s))),
+    subst (λ (xs : List ℤ). length (rowsOf recordsLayout xs) < roomOf recordsLayout xs) e
+    (merged-room (rs s) (ps s) (id s) (account s) (series s) (list s) (s .pre .0) (facts s)))
+
+put-position-requires : tie.Need-put-position-requires
+put-position-requires c κs =
+    let s : tie.Start = start7 (c .before .before) in
+    let m : tie.After-moved = moved-at (c .before .before) in
+    let e : mergePosition (ps s) (account s) (series s) (sources s) ≡ m .moved .result = sym (left-is m) in
+    (s .pre .1,
+    subst (λ (p : Position). soundPosition p ≡ true) e (facts s .position-sound),
+    subst (λ (p : Position). length (rowsOf positionsLayout (ps s)) + absentFrom positionKey (rowsOf positionsLayout (ps s)) (p ∷ []) ≤ roomOf positionsLayout (ps s)) e
+    (facts s .positions-room))
+
+cast-rows : tie.Need-cast-rows
+cast-rows c = record { sfits = omega (arith, count (start8 c) .1) }
+
+add-rows : tie.Need-add-rows
+add-rows c = rw (rows-bits (start8 c)) (rows-fit (start8 c))
+
+same-length : tie.Need-same-length
+same-length c = search needs
+
+same-length-2 : tie.Need-same-length-2
+same-length-2 c = search needs
+
+returns : tie.Need-returns
+returns c =
+    let s : tie.Start = start8 c in
+    let j : tie.After-insert-record = c .before .before .before .before in
+    let m : tie.After-moved = moved-at j in
+    let rows : toZ w64 (ofZ w64 (toZ w64 (length (list s) / 2) +ℤ pos 1)) ≡ pos (length (list s) / 2) +ℤ pos 1
+          = ap (λ (z : ℤ). toZ w64 (ofZ w64 (z +ℤ pos 1))) (rows-bits s) ∙ toZ-ofZ (rows-fit s) in
+    let residual : toZ w64 (ofZ w64 (m .before .before .before .before .residual .result)) ≡ mergeResidual (sources s) = residual-is (m .before .before .before .before) in
+    let positions : c .before .put-position .last .0 ≡ write positionsLayout (ps s) (upsert positionKey (mergePosition (ps s) (account s) (series s) (sources s)) (rowsOf positionsLayout (ps s)))
+          = c .before .put-position .ensures .0 ∙ ap (λ (p : Position). write positionsLayout (ps s) (upsert positionKey p (rowsOf positionsLayout (ps s)))) (left-is m) in
+    (λ i. answered (Booked (rows i) (residual i)) (records-are j i) (positions i))
+    ∙ sym (merge-booked (rs s) (ps s) (id s) (account s) (series s) (list s) (s .pre .0) (facts s))
+
+pub book-spec : {M : Type 1} → statement M
+book-spec =
+    tie.close
+    (tie.spec
+    source-record-requires sum-of-quantities-requires sum-of-values-requires average-requires is-buy-requires residual-requires merged-row-requires
+    position-of-requires moved-requires adjust-sources-requires insert-inverses-requires insert-record-requires put-position-requires cast-rows add-rows
+    same-length same-length-2 returns)
