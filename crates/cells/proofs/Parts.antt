@@ -25,11 +25,7 @@ module _ {ℓ} {A : Type ℓ} where
       let u : m ≡ length xs + (m - n) = omega arith in
       ap (λ (j : ℕ). drop j (xs ++ ys)) u ∙ drop-append-add xs ys (m - n)
 
-  -- Lengths after one item goes in before item k, or in its place.
-  pub length-inserted : (rows : List A) (k : ℕ) (new : A) → k ≤ length rows → length (take k rows ++ (new ∷ drop k rows)) ≡ suc (length rows)
-  length-inserted rows k new h =
-      length-append (take k rows) (new ∷ drop k rows) ∙ omega (arith, length-take-le k rows h, length-drop k rows)
-
+  -- The length after one item goes in the place of another.
   pub length-replaced : (rows : List A) (k : ℕ) (new : A) → k < length rows → length (take k rows ++ (new ∷ drop (suc k) rows)) ≡ length rows
   length-replaced rows k new h =
       length-append (take k rows) (new ∷ drop (suc k) rows) ∙ omega (arith, length-take-le k rows (omega arith), length-drop (suc k) rows)

@@ -1,19 +1,20 @@
--- One row put into a table before row k, or in place of row k, as cells: what code that shifts cells leaves. Over any lawful layout.
+-- Rows put into a table before row k, or a row in place of row k, as cells: what code that shifts cells leaves. Over any lawful layout.
 -- With n rows, from cell 1 on. Assumes nothing.
 use Prim.Native.Nat.{ℕ, suc, _+_, _-_, _*_, _≤_, _<_}
 use native.Mathlib.Nat.{mul-le-mul-right, add-mul}
+use native.Mathlib.Numerals.{add-one}
 use native.Mathlib.Omega.{arith}
 use mathlib.Core.Path.{_≡_, sym, ap, _∙_}
 use mathlib.Core.Bool.{true}
-use mathlib.Core.List.{List, _∷_, _++_, append-assoc}
+use mathlib.Core.List.{List, [], _∷_, _++_, append-assoc, append-nil}
 use lib.IntN.{ℤ, pos}
-use lib.ListN.{length, take, drop, take-append-drop}
-use lib.Seq.{drop-drop}
+use lib.ListN.{length, take, drop, take-append-drop, length-append, length-drop}
+use lib.Seq.{drop-drop, length-take-le}
 use Rattle.rules.specs.Layout.{Layout, countOf, decode, encode, rowsOf, countIsSound, write}
 use Rattle.cells.specs.Lawful.{Lawful}
-use Rattle.cells.proofs.Parts.{length-inserted, length-replaced}
+use Rattle.cells.proofs.Parts.{length-replaced}
 use Rattle.cells.proofs.Decode.{length-decode, take-decode, drop-decode}
-use Rattle.cells.proofs.Encode.{encode-cons, encode-append, encode-decode}
+use Rattle.cells.proofs.Encode.{encode-nil, encode-cons, encode-append, encode-decode}
 use Rattle.cells.proofs.Count.{count-then, rowsOf-decode, sound-count, sound-rows-cells}
 use Rattle.cells.proofs.Write.{write-cells}
 
@@ -22,6 +23,11 @@ spans : (k n w : ℕ) → k ≤ n → k * w + (n - k) * w ≡ n * w
 spans k n w h =
     let e : k + (n - k) ≡ n = omega arith in
     sym (add-mul k (n - k) w) ∙ ap (λ (j : ℕ). j * w) e
+
+-- Rows with some more put in before row k.
+length-run : {A : Type 0} (rows : List A) (k : ℕ) (news : List A) → k ≤ length rows → length (take k rows ++ (news ++ drop k rows)) ≡ length rows + length news
+length-run rows k news h =
+    length-append (take k rows) (news ++ drop k rows) ∙ omega (arith, length-take-le k rows h, length-append news (drop k rows), length-drop k rows)
 
 module _ {Row : Type 0} (l : Layout Row) (lawful : Lawful l) (cells : List ℤ) (n : ℕ) (long : 1 + n * l .width ≤ length cells) where
 
@@ -37,30 +43,45 @@ module _ {Row : Type 0} (l : Layout Row) (lawful : Lawful l) (cells : List ℤ) 
       let fit : (1 + k * l .width) + (n - k) * l .width ≤ length cells = omega (arith, spans k n (l .width) h) in
       ap (encode (l .put)) (drop-decode (l .get) (l .width) k n 1 cells h) ∙ encode-decode l lawful (n - k) (1 + k * l .width) cells fit
 
-  -- A row before row k: the rows from k on move up by one row.
+  -- Some rows before row k: the rows from k on move up by so many rows.
+  pub insert-run-cells : (k : ℕ) (news : List Row) → k ≤ n
+    → write l cells (take k (decode (l .get) (l .width) n 1 cells) ++ (news ++ drop k (decode (l .get) (l .width) n 1 cells)))
+      ≡ pos (n + length news) ∷ (take (k * l .width) (drop 1 cells)
+        ++ (encode (l .put) news ++ (take ((n - k) * l .width) (drop (1 + k * l .width) cells) ++ drop (1 + (n + length news) * l .width) cells)))
+  insert-run-cells k news h =
+      let w : ℕ = l .width in
+      let m : ℕ = n + length news in
+      let rows : List Row = decode (l .get) w n 1 cells in
+      let before : List ℤ = take (k * w) (drop 1 cells) in
+      let moved : List ℤ = take ((n - k) * w) (drop (1 + k * w) cells) in
+      let long-enough : k ≤ length rows = rw (length-decode (l .get) w n 1 cells) h in
+      let size : length (take k rows ++ (news ++ drop k rows)) ≡ m =
+            length-run rows k news long-enough ∙ ap (λ (j : ℕ). j + length news) (length-decode (l .get) w n 1 cells) in
+      let coded : encode (l .put) (take k rows ++ (news ++ drop k rows)) ≡ before ++ (encode (l .put) news ++ moved) =
+            encode-append (l .put) (take k rows) (news ++ drop k rows)
+            ∙ ap (λ (c : List ℤ). encode (l .put) (take k rows) ++ c) (encode-append (l .put) news (drop k rows))
+            ∙ ap (λ (c : List ℤ). c ++ (encode (l .put) news ++ encode (l .put) (drop k rows))) (encode-take k h)
+            ∙ ap (λ (c : List ℤ). before ++ (encode (l .put) news ++ c)) (encode-drop k h) in
+      let rest : List ℤ = drop (1 + m * w) cells in
+      let regroup : (before ++ (encode (l .put) news ++ moved)) ++ rest ≡ before ++ (encode (l .put) news ++ (moved ++ rest)) = simp append-assoc in
+      write-cells l lawful cells (take k rows ++ (news ++ drop k rows))
+      ∙ ap (λ (j : ℕ). pos j ∷ (encode (l .put) (take k rows ++ (news ++ drop k rows)) ++ drop (1 + j * w) cells)) size
+      ∙ ap (λ (c : List ℤ). pos m ∷ (c ++ rest)) coded
+      ∙ ap (λ (c : List ℤ). pos m ∷ c) regroup
+
+  -- One row.
   pub insert-cells : (k : ℕ) (new : Row) → k ≤ n
     → write l cells (take k (decode (l .get) (l .width) n 1 cells) ++ (new ∷ drop k (decode (l .get) (l .width) n 1 cells)))
       ≡ pos (suc n) ∷ (take (k * l .width) (drop 1 cells)
         ++ (l .put new ++ (take ((n - k) * l .width) (drop (1 + k * l .width) cells) ++ drop (1 + suc n * l .width) cells)))
   insert-cells k new h =
-      let w : ℕ = l .width in
-      let rows : List Row = decode (l .get) w n 1 cells in
-      let before : List ℤ = take (k * w) (drop 1 cells) in
-      let moved : List ℤ = take ((n - k) * w) (drop (1 + k * w) cells) in
-      let long-enough : k ≤ length rows = rw (length-decode (l .get) w n 1 cells) h in
-      let size : length (take k rows ++ (new ∷ drop k rows)) ≡ suc n =
-            length-inserted rows k new long-enough ∙ ap suc (length-decode (l .get) w n 1 cells) in
-      let coded : encode (l .put) (take k rows ++ (new ∷ drop k rows)) ≡ before ++ (l .put new ++ moved) =
-            encode-append (l .put) (take k rows) (new ∷ drop k rows)
-            ∙ ap (λ (c : List ℤ). encode (l .put) (take k rows) ++ c) (encode-cons (l .put) new (drop k rows))
-            ∙ ap (λ (c : List ℤ). c ++ (l .put new ++ encode (l .put) (drop k rows))) (encode-take k h)
-            ∙ ap (λ (c : List ℤ). before ++ (l .put new ++ c)) (encode-drop k h) in
-      let rest : List ℤ = drop (1 + suc n * w) cells in
-      let regroup : (before ++ (l .put new ++ moved)) ++ rest ≡ before ++ (l .put new ++ (moved ++ rest)) = simp append-assoc in
-      write-cells l lawful cells (take k rows ++ (new ∷ drop k rows))
-      ∙ ap (λ (m : ℕ). pos m ∷ (encode (l .put) (take k rows ++ (new ∷ drop k rows)) ++ drop (1 + m * w) cells)) size
-      ∙ ap (λ (c : List ℤ). pos (suc n) ∷ (c ++ rest)) coded
-      ∙ ap (λ (c : List ℤ). pos (suc n) ∷ c) regroup
+      let before : List ℤ = take (k * l .width) (drop 1 cells) in
+      let moved : List ℤ = take ((n - k) * l .width) (drop (1 + k * l .width) cells) in
+      let one : encode (l .put) (new ∷ []) ≡ l .put new =
+            encode-cons (l .put) new [] ∙ ap (λ (c : List ℤ). l .put new ++ c) (encode-nil (l .put)) ∙ append-nil (l .put new) in
+      insert-run-cells k (new ∷ []) h
+      ∙ ap (λ (j : ℕ). pos j ∷ (before ++ (encode (l .put) (new ∷ []) ++ (moved ++ drop (1 + j * l .width) cells)))) (add-one n)
+      ∙ ap (λ (c : List ℤ). pos (suc n) ∷ (before ++ (c ++ (moved ++ drop (1 + suc n * l .width) cells)))) one
 
   -- A row in place of row k: all other cells stay.
   pub replace-cells : (k : ℕ) (new : Row) → countOf cells ≡ pos n → k < n
@@ -96,6 +117,15 @@ module _ {Row : Type 0} (l : Layout Row) (lawful : Lawful l) (cells : List ℤ) 
 module _ {Row : Type 0} (l : Layout Row) (lawful : Lawful l) (cells : List ℤ) (sound : countIsSound l cells ≡ true) where
 
   -- The same of a table whose count is sound, and its rows.
+  pub insert-rows : (k : ℕ) (news : List Row) → k ≤ length (rowsOf l cells)
+    → write l cells (take k (rowsOf l cells) ++ (news ++ drop k (rowsOf l cells)))
+      ≡ pos (length (rowsOf l cells) + length news) ∷ (take (k * l .width) (drop 1 cells)
+        ++ (encode (l .put) news ++ (take ((length (rowsOf l cells) - k) * l .width) (drop (1 + k * l .width) cells)
+        ++ drop (1 + (length (rowsOf l cells) + length news) * l .width) cells)))
+  insert-rows k news h =
+      ap (λ (rows : List Row). write l cells (take k rows ++ (news ++ drop k rows))) (rowsOf-decode l lawful cells)
+      ∙ insert-run-cells l lawful cells (length (rowsOf l cells)) (sound-rows-cells l lawful cells sound) k news h
+
   pub insert-row : (k : ℕ) (new : Row) → k ≤ length (rowsOf l cells)
     → write l cells (take k (rowsOf l cells) ++ (new ∷ drop k (rowsOf l cells)))
       ≡ pos (suc (length (rowsOf l cells))) ∷ (take (k * l .width) (drop 1 cells)

@@ -1,8 +1,8 @@
 -- A chain of tests that code runs one after the other, with `false` at the first that fails: which tests remain.
 -- Assumes nothing.
-use mathlib.Core.Path.{_≡_, refl, sym, _∙_}
+use mathlib.Core.Path.{_≡_, refl, sym, ap, _∙_}
 use mathlib.Core.Bool.{Bool, true, false, not, _&&_}
-use mathlib.Core.List.{List, [], _∷_}
+use mathlib.Core.List.{List, [], _∷_, _++_}
 use Rattle.figures.proofs.Tests.{failed, passed}
 
 -- b && t && .. over the tests, from the left
@@ -33,3 +33,15 @@ module _ {whole r t : Bool} {rest : List Bool} where
 -- the last test's answer
 pub ends : {whole r t : Bool} → Remaining whole (t ∷ []) → r ≡ t → r ≡ whole
 ends m e = e ∙ sym (m .is)
+
+and-swap : (b t u : Bool) → (b && t && u) ≡ (b && u && t)
+and-swap true true true = refl
+and-swap true true false = refl
+and-swap true false true = refl
+and-swap true false false = refl
+and-swap false t u = refl
+
+-- A test may be taken last.
+pub taken-last : (b t : Bool) (rest : List Bool) → allFrom b (t ∷ rest) ≡ allFrom b (rest ++ (t ∷ []))
+taken-last b t [] = refl
+taken-last b t (u ∷ rest) = ap (λ (c : Bool). allFrom c rest) (and-swap b t u) ∙ taken-last (b && u) t rest

@@ -8,3 +8,4 @@ pub mod Rising
 pub mod Greatest
 pub mod Folds
 pub mod Counts
+pub mod Runs

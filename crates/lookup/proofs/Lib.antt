@@ -1,6 +1,9 @@
 pub mod KeyTests
-pub mod Rest
-pub mod Joined
+pub mod Clauses
 pub mod RowFound
 pub mod RowPlaced
+pub mod RisingKeys
+pub mod GreatestPlace
+pub mod Halving
+pub mod RowBefore
 pub mod TableLookup

@@ -18,7 +18,7 @@ use Rattle.lookup.specs.Lookup.{foundFrom, greatestFound}
 use Rattle.lookup.specs.declared.Found.{Found}
 use Rattle.lookup.specs.declared.Found.the-variants.{Row, Absent}
 use Rattle.lookup.specs.declared.Greatest.the-variants.{Suffix, Nothing}
-use Rattle.lookup.proofs.Rest.{foundFrom-nil, foundFrom-here, foundFrom-there}
+use Rattle.lookup.proofs.Clauses.{foundFrom-nil, foundFrom-here, foundFrom-there}
 
 -- ---- counting from the next row
 

@@ -16,7 +16,7 @@ use Rattle.keys.proofs.Lookup.{find-key, find-all}
 use Rattle.keys.proofs.Rising.{rising-tail, rising-head}
 use Rattle.lookup.specs.Lookup.{foundFrom, placeFrom}
 use Rattle.lookup.specs.declared.Found.the-variants.{Row}
-use Rattle.lookup.proofs.Rest.{foundFrom-nil, placeFrom-nil, placeFrom-here, placeFrom-there}
+use Rattle.lookup.proofs.Clauses.{foundFrom-nil, placeFrom-nil, placeFrom-here, placeFrom-there}
 use Rattle.lookup.proofs.RowFound.{next-row-is, found-same, found-other, found-find}
 
 pub place-next : (row : ℕ) (k : Key) (keys : List Key) → placeFrom (row + 1) k keys ≡ suc (placeFrom row k keys)

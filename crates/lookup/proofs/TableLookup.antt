@@ -14,12 +14,13 @@ use Rattle.rules.specs.Tables.{recordAt, positionAt, recordsLayout, positionsLa
 use Rattle.rules.specs.declared.Record.{Record}
 use Rattle.rules.specs.declared.Position.{Position}
 use Rattle.cells.proofs.Decode.{length-decode, getD-decode}
-use Rattle.lookup.specs.Lookup.{keyAt, foundFrom, greatestFound, rowFound, rowPlace, rowGreatest, recordFound, positionFound, suffixGreatest}
+use Rattle.lookup.specs.Lookup.{keyAt, foundFrom, greatestFound, rowFound, rowPlace, rowGreatest, keysRise, recordFound, positionFound, suffixGreatest}
 use Rattle.lookup.specs.declared.Found.{Found}
 use Rattle.lookup.specs.declared.Found.the-variants.{Row, Absent}
 use Rattle.lookup.specs.declared.Greatest.the-variants.{Suffix, Nothing}
 use Rattle.lookup.proofs.RowFound.{found-find, found-key, absent-find, find-absent, find-found, greatest-map, suffix-some, nothing-none, some-suffix, none-nothing}
 use Rattle.lookup.proofs.RowPlaced.{place-within, upsert-placed, upsert-replaced}
+use Rattle.lookup.proofs.RisingKeys.{rising-map}
 
 -- The keys read from the cells are the keys of the rows read from them.
 pub decode-keys : {A : Type 0} (get : List ℤ → ℕ → A) (key : A → Key) → ((cells : List ℤ) (at : ℕ) → key (get cells at) ≡ keyAt cells at)
@@ -43,6 +44,14 @@ module _ {A : Type 0} (l : Layout A) (key : A → Key) (lawful : KeyFirst l key)
 
   table-length : length (rowsOf l cells) ≡ natAbs (countOf cells)
   table-length = ap length rows-decode ∙ length-decode (l .get) (l .width) (natAbs (countOf cells)) 1 cells
+
+  -- The keys rise where the rows do.
+  pub table-rises : rising key (rowsOf l cells) ≡ true → (n : ℕ) → n ≡ length (rowsOf l cells) → keysRise (l .width) n cells ≡ true
+  table-rises rises n e =
+      ap (λ (count : ℕ). keysRise (l .width) count cells) (e ∙ table-length)
+      ∙ ap (rising (λ k. k)) table-keys
+      ∙ rising-map key (rowsOf l cells)
+      ∙ rises
 
   -- Row i, from 0, is read at its cells.
   pub table-row : (i : ℕ) (other : A) → i < length (rowsOf l cells) → getD (rowsOf l cells) i other ≡ l .get cells (1 + i * l .width)

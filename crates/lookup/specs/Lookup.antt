@@ -5,7 +5,7 @@ use mathlib.Core.List.{List, [], _∷_}
 use mathlib.Core.Option.{Option, none, some}
 use lib.IntN.{ℤ, pos, natAbs}
 use lib.ListN.{getD}
-use Rattle.rules.specs.Keyed.{Key, below, same, greatest}
+use Rattle.rules.specs.Keyed.{Key, below, same, rising, greatest}
 use Rattle.rules.specs.Rows.{keyOf}
 use Rattle.rules.specs.Layout.{decode, countOf}
 use Rattle.lookup.specs.declared.Found.{Found}
@@ -40,6 +40,10 @@ rowPlace width k count cells = placeFrom 0 k (decode keyAt width count 1 cells)
 
 abbrev pub rowGreatest : ℕ → ℤ → ℕ → List ℤ → Greatest
 rowGreatest width major count cells = greatestFound (greatest (λ k. k) major (decode keyAt width count 1 cells))
+
+-- The rows' keys rise.
+abbrev pub keysRise : ℕ → ℕ → List ℤ → Bool
+keysRise width count cells = rising (λ k. k) (decode keyAt width count 1 cells)
 
 -- Of the records table and of the positions table, as their count says.
 abbrev pub recordFound : List ℤ → ℤ → ℤ → Found

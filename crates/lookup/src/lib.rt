@@ -1,10 +1,11 @@
-// Lookup in a lent table: both tables have a row's key in its first two cells, so one search serves both, with the row's width as a number.
+// Lookup in a lent table whose keys rise, by halving: both tables have a row's key in its first two cells, so one search serves both, with the row's width as a number.
 ghost use mathlib.Core.Path.{_≡_};
+ghost use mathlib.Core.Bool.{true};
 ghost use Prim.Native.Nat.{_+_, _*_, _≤_};
 ghost use lib.ListN.{length};
 ghost use Rattle.rules.specs.Rows.{keyOf};
 ghost use Rattle.rules.specs.Keyed.{below, same};
-ghost use Rattle.lookup.specs.Lookup.{rowFound, rowPlace, rowGreatest};
+ghost use Rattle.lookup.specs.Lookup.{keysRise, rowFound, rowPlace, rowGreatest};
 
 // The number of the row with a key, from 0, or that there is none.
 pub enum Found {
@@ -40,60 +41,73 @@ pub fn key_same(major: i64, minor: i64, major2: i64, minor2: i64) -> bool
     minor == minor2
 }
 
-pub fn find_row(cells: &[i64], count: usize, width: usize, major: i64, minor: i64) -> Found
-    requires { ⌜ (2 ≤ width) × (1 + count * width ≤ length (now cells)) ⌝ }
-    ensures { λ r. ⌜ r ≡ rowFound width (keyOf major minor) count (now (cells .entry)) ⌝ }
+// The same without a jump: in a search neither answer is likelier.
+fn comes_before(major: i64, minor: i64, major2: i64, minor2: i64) -> bool
+    ensures { λ r. ⌜ r ≡ below (keyOf major minor) (keyOf major2 minor2) ⌝ }
 {
-    let mut row = 0;
-    let mut at = 1;
-    while row < count {
-        if key_same(cells[at], cells[at + 1], major, minor) {
-            return Found::Row(row);
+    (major < major2) | ((major == major2) & (minor < minor2))
+}
+
+// By halving, a row at most 8 rows before the place where a key belongs.
+fn row_near(cells: &[i64], count: usize, width: usize, major: i64, minor: i64) -> usize
+    requires { ⌜ (2 ≤ width) × (1 + count * width ≤ length (now cells)) × (keysRise width count (now cells) ≡ true) ⌝ }
+    ensures { λ r. ⌜ r ≤ rowPlace width (keyOf major minor) count (now (cells .entry)) ⌝ }
+{
+    let mut low = 0;
+    let mut left = count;
+    while 8 < left {
+        let half = left / 2;
+        let at = 1 + (low + half) * width;
+        if !comes_before(major, minor, cells[at], cells[at + 1]) {
+            low += half;
         }
-        row += 1;
-        at += width;
+        left -= half;
     }
-    Found::Absent
+    low
 }
 
 // How many rows stand before the place where a key belongs.
 pub fn place_of(cells: &[i64], count: usize, width: usize, major: i64, minor: i64) -> usize
-    requires { ⌜ (2 ≤ width) × (1 + count * width ≤ length (now cells)) ⌝ }
+    requires { ⌜ (2 ≤ width) × (1 + count * width ≤ length (now cells)) × (keysRise width count (now cells) ≡ true) ⌝ }
     ensures { λ r. ⌜ r ≡ rowPlace width (keyOf major minor) count (now (cells .entry)) ⌝ }
 {
-    let mut place = 0;
-    let mut at = 1;
+    let mut place = row_near(cells, count, width, major, minor);
     while place < count {
+        let at = 1 + place * width;
         if key_below(major, minor, cells[at], cells[at + 1]) {
             return place;
         }
         place += 1;
-        at += width;
     }
     place
 }
 
+pub fn find_row(cells: &[i64], count: usize, width: usize, major: i64, minor: i64) -> Found
+    requires { ⌜ (2 ≤ width) × (1 + count * width ≤ length (now cells)) × (keysRise width count (now cells) ≡ true) ⌝ }
+    ensures { λ r. ⌜ r ≡ rowFound width (keyOf major minor) count (now (cells .entry)) ⌝ }
+{
+    let place = place_of(cells, count, width, major, minor);
+    if place == 0 {
+        return Found::Absent;
+    }
+    let row = place - 1;
+    let at = 1 + row * width;
+    if key_same(cells[at], cells[at + 1], major, minor) { Found::Row(row) } else { Found::Absent }
+}
+
 // The greatest second figure of the keys with that first figure.
 pub fn greatest_of(cells: &[i64], count: usize, width: usize, major: i64) -> Greatest
-    requires { ⌜ (2 ≤ width) × (1 + count * width ≤ length (now cells)) ⌝ }
+    requires { ⌜ (2 ≤ width) × (1 + count * width ≤ length (now cells)) × (keysRise width count (now cells) ≡ true) ⌝ }
     ensures { λ r. ⌜ r ≡ rowGreatest width major count (now (cells .entry)) ⌝ }
 {
-    let mut best = 0;
-    let mut any = false;
-    let mut row = 0;
-    let mut at = 1;
-    while row < count {
-        if cells[at] == major {
-            let minor = cells[at + 1];
-            if !any {
-                best = minor;
-                any = true;
-            } else if best < minor {
-                best = minor;
-            }
-        }
-        row += 1;
-        at += width;
+    let place = place_of(cells, count, width, major, 9_223_372_036_854_775_807);
+    if place < count {
+        // Read for its range alone: no second figure is above the greatest i64, so from here on the first figure is greater.
+        let second = cells[1 + place * width + 1];
     }
-    if any { Greatest::Suffix(best) } else { Greatest::Nothing }
+    if place == 0 {
+        return Greatest::Nothing;
+    }
+    let at = 1 + (place - 1) * width;
+    if cells[at] == major { Greatest::Suffix(cells[at + 1]) } else { Greatest::Nothing }
 }

@@ -7,7 +7,7 @@ use tables::positions;
 use tables::records;
 ghost use mathlib.Core.Path.{_≡_};
 ghost use mathlib.Core.Bool.{true, false};
-ghost use mathlib.Core.List.{[], map, _++_, _∷_};
+ghost use mathlib.Core.List.{[], map};
 ghost use Prim.Native.Nat.{_+_, _≤_, _<_};
 ghost use lib.IntN.{pos};
 ghost use lib.ListN.{length};
@@ -24,6 +24,7 @@ ghost use Rattle.verdict.specs.Verdict.{answered, verdictOn, acceptedOn};
 ghost use Rattle.verdict.specs.declared.Verdict.the-variants.{Accepted};
 ghost use Rattle.merge_sources.specs.Sources.{sourcesIn, allFound, sourceRecords, recordNamed, inverseNamed};
 ghost use Rattle.merge_sources.specs.Pairs.{repeatsFrom};
+ghost use Rattle.merge_sources.specs.Located.{rowsKnown};
 
 // A source becomes status 1.
 fn adjust_source(records: &mut [i64], id: i64, suffix: i64)
@@ -96,13 +97,13 @@ fn merged_row(first: Record, id: i64, quantity: i64, price: i64) -> Record
     }
 }
 
-pub fn book(records: &mut [i64], positions: &mut [i64], id: i64, account: i64, series: i64, pairs: &[i64]) -> Reply
-    requires { ⌜ (soundRecords (now records) ≡ true) × (soundPositions (now positions) ≡ true) × (verdictOn (now records) (now positions) (Request.merge id account series (now pairs)) ≡ Accepted) ⌝ }
+pub fn book(records: &mut [i64], positions: &mut [i64], id: i64, account: i64, series: i64, pairs: &[i64], rows: &[u16]) -> Reply
+    requires { ⌜ (soundRecords (now records) ≡ true) × (soundPositions (now positions) ≡ true) × (verdictOn (now records) (now positions) (Request.merge id account series (now pairs)) ≡ Accepted) × rowsKnown (now records) (now pairs) (now rows) ⌝ }
     ensures { λ r. ⌜ answered r (now (records .exit)) (now (positions .exit)) ≡ acceptedOn (now (records .entry)) (now (positions .entry)) (Request.merge id account series (now (pairs .entry))) ⌝ }
 {
-    let first = sources::source_record(records, pairs, 0);
-    let quantity = sources::sum_of_quantities(records, pairs);
-    let value = sources::sum_of_values(records, pairs);
+    let first = sources::source_record(records, pairs, rows, 0);
+    let quantity = sources::sum_of_quantities(records, pairs, rows);
+    let value = sources::sum_of_values(records, pairs, rows);
     let price = integers::average(value, quantity);
     let residual = integers::residual(figures::is_buy(first.side), value, quantity);
     let merged = merged_row(first, id, quantity, price);
@@ -111,6 +112,6 @@ pub fn book(records: &mut [i64], positions: &mut [i64], id: i64, account: i64, s
     insert_inverses(&mut *records, pairs, id);
     records::insert_record(records, merged);
     positions::put_position(positions, left);
-    let rows = (pairs.len() / 2) as i64 + 1;
-    Reply::Booked { rows, residual }
+    let added = (pairs.len() / 2) as i64 + 1;
+    Reply::Booked { rows: added, residual }
 }

@@ -11,8 +11,9 @@ ghost use mathlib.Core.Path.{_≡_};
 ghost use mathlib.Core.Bool.{true, false};
 ghost use mathlib.Core.List.{[], map};
 ghost use mathlib.Core.Option.{none};
-ghost use Prim.Native.Nat.{_<_};
+ghost use Prim.Native.Nat.{_<_, _≤_};
 ghost use lib.IntN.{pos};
+ghost use lib.ListN.{length};
 ghost use Rattle.rules.specs.Figures.{isBuy};
 ghost use Rattle.rules.specs.Keyed.{greatest};
 ghost use Rattle.rules.specs.Rows.{recordKey};
@@ -24,9 +25,10 @@ ghost use Rattle.rules.specs.Tables.{recordsLayout, soundRecords, soundPosition
 ghost use Rattle.rules.specs.Handle.{handle};
 ghost use Rattle.rules.specs.Merge.{mergeFigures, pairsOf, closes, sideDiffers, firstOf};
 ghost use Rattle.verdict.specs.Verdict.{tablesOf, answered, verdictOn};
-ghost use Rattle.verdict.specs.declared.Verdict.the-variants.{Refused};
+ghost use Rattle.verdict.specs.declared.Verdict.the-variants.{Refused, Accepted};
 ghost use Rattle.merge_sources.specs.Sources.{allFound, sourceRecords};
 ghost use Rattle.merge_sources.specs.Pairs.{repeatsFrom};
+ghost use Rattle.merge_sources.specs.Located.{rowsKnown};
 
 fn refused_at(number: i64, place: usize) -> Verdict
     requires { ⌜ place < 1000 ⌝ }
@@ -38,9 +40,10 @@ fn refused_at(number: i64, place: usize) -> Verdict
     }
 }
 
-fn verdict(records: &[i64], positions: &[i64], id: i64, account: i64, series: i64, pairs: &[i64]) -> Verdict
-    requires { ⌜ (soundRecords (now records) ≡ true) × (soundPositions (now positions) ≡ true) ⌝ }
-    ensures { λ r. ⌜ r ≡ verdictOn (now (records .entry)) (now (positions .entry)) (Request.merge id account series (now (pairs .entry))) ⌝ }
+// Tests 3 to 5, which find the row of each source; then those of the sources.
+fn verdict(records: &[i64], positions: &[i64], id: i64, account: i64, series: i64, pairs: &[i64], rows: &mut [u16]) -> Verdict
+    requires { ⌜ (soundRecords (now records) ≡ true) × (soundPositions (now positions) ≡ true) × (1000 ≤ length (now rows)) ⌝ }
+    ensures { λ r. ⌜ (r ≡ verdictOn (now (records .entry)) (now (positions .entry)) (Request.merge id account series (now (pairs .entry)))) × (r ≡ Accepted → rowsKnown (now (records .entry)) (now (pairs .entry)) (now (rows .exit))) ⌝ }
 {
     if !pairs::figures_valid(id, account, series, pairs) {
         return Verdict::Refused { number: 3, place: 0 };
@@ -48,37 +51,46 @@ fn verdict(records: &[i64], positions: &[i64], id: i64, account: i64, series: i6
     let lookup::Greatest::Nothing = records::greatest_suffix(records, id) else {
         return Verdict::Refused { number: 4, place: 0 };
     };
-    if let Place::At(i) = sources::first_missing(records, pairs) {
+    if let Place::At(i) = sources::locate(records, pairs, &mut *rows) {
         return refused_at(5, i);
     }
-    if let Place::At(i) = sources::first_failing(records, pairs, 6, account, series, true) {
+    verdict_on_sources(records, positions, id, account, series, pairs, rows)
+}
+
+// Tests 6 to 10, of sources that have records; then those of their sums.
+fn verdict_on_sources(records: &[i64], positions: &[i64], id: i64, account: i64, series: i64, pairs: &[i64], rows: &[u16]) -> Verdict
+    requires { ⌜ (soundRecords (now records) ≡ true) × (soundPositions (now positions) ≡ true) × rowsKnown (now records) (now pairs) (now rows) ⌝ }
+    requires { ⌜ (mergeFigures id account series (now pairs) ≡ true) × (greatest recordKey id (rowsOf recordsLayout (now records)) ≡ none) × (allFound (now records) (now pairs) ≡ true) ⌝ }
+    ensures { λ r. ⌜ r ≡ verdictOn (now (records .entry)) (now (positions .entry)) (Request.merge id account series (now (pairs .entry))) ⌝ }
+{
+    if let Place::At(i) = sources::first_failing(records, pairs, rows, 6, account, series, true) {
         return refused_at(6, i);
     }
-    if let Place::At(i) = sources::first_failing(records, pairs, 7, account, series, true) {
+    if let Place::At(i) = sources::first_failing(records, pairs, rows, 7, account, series, true) {
         return refused_at(7, i);
     }
-    if let Place::At(i) = sources::first_failing(records, pairs, 8, account, series, true) {
+    if let Place::At(i) = sources::first_failing(records, pairs, rows, 8, account, series, true) {
         return refused_at(8, i);
     }
     if let Place::At(i) = pairs::first_repeated(pairs) {
         return refused_at(9, i);
     }
-    let first = sources::source_record(records, pairs, 0);
-    if let Place::At(i) = sources::first_failing(records, pairs, 10, account, series, figures::is_buy(first.side)) {
+    let first = sources::source_record(records, pairs, rows, 0);
+    if let Place::At(i) = sources::first_failing(records, pairs, rows, 10, account, series, figures::is_buy(first.side)) {
         return refused_at(10, i);
     }
-    verdict_on_sums(records, positions, id, account, series, pairs, figures::is_buy(first.side))
+    verdict_on_sums(records, positions, id, account, series, pairs, rows, figures::is_buy(first.side))
 }
 
 // Tests 11 and 13 to 16, of sources that pass 5 to 10.
-fn verdict_on_sums(records: &[i64], positions: &[i64], id: i64, account: i64, series: i64, pairs: &[i64], buy: bool) -> Verdict
-    requires { ⌜ (soundRecords (now records) ≡ true) × (soundPositions (now positions) ≡ true) ⌝ }
+fn verdict_on_sums(records: &[i64], positions: &[i64], id: i64, account: i64, series: i64, pairs: &[i64], rows: &[u16], buy: bool) -> Verdict
+    requires { ⌜ (soundRecords (now records) ≡ true) × (soundPositions (now positions) ≡ true) × rowsKnown (now records) (now pairs) (now rows) ⌝ }
     requires { ⌜ (mergeFigures id account series (now pairs) ≡ true) × (greatest recordKey id (rowsOf recordsLayout (now records)) ≡ none) × (allFound (now records) (now pairs) ≡ true) ⌝ }
     requires { ⌜ (anyOf (map (isElsewhere account series) (sourceRecords (now records) (now pairs))) ≡ false) × (anyOf (map isNotAdjustable (sourceRecords (now records) (now pairs))) ≡ false) × (anyOf (map closes (sourceRecords (now records) (now pairs))) ≡ false) ⌝ }
     requires { ⌜ (anyOf (repeatsFrom [] (pairsOf (now pairs))) ≡ false) × (anyOf (map (sideDiffers (firstOf (sourceRecords (now records) (now pairs)))) (sourceRecords (now records) (now pairs))) ≡ false) × (buy ≡ isBuy ((firstOf (sourceRecords (now records) (now pairs))) .side)) ⌝ }
     ensures { λ r. ⌜ r ≡ verdictOn (now (records .entry)) (now (positions .entry)) (Request.merge id account series (now (pairs .entry))) ⌝ }
 {
-    let quantity = sources::sum_of_quantities(records, pairs);
+    let quantity = sources::sum_of_quantities(records, pairs, rows);
     if 1_000_000 < quantity {
         return Verdict::Refused { number: 11, place: 0 };
     }
@@ -92,7 +104,7 @@ fn verdict_on_sums(records: &[i64], positions: &[i64], id: i64, account: i64, se
     if requests::lacks_positions_room(positions, absent) {
         return Verdict::Refused { number: 15, place: 0 };
     }
-    let value = sources::sum_of_values(records, pairs);
+    let value = sources::sum_of_values(records, pairs, rows);
     let residual = integers::residual(buy, value, quantity);
     let p = positions::position_of(positions, account, series);
     if !scan::soundness::sound_position(requests::moved(p, 0, 0, residual)) {
@@ -110,8 +122,9 @@ pub fn merge(records: &mut [i64], positions: &mut [i64], id: i64, account: i64, 
     if !scan::soundness::positions_sound(positions) {
         return Reply::Refused { number: 2, place: 0 };
     }
-    match verdict(records, positions, id, account, series, pairs) {
+    let mut rows: [u16; 1000] = [0; 1000];
+    match verdict(records, positions, id, account, series, pairs, &mut rows) {
         Verdict::Refused { number, place } => Reply::Refused { number, place },
-        Verdict::Accepted => booking::book(records, positions, id, account, series, pairs),
+        Verdict::Accepted => booking::book(records, positions, id, account, series, pairs, &rows),
     }
 }

@@ -5,17 +5,17 @@ use lookup::Found;
 use rules::Record;
 use tables::records;
 ghost use mathlib.Core.Path.{_≡_};
-ghost use mathlib.Core.Bool.{true, false, not};
+ghost use mathlib.Core.Bool.{true, false};
 ghost use mathlib.Core.List.{[], map};
-ghost use Prim.Native.Nat.{_+_, _*_, _≤_, _<_, _%_};
+ghost use Prim.Native.Nat.{_+_, _*_, _≤_, _<_};
 ghost use lib.IntN.{pos};
-ghost use lib.ListN.{length, getD};
+ghost use lib.ListN.{length};
 ghost use lib.Signed.{_≤ℤ_};
 ghost use mathlib.Core.Option.{some};
 ghost use Rattle.rules.specs.Figures.{mostQuantity};
 ghost use Rattle.rules.specs.Keyed.{find};
-ghost use Rattle.rules.specs.Rows.{keyOf, recordKey};
-ghost use Rattle.rules.specs.NamedRecord.{theRecord, isNotAdjustable};
+ghost use Rattle.rules.specs.Rows.{recordKey};
+ghost use Rattle.rules.specs.NamedRecord.{isNotAdjustable};
 ghost use Rattle.rules.specs.Refusal.{anyOf};
 ghost use Rattle.rules.specs.Plan.{suffixIsAbove};
 ghost use Rattle.rules.specs.Layout.{rowsOf};
@@ -23,32 +23,32 @@ ghost use Rattle.rules.specs.Tables.{recordsLayout, soundRecords};
 ghost use Rattle.rules.specs.Merge.{isMissing, sumOfQuantities, sumOfValues, mergeInverses};
 ghost use Rattle.merge_sources.specs.Sources.{sourcesIn, placeOf, failsTest, allFound, sourceRecords};
 ghost use Rattle.merge_sources.specs.Pairs.{pairAt};
+ghost use Rattle.merge_sources.specs.Located.{rowsKnown};
+ghost use Rattle.merge_sources.specs.declared.Place.the-variants.{Nowhere};
 
-// 5: the first source that has no record.
-pub fn first_missing(records: &[i64], pairs: &[i64]) -> Place
-    requires { ⌜ soundRecords (now records) ≡ true ⌝ }
-    ensures { λ r. ⌜ r ≡ placeOf (map isMissing (sourcesIn (now (records .entry)) (now (pairs .entry)))) ⌝ }
+// 5: the first source that has no record. Where there is none, the row of each is kept.
+pub fn locate(records: &[i64], pairs: &[i64], rows: &mut [u16]) -> Place
+    requires { ⌜ (soundRecords (now records) ≡ true) × (length (now pairs) ≤ 2 * length (now rows)) ⌝ }
+    ensures { λ r. ⌜ (r ≡ placeOf (map isMissing (sourcesIn (now (records .entry)) (now (pairs .entry))))) × (r ≡ Nowhere → rowsKnown (now (records .entry)) (now (pairs .entry)) (now (rows .exit))) ⌝ }
 {
     let count = pairs.len() / 2;
     let mut i = 0;
     while i < count {
-        let Found::Row(_) = records::find_record(records, pairs[2 * i], pairs[2 * i + 1]) else {
+        let Found::Row(row) = records::find_record(records, pairs[2 * i], pairs[2 * i + 1]) else {
             return Place::At(i);
         };
+        rows[i] = row as u16;
         i += 1;
     }
     Place::Nowhere
 }
 
-// The record of the source at a place, which has one.
-pub fn source_record(records: &[i64], pairs: &[i64], place: usize) -> Record
-    requires { ⌜ (soundRecords (now records) ≡ true) × (allFound (now records) (now pairs) ≡ true) × (2 * place + 2 ≤ length (now pairs)) ⌝ }
+// The record of the source at a place, by its row.
+pub fn source_record(records: &[i64], pairs: &[i64], rows: &[u16], place: usize) -> Record
+    requires { ⌜ (soundRecords (now records) ≡ true) × rowsKnown (now records) (now pairs) (now rows) × (2 * place + 2 ≤ length (now pairs)) ⌝ }
     ensures { λ r. ⌜ find recordKey (pairAt (now (pairs .entry)) place) (rowsOf recordsLayout (now (records .entry))) ≡ some r ⌝ }
 {
-    let Found::Row(row) = records::find_record(records, pairs[2 * place], pairs[2 * place + 1]) else {
-        return records::read_record(records, 0);
-    };
-    records::read_record(records, row)
+    records::read_record(records, rows[place] as usize)
 }
 
 // Tests 6, 7, 8 and 10 of one source.
@@ -71,14 +71,14 @@ fn source_fails(number: i64, account: i64, series: i64, buy: bool, r: Record) ->
 }
 
 // The first source that fails one of these tests.
-pub fn first_failing(records: &[i64], pairs: &[i64], number: i64, account: i64, series: i64, buy: bool) -> Place
-    requires { ⌜ (soundRecords (now records) ≡ true) × (allFound (now records) (now pairs) ≡ true) ⌝ }
+pub fn first_failing(records: &[i64], pairs: &[i64], rows: &[u16], number: i64, account: i64, series: i64, buy: bool) -> Place
+    requires { ⌜ (soundRecords (now records) ≡ true) × rowsKnown (now records) (now pairs) (now rows) ⌝ }
     ensures { λ r. ⌜ r ≡ placeOf (map (failsTest number account series buy) (sourceRecords (now (records .entry)) (now (pairs .entry)))) ⌝ }
 {
     let count = pairs.len() / 2;
     let mut i = 0;
     while i < count {
-        if source_fails(number, account, series, buy, source_record(records, pairs, i)) {
+        if source_fails(number, account, series, buy, source_record(records, pairs, rows, i)) {
             return Place::At(i);
         }
         i += 1;
@@ -87,15 +87,15 @@ pub fn first_failing(records: &[i64], pairs: &[i64], number: i64, account: i64, 
 }
 
 // Q.
-pub fn sum_of_quantities(records: &[i64], pairs: &[i64]) -> i64
-    requires { ⌜ (soundRecords (now records) ≡ true) × (allFound (now records) (now pairs) ≡ true) × (length (now pairs) ≤ 2000) ⌝ }
+pub fn sum_of_quantities(records: &[i64], pairs: &[i64], rows: &[u16]) -> i64
+    requires { ⌜ (soundRecords (now records) ≡ true) × rowsKnown (now records) (now pairs) (now rows) × (allFound (now records) (now pairs) ≡ true) × (length (now pairs) ≤ 2000) ⌝ }
     ensures { λ r. ⌜ r ≡ sumOfQuantities (sourceRecords (now (records .entry)) (now (pairs .entry))) ⌝ }
 {
     let count = pairs.len() / 2;
     let mut sum: i64 = 0;
     let mut i = 0;
     while i < count {
-        let r = source_record(records, pairs, i);
+        let r = source_record(records, pairs, rows, i);
         sum += r.quantity;
         i += 1;
     }
@@ -103,15 +103,15 @@ pub fn sum_of_quantities(records: &[i64], pairs: &[i64]) -> i64
 }
 
 // V, once Q is known to be at most 1,000,000 and every quantity to be positive.
-pub fn sum_of_values(records: &[i64], pairs: &[i64]) -> i64
-    requires { ⌜ (soundRecords (now records) ≡ true) × (allFound (now records) (now pairs) ≡ true) × (length (now pairs) ≤ 2000) × (anyOf (map isNotAdjustable (sourceRecords (now records) (now pairs))) ≡ false) × (sumOfQuantities (sourceRecords (now records) (now pairs)) ≤ℤ pos mostQuantity) ⌝ }
+pub fn sum_of_values(records: &[i64], pairs: &[i64], rows: &[u16]) -> i64
+    requires { ⌜ (soundRecords (now records) ≡ true) × rowsKnown (now records) (now pairs) (now rows) × (allFound (now records) (now pairs) ≡ true) × (length (now pairs) ≤ 2000) × (anyOf (map isNotAdjustable (sourceRecords (now records) (now pairs))) ≡ false) × (sumOfQuantities (sourceRecords (now records) (now pairs)) ≤ℤ pos mostQuantity) ⌝ }
     ensures { λ r. ⌜ r ≡ sumOfValues (sourceRecords (now (records .entry)) (now (pairs .entry))) ⌝ }
 {
     let count = pairs.len() / 2;
     let mut sum: i64 = 0;
     let mut i = 0;
     while i < count {
-        let r = source_record(records, pairs, i);
+        let r = source_record(records, pairs, rows, i);
         sum += r.quantity * r.price;
         i += 1;
     }

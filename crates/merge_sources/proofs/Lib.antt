@@ -2,6 +2,7 @@ pub mod PairList
 pub mod Places
 pub mod Each
 pub mod SourceList
+pub mod SourceRows
 pub mod Sums
 pub mod SumRanges
 pub mod PairTests

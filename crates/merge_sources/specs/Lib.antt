@@ -1,2 +1,3 @@
 pub mod Sources
 pub mod Pairs
+pub mod Located

@@ -36,6 +36,7 @@ fn count_sound(cells: &[i64], width: usize, most: usize) -> bool
     figures::in_range(0, room, cells[0])
 }
 
+// The kind comes last: its test, a table of bits, then keeps no other cell waiting in a register.
 pub fn sound_record(r: Record) -> bool
     ensures { λ s. ⌜ s ≡ soundRecord r ⌝ }
 {
@@ -46,9 +47,6 @@ pub fn sound_record(r: Record) -> bool
         return false;
     }
     if !figures::valid_suffix(r.parent) {
-        return false;
-    }
-    if !figures::valid_kind(r.kind) {
         return false;
     }
     if !figures::valid_status(r.status) {
@@ -78,7 +76,10 @@ pub fn sound_record(r: Record) -> bool
     if !figures::valid_into(r.into) {
         return false;
     }
-    figures::valid_parent(r.parent, r.suffix)
+    if !figures::valid_parent(r.parent, r.suffix) {
+        return false;
+    }
+    figures::valid_kind(r.kind)
 }
 
 pub fn sound_position(p: Position) -> bool

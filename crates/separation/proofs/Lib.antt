@@ -1,2 +1,3 @@
 pub mod PartsLeft
-pub mod PartsPut
+pub mod PartsWritten
+pub mod GapWritten

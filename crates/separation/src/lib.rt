@@ -7,20 +7,18 @@ use tables::records;
 ghost use mathlib.Core.Path.{_≡_};
 ghost use mathlib.Core.Bool.{true};
 ghost use mathlib.Core.List.{map};
-ghost use Prim.Native.Nat.{_+_, _≤_};
+ghost use Prim.Native.Nat.{_+_, _*_, _≤_};
 ghost use lib.IntN.{pos};
 ghost use lib.ListN.{length};
 ghost use lib.Signed.{_≤ℤ_};
 ghost use Rattle.rules.specs.Figures.{validQuantity};
-ghost use Rattle.rules.specs.Keyed.{upsertAll, greatest};
-ghost use Rattle.rules.specs.Rows.{recordKey, soundRecord};
-ghost use Rattle.rules.specs.NamedRecord.{nextSuffix};
 ghost use Rattle.rules.specs.Refusal.{allOf};
 ghost use Rattle.rules.specs.Request as Request;
-ghost use Rattle.rules.specs.Layout.{roomOf, rowsOf, write};
-ghost use Rattle.rules.specs.Tables.{recordsLayout, soundRecords, soundPositions};
+ghost use Rattle.rules.specs.Layout.{encode};
+ghost use Rattle.rules.specs.Tables.{recordCells, soundRecords, soundPositions};
 ghost use Rattle.rules.specs.Handle.{handle};
 ghost use Rattle.rules.specs.Separation.{sumOf, separationFigures, partRecords};
+ghost use Rattle.shifter.specs.Insertion.{filled};
 ghost use Rattle.verdict.specs.Verdict.{tablesOf, answered, verdictOn, acceptedOn};
 ghost use Rattle.verdict.specs.declared.Verdict.the-variants.{Accepted};
 
@@ -104,17 +102,17 @@ fn verdict(records: &[i64], positions: &[i64], id: i64, suffix: i64, account: i6
     Verdict::Accepted
 }
 
-// One adjustable row a part, in the order given, with successive suffixes from `first` on.
-fn insert_parts(records: &mut [i64], r: Record, first: i64, parts: &[i64])
-    requires { ⌜ (soundRecords (now records) ≡ true) × (allOf (map soundRecord (partRecords r first (now parts))) ≡ true) × (length (rowsOf recordsLayout (now records)) + length (now parts) ≤ roomOf recordsLayout (now records)) × (nextSuffix (greatest recordKey (r .id) (rowsOf recordsLayout (now records))) ≤ℤ first) × (pos 0 ≤ℤ first) ⌝ }
-    ensures { λ done. ⌜ (now (records .exit) ≡ write recordsLayout (now (records .entry)) (upsertAll recordKey (partRecords r first (now (parts .entry))) (rowsOf recordsLayout (now (records .entry))))) × (soundRecords (now (records .exit)) ≡ true) ⌝ }
+// One adjustable row a part, in the order given, from row `place` on and with successive suffixes from `first` on.
+fn write_parts(records: &mut [i64], place: usize, r: Record, first: i64, parts: &[i64])
+    requires { ⌜ (1 + (place + length (now parts)) * 13 ≤ length (now records)) × (pos 0 ≤ℤ first) × (first ≤ℤ pos 65536) × (length (now parts) ≤ 65535) ⌝ }
+    ensures { λ done. ⌜ now (records .exit) ≡ filled 13 (encode recordCells (partRecords r first (now (parts .entry)))) place (now (records .entry)) ⌝ }
 {
     let mut suffix = first;
     let account = r.account;
     let mut at = 0;
     while at < parts.len() {
         let quantity = parts[at];
-        records::insert_record(&mut *records, requests::adjustable_record(r, suffix, 6, account, quantity, 0, 0));
+        records::write_record(&mut *records, place + at, requests::adjustable_record(r, suffix, 6, account, quantity, 0, 0));
         suffix += 1;
         at += 1;
     }
@@ -130,8 +128,9 @@ fn book(records: &mut [i64], positions: &[i64], id: i64, suffix: i64, account: i
     let r = records::read_record(records, row);
     let next = requests::next_suffix(records, id);
     records::adjust_record(&mut *records, row);
-    records::insert_record(&mut *records, requests::inverse_record(r, next, 6, 0, 0, 0));
-    insert_parts(records, r, next + 1, parts);
+    let place = records::open_rows(&mut *records, id, next, parts.len() + 1);
+    records::write_record(&mut *records, place, requests::inverse_record(r, next, 6, 0, 0, 0));
+    write_parts(records, place + 1, r, next + 1, parts);
     let rows = parts.len() as i64 + 1;
     Reply::Booked { rows, residual: 0 }
 }

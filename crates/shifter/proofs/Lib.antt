@@ -1,3 +1,4 @@
+pub mod GapFilled
 pub mod Moved
 pub mod Placed
 pub mod Written

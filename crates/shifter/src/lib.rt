@@ -3,17 +3,80 @@ ghost use mathlib.Core.Path.{_≡_};
 ghost use mathlib.Core.List.{_++_, _∷_};
 ghost use Prim.Native.Nat.{suc, _+_, _-_, _*_, _≤_, _<_};
 ghost use lib.ListN.{length, take, drop};
-ghost use Rattle.shifter.specs.Insertion.{inserted, replaced};
+ghost use Rattle.shifter.specs.Insertion.{inserted, replaced, gapped};
 
-// The first `used` cells moved up by `width`.
-fn move_up(tail: &mut [i64], used: usize, width: usize)
-    requires { ⌜ used + width ≤ length (now tail) ⌝ }
-    ensures { λ r. ⌜ now (tail .exit) ≡ take width (now (tail .entry)) ++ (take used (now (tail .entry)) ++ drop (used + width) (now (tail .entry))) ⌝ }
+// The first `used` cells moved up by `by`, for any distance.
+fn move_up_any(tail: &mut [i64], used: usize, by: usize)
+    requires { ⌜ used + by ≤ length (now tail) ⌝ }
+    ensures { λ r. ⌜ now (tail .exit) ≡ take by (now (tail .entry)) ++ (take used (now (tail .entry)) ++ drop (used + by) (now (tail .entry))) ⌝ }
 {
     let mut k = used;
     while 0 < k {
         k -= 1;
-        tail[k + width] = tail[k];
+        tail[k + by] = tail[k];
+    }
+}
+
+// The same by one to four records: with the distance in the text, the compiler makes one block move of the loop.
+fn move_up_13(tail: &mut [i64], used: usize)
+    requires { ⌜ used + 13 ≤ length (now tail) ⌝ }
+    ensures { λ r. ⌜ now (tail .exit) ≡ take 13 (now (tail .entry)) ++ (take used (now (tail .entry)) ++ drop (used + 13) (now (tail .entry))) ⌝ }
+{
+    let mut k = used;
+    while 0 < k {
+        k -= 1;
+        tail[k + 13] = tail[k];
+    }
+}
+
+fn move_up_26(tail: &mut [i64], used: usize)
+    requires { ⌜ used + 26 ≤ length (now tail) ⌝ }
+    ensures { λ r. ⌜ now (tail .exit) ≡ take 26 (now (tail .entry)) ++ (take used (now (tail .entry)) ++ drop (used + 26) (now (tail .entry))) ⌝ }
+{
+    let mut k = used;
+    while 0 < k {
+        k -= 1;
+        tail[k + 26] = tail[k];
+    }
+}
+
+fn move_up_39(tail: &mut [i64], used: usize)
+    requires { ⌜ used + 39 ≤ length (now tail) ⌝ }
+    ensures { λ r. ⌜ now (tail .exit) ≡ take 39 (now (tail .entry)) ++ (take used (now (tail .entry)) ++ drop (used + 39) (now (tail .entry))) ⌝ }
+{
+    let mut k = used;
+    while 0 < k {
+        k -= 1;
+        tail[k + 39] = tail[k];
+    }
+}
+
+fn move_up_52(tail: &mut [i64], used: usize)
+    requires { ⌜ used + 52 ≤ length (now tail) ⌝ }
+    ensures { λ r. ⌜ now (tail .exit) ≡ take 52 (now (tail .entry)) ++ (take used (now (tail .entry)) ++ drop (used + 52) (now (tail .entry))) ⌝ }
+{
+    let mut k = used;
+    while 0 < k {
+        k -= 1;
+        tail[k + 52] = tail[k];
+    }
+}
+
+// The first `used` cells moved up by `by`.
+fn move_up(tail: &mut [i64], used: usize, by: usize)
+    requires { ⌜ used + by ≤ length (now tail) ⌝ }
+    ensures { λ r. ⌜ now (tail .exit) ≡ take by (now (tail .entry)) ++ (take used (now (tail .entry)) ++ drop (used + by) (now (tail .entry))) ⌝ }
+{
+    if by == 13 {
+        move_up_13(tail, used);
+    } else if by == 26 {
+        move_up_26(tail, used);
+    } else if by == 39 {
+        move_up_39(tail, used);
+    } else if by == 52 {
+        move_up_52(tail, used);
+    } else {
+        move_up_any(tail, used, by);
     }
 }
 
@@ -48,6 +111,18 @@ pub fn insert_row(cells: &mut [i64], count: usize, place: usize, row: &[i64])
     let used = (count - place) * width;
     shift_in(&mut cells[at..], used, row);
     cells[0] = (count + 1) as i64;
+}
+
+// Room for `added` rows before row `place` of a table with `count` rows, and the count raised. The cells of the gap are still to be written.
+pub fn open_gap(cells: &mut [i64], count: usize, place: usize, added: usize, width: usize)
+    requires { ⌜ (place ≤ count) × (1 + (count + added) * width ≤ length (now cells)) × (count + added ≤ 4096) ⌝ }
+    ensures { λ r. ⌜ now (cells .exit) ≡ gapped width count place added (now (cells .entry)) ⌝ }
+{
+    let at = 1 + place * width;
+    let used = (count - place) * width;
+    let by = added * width;
+    move_up(&mut cells[at..], used, by);
+    cells[0] = (count + added) as i64;
 }
 
 // The cells of row `place` written anew.

@@ -1,4 +1,6 @@
 pub mod AdjustedRow
+pub mod AroundPlace
+pub mod NewRows
 pub mod RowFits
 pub mod RowPut
 pub mod RowThere

@@ -6,14 +6,15 @@ use rules::Record;
 ghost use mathlib.Core.Path.{_≡_};
 ghost use mathlib.Core.Bool.{true};
 ghost use mathlib.Core.Option.{none};
-ghost use Prim.Native.Nat.{_+_, _*_, _<_};
+ghost use Prim.Native.Nat.{suc, _+_, _*_, _≤_, _<_};
 ghost use lib.IntN.{pos};
 ghost use lib.ListN.{length};
 ghost use Rattle.rules.specs.Keyed.{find, upsert};
-ghost use Rattle.rules.specs.Rows.{recordKey, soundRecord, adjustedRecord};
+ghost use Rattle.rules.specs.Rows.{keyOf, recordKey, soundRecord, adjustedRecord};
 ghost use Rattle.rules.specs.Layout.{roomOf, rowsOf, write};
-ghost use Rattle.rules.specs.Tables.{recordAt, recordsLayout, soundRecords};
-ghost use Rattle.lookup.specs.Lookup.{recordFound, suffixGreatest};
+ghost use Rattle.rules.specs.Tables.{recordAt, recordCells, recordsLayout, soundRecords};
+ghost use Rattle.lookup.specs.Lookup.{rowPlace, recordFound, suffixGreatest};
+ghost use Rattle.shifter.specs.Insertion.{replaced, gapped};
 
 pub fn count(cells: &[i64]) -> usize
     requires { ⌜ soundRecords (now cells) ≡ true ⌝ }
@@ -62,6 +63,26 @@ pub fn insert_record(cells: &mut [i64], r: Record)
     let place = lookup::place_of(cells, n, 13, id, suffix);
     let row = rows::record_cells(r);
     shifter::insert_row(cells, n, place, &row);
+}
+
+// Room for so many rows where a key belongs, and the count raised; answers the first of them. Their cells are still to be written.
+pub fn open_rows(cells: &mut [i64], id: i64, suffix: i64, added: usize) -> usize
+    requires { ⌜ (soundRecords (now cells) ≡ true) × (length (rowsOf recordsLayout (now cells)) + added ≤ roomOf recordsLayout (now cells)) ⌝ }
+    ensures { λ place. ⌜ (place ≡ rowPlace 13 (keyOf id suffix) (length (rowsOf recordsLayout (now (cells .entry)))) (now (cells .entry))) × (now (cells .exit) ≡ gapped 13 (length (rowsOf recordsLayout (now (cells .entry)))) place added (now (cells .entry))) ⌝ }
+{
+    let n = count(cells);
+    let place = lookup::place_of(cells, n, 13, id, suffix);
+    shifter::open_gap(cells, n, place, added, 13);
+    place
+}
+
+// The cells of row `row` written anew.
+pub fn write_record(cells: &mut [i64], row: usize, r: Record)
+    requires { ⌜ 1 + suc row * 13 ≤ length (now cells) ⌝ }
+    ensures { λ done. ⌜ now (cells .exit) ≡ replaced (recordCells r) row (now (cells .entry)) ⌝ }
+{
+    let row_cells = rows::record_cells(r);
+    shifter::replace_row(cells, row, &row_cells);
 }
 
 // Status 1 in row `row`, which is adjustable.

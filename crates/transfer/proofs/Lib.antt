@@ -1,2 +1,3 @@
 pub mod Negated
 pub mod BySide
+pub mod TwoRows

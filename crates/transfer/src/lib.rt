@@ -169,8 +169,9 @@ fn book(records: &mut [i64], positions: &mut [i64], id: i64, suffix: i64, from: 
     let old = positions::position_of(positions, from, series);
     let new = positions::position_of(positions, to, series);
     records::adjust_record(&mut *records, row);
-    records::insert_record(&mut *records, inverse_row(r, next));
-    records::insert_record(records, arrived_row(r, next + 1, to));
+    let place = records::open_rows(&mut *records, id, next, 2);
+    records::write_record(&mut *records, place, inverse_row(r, next));
+    records::write_record(records, place + 1, arrived_row(r, next + 1, to));
     positions::put_position(&mut *positions, taken_from(old, r));
     positions::put_position(positions, given_to(new, r));
     Reply::Booked { rows: 2, residual: 0 }

@@ -1,17 +1,16 @@
 -- What the booking of an accepted separation requires, step by step, and what it comes to. Assumes nothing.
 use Prim.Native.Nat.{_+_, _≤_}
-use native.Mathlib.Omega.{arith}
 use mathlib.Core.Path.{_≡_, sym, _∙_, ap, subst}
 use mathlib.Core.Bool.{true, false}
 use mathlib.Core.List.{List, [], _∷_, map}
 use mathlib.Core.Option.{Option, none, some}
 use lib.IntN.{ℤ, pos, _+ℤ_}
 use lib.ListN.{length}
-use lib.Signed.{ltZ, _≤ℤ_, _<ℤ_}
+use lib.Signed.{ltZ, _≤ℤ_}
 use Rattle.integers.proofs.Linear.{zarith, +-lin}
 use Rattle.rules.specs.Figures.{adjustable, greatestOfSuffixes}
-use Rattle.rules.specs.Keyed.{find, isSome, upsert, upsertAll}
-use Rattle.rules.specs.Rows.{keyOf, recordKey, adjustedRecord, inverseRecord, soundRecord}
+use Rattle.rules.specs.Keyed.{find, isSome}
+use Rattle.rules.specs.Rows.{keyOf, recordKey, adjustedRecord, inverseRecord}
 use Rattle.rules.specs.NamedRecord.{theRecord, isNotAdjustable}
 use Rattle.rules.specs.Refusal.{anyOf}
 use Rattle.rules.specs.Request.{separate}
@@ -23,23 +22,21 @@ use Rattle.rules.specs.Tables.{booksOf, recordsLayout, soundRecords, soundPosit
 use Rattle.rules.specs.Handle.{planOf}
 use Rattle.rules.specs.declared.Record.{Record}
 use Rattle.rules.specs.declared.Reply.the-variants.{Booked}
-use Rattle.keys.proofs.Clauses.{isSome-none, allOf-tail}
+use Rattle.keys.proofs.Clauses.{isSome-none}
 use Rattle.keys.proofs.Split.{clash}
 use Rattle.cells.proofs.RowCells.{records-lawful}
-use Rattle.cells.proofs.SoundCells.{records-known}
 use Rattle.soundness.specs.SoundBooks.{Accepts}
 use Rattle.soundness.proofs.Accepted.{booking-passed}
-use Rattle.soundness.proofs.NamedRecord as Records
-use Rattle.soundness.proofs.NamedRecord.{nextOf, Named}
+use Rattle.soundness.proofs.NamedRecord.{nextOf}
 use Rattle.soundness.proofs.Separation.{SeparationPassed, separation-passed, separation-facts}
 use Rattle.verdict.specs.Verdict.{tablesOf, answered, verdictOn, acceptedOn}
 use Rattle.verdict.specs.declared.Verdict.the-variants.{Accepted}
 use Rattle.verdict.proofs.Acceptance.{sound-books, accepted-accepts}
-use Rattle.verdict.proofs.Puts.{putOne, putAll, put-one, put-next, put-more, rows-put}
-use Rattle.verdict.proofs.Ready.{Ready, ready, InsertReady, insert-ready, rows-left-room}
-use Rattle.verdict.proofs.SoundReads.{FoundRecord, found-record, next-range, status-adjustable}
-use Rattle.verdict.proofs.Suffixes.{above-parts, parts-count}
-use Rattle.verdict.proofs.Parts.{PartsReady, next-upsert}
+use Rattle.verdict.proofs.Puts.{putOne, putAll, put-one, put-more}
+use Rattle.verdict.proofs.NextSuffix.{adjusted-next}
+use Rattle.verdict.proofs.Ready.{Ready, ready, rows-left-room}
+use Rattle.verdict.proofs.SoundReads.{next-range, status-adjustable}
+use Rattle.verdict.proofs.Suffixes.{above-parts}
 use Rattle.verdict.proofs.Separation.{separationInverse, separationRows, separation-booked}
 
 -- ---- what is required
@@ -91,43 +88,13 @@ module _ (rs ps : List ℤ) (id suffix account series : ℤ) (parts : List ℤ)
       adjusted-put : rs₁ ≡ putAll recordsLayout recordKey rs (adjustedRecord r ∷ [])
       adjusted-put = e₁ ∙ put-one recordsLayout recordKey rs (adjustedRecord r)
 
-      pub separation-insert-inverse : soundRecords rs₁ ≡ true → InsertReady rs₁ (separationInverse r next)
-      separation-insert-inverse sound =
-          insert-ready rs ps (adjustedRecord r ∷ []) [] (partRecords r (next +ℤ pos 1) parts) (separationInverse r next) [] separation-ready records-sound rs₁ adjusted-put sound
+      -- Room for the inverse and the parts' rows, and no row of the id from the next suffix on.
+      pub separation-room : length (rowsOf recordsLayout rs₁) + length (separationInverse r next ∷ partRecords r (next +ℤ pos 1) parts) ≤ roomOf recordsLayout rs₁
+      separation-room =
+          rows-left-room rs ps (adjustedRecord r ∷ []) [] (separationInverse r next ∷ partRecords r (next +ℤ pos 1) parts) [] separation-ready records-sound rs₁ adjusted-put
 
-      module _ (rs₂ : List ℤ) (e₂ : rs₂ ≡ putOne recordsLayout recordKey rs₁ (separationInverse r next)) where
-
-        inverse-put : rs₂ ≡ putAll recordsLayout recordKey rs (adjustedRecord r ∷ separationInverse r next ∷ [])
-        inverse-put = put-next recordsLayout recordKey records-lawful rs rs₁ (adjustedRecord r ∷ []) adjusted-put rs₂ (separationInverse r next) e₂
-
-        -- The id's next suffix is then one above the inverse row's.
-        next-after : nextOf (rowsOf recordsLayout rs₂) (r .id) ≤ℤ (next +ℤ pos 1)
-        unfolding upsertAll adjustedRecord inverseRecord theRecord
-        next-after =
-            let t : List Record = rowsOf recordsLayout rs in
-            let f : FoundRecord id suffix r = found-record rs records-sound id suffix r named in
-            let rows₂ : rowsOf recordsLayout rs₂ ≡ upsert recordKey (separationInverse r next) (upsert recordKey (adjustedRecord r) t) =
-                  ap (rowsOf recordsLayout) inverse-put ∙ rows-put recordsLayout recordKey records-lawful rs (adjustedRecord r ∷ separationInverse r next ∷ []) in
-            let low : pos 0 ≤ℤ next = separation-next .0 in
-            let same : nextOf t (r .id) ≡ next = ap (nextOf t) (f .id-is) in
-            let n : Named t (keyOf id suffix) = Records.named t (keyOf id suffix) (records-known rs records-sound .rows-sound) (has-passed .record-found) (has-passed .record-adjustable) in
-            let above : r .suffix <ℤ next = subst (λ (o : Option Record). theRecord o .suffix <ℤ next) named (n .next-above) in
-            let own : (r .suffix +ℤ pos 1) ≤ℤ (next +ℤ pos 1) = omega (zarith, +-lin (r .suffix) (pos 1), +-lin next (pos 1)) in
-            rw rows₂
-            (next-upsert (separationInverse r next) (upsert recordKey (adjustedRecord r) t) (r .id) (next +ℤ pos 1)
-            (next-upsert (adjustedRecord r) t (r .id) (next +ℤ pos 1) (omega (zarith, +-lin next (pos 1))) own (omega (zarith, +-lin next (pos 1))))
-            (omega zarith) (omega (zarith, +-lin next (pos 1))))
-
-        pub separation-insert-parts : soundRecords rs₂ ≡ true → PartsReady rs₂ r (next +ℤ pos 1) parts
-        separation-insert-parts sound =
-            let low : pos 0 ≤ℤ next = separation-next .0 in
-            let room : length (rowsOf recordsLayout rs₂) + length (partRecords r (next +ℤ pos 1) parts) ≤ roomOf recordsLayout rs₂ =
-                  rows-left-room rs ps (adjustedRecord r ∷ []) (separationInverse r next ∷ []) (partRecords r (next +ℤ pos 1) parts) [] separation-ready records-sound rs₂ inverse-put in
-            (sound,
-            allOf-tail (soundRecord (separationInverse r next)) (map soundRecord (partRecords r (next +ℤ pos 1) parts)) (separation-ready .added-sound),
-            omega (arith, parts-count r (next +ℤ pos 1) parts),
-            next-after,
-            omega (zarith, +-lin next (pos 1)))
+      pub separation-free : nextOf (rowsOf recordsLayout rs₁) id ≤ℤ next
+      separation-free = adjusted-next rs records-sound id suffix r named rs₁ e₁
 
 -- ---- what it comes to
 
@@ -137,16 +104,13 @@ module _ (rs ps : List ℤ) (id suffix account series : ℤ) (parts : List ℤ) 
   abbrev first : ℤ
   first = nextOf (rowsOf recordsLayout rs) id
 
-  pub separation-returns : (rs₁ rs₂ rs₃ : List ℤ)
+  pub separation-returns : (rs₁ rs₂ : List ℤ)
     → rs₁ ≡ putOne recordsLayout recordKey rs (adjustedRecord r)
-    → rs₂ ≡ putOne recordsLayout recordKey rs₁ (separationInverse r first)
-    → rs₃ ≡ putAll recordsLayout recordKey rs₂ (partRecords r (first +ℤ pos 1) parts)
-    → answered (Booked (pos (length parts) +ℤ pos 1) (pos 0)) rs₃ ps ≡ acceptedOn rs ps (separate id suffix account series parts)
-  separation-returns rs₁ rs₂ rs₃ e₁ e₂ e₃ =
+    → rs₂ ≡ putAll recordsLayout recordKey rs₁ (separationInverse r first ∷ partRecords r (first +ℤ pos 1) parts)
+    → answered (Booked (pos (length parts) +ℤ pos 1) (pos 0)) rs₂ ps ≡ acceptedOn rs ps (separate id suffix account series parts)
+  separation-returns rs₁ rs₂ e₁ e₂ =
       let adjusted : rs₁ ≡ putAll recordsLayout recordKey rs (adjustedRecord r ∷ []) = e₁ ∙ put-one recordsLayout recordKey rs (adjustedRecord r) in
-      let inverted : rs₂ ≡ putAll recordsLayout recordKey rs (adjustedRecord r ∷ separationInverse r first ∷ []) =
-            put-next recordsLayout recordKey records-lawful rs rs₁ (adjustedRecord r ∷ []) adjusted rs₂ (separationInverse r first) e₂ in
-      let whole : rs₃ ≡ putAll recordsLayout recordKey rs (separationRows r first parts) =
-            put-more recordsLayout recordKey records-lawful rs rs₂ (adjustedRecord r ∷ separationInverse r first ∷ []) inverted rs₃ (partRecords r (first +ℤ pos 1) parts) e₃ in
+      let whole : rs₂ ≡ putAll recordsLayout recordKey rs (separationRows r first parts) =
+            put-more recordsLayout recordKey records-lawful rs rs₁ (adjustedRecord r ∷ []) adjusted rs₂ (separationInverse r first ∷ partRecords r (first +ℤ pos 1) parts) e₂ in
       ap (λ (c : List ℤ). answered (Booked (pos (length parts) +ℤ pos 1) (pos 0)) c ps) whole
       ∙ sym (separation-booked rs ps id suffix account series parts positions-sound r named)

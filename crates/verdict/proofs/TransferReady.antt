@@ -1,9 +1,11 @@
 -- What the booking of an accepted transfer requires, step by step, and what it comes to. Assumes nothing.
+use Prim.Native.Nat.{_+_, _≤_}
 use mathlib.Core.Path.{_≡_, sym, _∙_, ap, subst}
 use mathlib.Core.Bool.{true, false}
 use mathlib.Core.List.{List, [], _∷_}
 use mathlib.Core.Option.{Option, none, some}
 use lib.IntN.{ℤ, pos, _+ℤ_}
+use lib.ListN.{length}
 use lib.Signed.{_≤ℤ_}
 use Rattle.rules.specs.Figures.{adjustable, greatestOfSuffixes}
 use Rattle.rules.specs.Keyed.{find, isSome}
@@ -12,7 +14,7 @@ use Rattle.rules.specs.NamedRecord.{theRecord, isNotAdjustable}
 use Rattle.rules.specs.Request.{transfer}
 use Rattle.rules.specs.Books.{viewOf}
 use Rattle.rules.specs.Transfer.{transferPlan}
-use Rattle.rules.specs.Layout.{rowsOf}
+use Rattle.rules.specs.Layout.{roomOf, rowsOf}
 use Rattle.rules.specs.Tables.{booksOf, recordsLayout, positionsLayout, soundRecords, soundPositions}
 use Rattle.rules.specs.Handle.{planOf}
 use Rattle.rules.specs.declared.Record.{Record}
@@ -29,8 +31,9 @@ use Rattle.soundness.proofs.Transfer.{TransferPassed, transfer-passed, transfer
 use Rattle.verdict.specs.Verdict.{tablesOf, answered, verdictOn, acceptedOn}
 use Rattle.verdict.specs.declared.Verdict.the-variants.{Accepted}
 use Rattle.verdict.proofs.Acceptance.{sound-books, accepted-accepts}
-use Rattle.verdict.proofs.Puts.{putOne, putAll, put-one, put-none, put-next}
-use Rattle.verdict.proofs.Ready.{Ready, ready, InsertReady, insert-ready, PutReady, put-ready}
+use Rattle.verdict.proofs.Puts.{putOne, putAll, put-one, put-none, put-next, put-more}
+use Rattle.verdict.proofs.NextSuffix.{adjusted-next}
+use Rattle.verdict.proofs.Ready.{Ready, ready, rows-left-room, PutReady, put-ready}
 use Rattle.verdict.proofs.SoundReads.{next-range, status-adjustable}
 use Rattle.verdict.proofs.Transfer.{transferInverse, transferArrived, transferRows, transferOld, transferNew, transfer-booked}
 
@@ -82,18 +85,13 @@ module _ (rs ps : List ℤ) (id suffix from to series : ℤ)
       adjusted-put : rs₁ ≡ putAll recordsLayout recordKey rs (adjustedRecord r ∷ [])
       adjusted-put = e₁ ∙ put-one recordsLayout recordKey rs (adjustedRecord r)
 
-      pub transfer-insert-inverse : soundRecords rs₁ ≡ true → InsertReady rs₁ (transferInverse r next)
-      transfer-insert-inverse sound =
-          insert-ready rs ps (adjustedRecord r ∷ []) [] (transferArrived r next to ∷ []) (transferInverse r next) _ transfer-ready records-sound rs₁ adjusted-put sound
+      -- Room for the inverse and the row that arrives, and no row of the id from the next suffix on.
+      pub transfer-room : length (rowsOf recordsLayout rs₁) + 2 ≤ roomOf recordsLayout rs₁
+      transfer-room =
+          rows-left-room rs ps (adjustedRecord r ∷ []) [] (transferInverse r next ∷ transferArrived r next to ∷ []) _ transfer-ready records-sound rs₁ adjusted-put
 
-      module _ (rs₂ : List ℤ) (e₂ : rs₂ ≡ putOne recordsLayout recordKey rs₁ (transferInverse r next)) where
-
-        inverse-put : rs₂ ≡ putAll recordsLayout recordKey rs (adjustedRecord r ∷ transferInverse r next ∷ [])
-        inverse-put = put-next recordsLayout recordKey records-lawful rs rs₁ (adjustedRecord r ∷ []) adjusted-put rs₂ (transferInverse r next) e₂
-
-        pub transfer-insert-arrived : soundRecords rs₂ ≡ true → InsertReady rs₂ (transferArrived r next to)
-        transfer-insert-arrived sound =
-            insert-ready rs ps (adjustedRecord r ∷ []) (transferInverse r next ∷ []) [] (transferArrived r next to) _ transfer-ready records-sound rs₂ inverse-put sound
+      pub transfer-free : nextOf (rowsOf recordsLayout rs₁) id ≤ℤ next
+      transfer-free = adjusted-next rs records-sound id suffix r named rs₁ e₁
 
     pub transfer-put-old : PutReady ps (transferOld ps r from series)
     transfer-put-old =
@@ -113,19 +111,16 @@ module _ (rs ps : List ℤ) (id suffix from to series : ℤ) (r : Record) (named
   abbrev after : ℤ
   after = nextOf (rowsOf recordsLayout rs) id
 
-  pub transfer-returns : (rs₁ rs₂ rs₃ ps₁ ps₂ : List ℤ)
+  pub transfer-returns : (rs₁ rs₂ ps₁ ps₂ : List ℤ)
     → rs₁ ≡ putOne recordsLayout recordKey rs (adjustedRecord r)
-    → rs₂ ≡ putOne recordsLayout recordKey rs₁ (transferInverse r after)
-    → rs₃ ≡ putOne recordsLayout recordKey rs₂ (transferArrived r after to)
+    → rs₂ ≡ putAll recordsLayout recordKey rs₁ (transferInverse r after ∷ transferArrived r after to ∷ [])
     → ps₁ ≡ putOne positionsLayout positionKey ps (transferOld ps r from series)
     → ps₂ ≡ putOne positionsLayout positionKey ps₁ (transferNew ps r to series)
-    → answered (Booked (pos 2) (pos 0)) rs₃ ps₂ ≡ acceptedOn rs ps (transfer id suffix from to series)
-  transfer-returns rs₁ rs₂ rs₃ ps₁ ps₂ e₁ e₂ e₃ f₁ f₂ =
+    → answered (Booked (pos 2) (pos 0)) rs₂ ps₂ ≡ acceptedOn rs ps (transfer id suffix from to series)
+  transfer-returns rs₁ rs₂ ps₁ ps₂ e₁ e₂ f₁ f₂ =
       let adjusted : rs₁ ≡ putAll recordsLayout recordKey rs (adjustedRecord r ∷ []) = e₁ ∙ put-one recordsLayout recordKey rs (adjustedRecord r) in
-      let inverted : rs₂ ≡ putAll recordsLayout recordKey rs (adjustedRecord r ∷ transferInverse r after ∷ []) =
-            put-next recordsLayout recordKey records-lawful rs rs₁ (adjustedRecord r ∷ []) adjusted rs₂ (transferInverse r after) e₂ in
-      let arrived : rs₃ ≡ putAll recordsLayout recordKey rs (transferRows r after to) =
-            put-next recordsLayout recordKey records-lawful rs rs₂ (adjustedRecord r ∷ transferInverse r after ∷ []) inverted rs₃ (transferArrived r after to) e₃ in
+      let arrived : rs₂ ≡ putAll recordsLayout recordKey rs (transferRows r after to) =
+            put-more recordsLayout recordKey records-lawful rs rs₁ (adjustedRecord r ∷ []) adjusted rs₂ (transferInverse r after ∷ transferArrived r after to ∷ []) e₂ in
       let moved : ps₂ ≡ putAll positionsLayout positionKey ps (transferOld ps r from series ∷ transferNew ps r to series ∷ []) =
             put-next positionsLayout positionKey positions-lawful ps ps₁ (transferOld ps r from series ∷ []) (f₁ ∙ put-one positionsLayout positionKey ps (transferOld ps r from series))
             ps₂ (transferNew ps r to series) f₂ in

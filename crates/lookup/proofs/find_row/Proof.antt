@@ -1,117 +1,116 @@
--- `lookup::find_row` meets its contract. The loop's invariant: the answer on the rows that are left is the answer on the whole table.
--- The measure is the number of rows left. Assumes nothing.
-use Prim.Native.Nat.{_+_, _-_, _*_, _≤_, _<_}
+-- `lookup::find_row` meets its contract: the row before the place is the row with the key, or there is none. Assumes nothing.
+use Prim.Native.Nat.{ℕ, suc, _+_, _-_, _*_, _<_}
 use mathlib.Core.Path.{_≡_, sym, _∙_}
 use native.Mathlib.Omega.{arith}
-use borrow.Author.Needs.{sfits-of}
+use borrow.Author.Needs.{needs, sfits-of}
 use lib.IntN.{pos}
 use lib.ListN.{length, getD}
 use mir.Facts.{toZ-ofZ}
 use mir.Syntax.{w64}
-use mir.Val.{SFits, toZ}
-use Rattle.rules.specs.Keyed.{same}
+use mir.Val.{SFits}
+use Rattle.rules.specs.Keyed.{Key, same}
 use Rattle.rules.specs.Rows.{keyOf}
-use Rattle.rules.specs.Layout.{decode}
-use Rattle.lookup.specs.Lookup.{keyAt, foundFrom, rowFound}
-use Rattle.lookup.proofs.Rest.{row-within, found-none, found-here, found-there}
+use Rattle.lookup.specs.Lookup.{keyAt, rowPlace}
+use Rattle.lookup.proofs.Halving.{row-within, place-at-most}
+use Rattle.lookup.proofs.RowBefore.{found-before, absent-before, absent-first}
 use Rattle.lookup.proofs.find_row.Statement.{statement}
 use Rattle.lookup.proofs.find_row.Tie as tie
 
-abbrev Inv-loop : tie.InvT-loop
-Inv-loop cells count width major minor row₀ at₀ row at =
-    (row ≤ count) × (at ≡ 1 + row * width)
-    × (foundFrom row (keyOf (toZ w64 major) (toZ w64 minor)) (decode keyAt width (count - row) at cells)
-      ≡ rowFound width (keyOf (toZ w64 major) (toZ w64 minor)) count cells)
+abbrev sought : tie.Start → Key
+sought s = keyOf (s .args .major) (s .args .minor)
 
-abbrev μ-loop : tie.MeasureT-loop
-μ-loop cells count width major minor row₀ at₀ row at = count - row
+placed : (c : tie.After-place-of) → c .place-of .result ≡ rowPlace (c .before .args .width) (sought (c .before)) (c .before .args .count) (c .before .args .cells .now)
+placed c = simp (toZ-ofZ (c .before .fits .major), toZ-ofZ (c .before .fits .minor)) at (c .place-of .ensures)
 
-within : (c : tie.In-loop Inv-loop μ-loop)
-  → (c .before .loop .at + 1 < length (c .before .before .args .cells .now))
-    × (c .before .loop .at + c .before .before .args .width ≤ length (c .before .before .args .cells .now))
-within c = row-within _ _ _ _ _ (c .loop-test .taken) (c .before .before .pre .0) (c .before .before .pre .1) (c .before .loop .inv .1)
+-- The row before the place.
+module _ (c : tie.Else1) where
+  abbrev start : tie.Start
+  start = c .before .before
 
-loop-holds : tie.Need-loop-holds Inv-loop μ-loop
-loop-holds c =
-    let e : c .args .count - 0 ≡ c .args .count = omega arith in
-    (omega arith, omega arith, rw e)
+  abbrev row : ℕ
+  row = c .before .place-of .result - 1
 
-mul-key-same : tie.Need-mul-key-same Inv-loop μ-loop
+  row-before : rowPlace (start .args .width) (sought start) (start .args .count) (start .args .cells .now) ≡ suc row
+  row-before = omega (arith, placed (c .before))
+
+  one-of : row < start .args .count
+  one-of = omega (arith, row-before, place-at-most (start .args .cells .now) (start .args .width) (start .args .count) (sought start))
+
+  within : 1 + row * start .args .width + 1 < length (start .args .cells .now)
+  within = row-within row (start .args .count) (start .args .width) (length (start .args .cells .now)) one-of (start .pre .0) (start .pre .1)
+
+place-of-requires : tie.Need-place-of-requires
+place-of-requires c κs = search needs
+
+returns : tie.Need-returns
+returns c =
+    let s : tie.Start = c .before .before in
+    sym (absent-first (s .args .cells .now) (s .args .width) (s .args .count) (s .pre .2) (sought s) (sym (placed (c .before)) ∙ c .if1 .taken))
+
+sub-row : tie.Need-sub-row
+sub-row c = search needs
+
+mul-at : tie.Need-mul-at
+mul-at c = omega (arith, within c)
+
+add-at : tie.Need-add-at
+add-at c = omega (arith, within c)
+
+mul-key-same : tie.Need-mul-key-same
 mul-key-same c = omega (arith, within c)
 
-shared-slice-copy-out-key-same : tie.Need-shared-slice-copy-out-key-same Inv-loop μ-loop
+shared-slice-copy-out-key-same : tie.Need-shared-slice-copy-out-key-same
 shared-slice-copy-out-key-same c = omega (arith, within c)
 
-add-key-same : tie.Need-add-key-same Inv-loop μ-loop
+add-key-same : tie.Need-add-key-same
 add-key-same c = omega (arith, within (c .before))
 
-mul-key-same-2 : tie.Need-mul-key-same-2 Inv-loop μ-loop
+mul-key-same-2 : tie.Need-mul-key-same-2
 mul-key-same-2 c = omega (arith, within (c .before))
 
-shared-slice-copy-out-key-same-2 : tie.Need-shared-slice-copy-out-key-same-2 Inv-loop μ-loop
+shared-slice-copy-out-key-same-2 : tie.Need-shared-slice-copy-out-key-same-2
 shared-slice-copy-out-key-same-2 c = omega (arith, within (c .before))
 
-key-same-requires : tie.Need-key-same-requires Inv-loop μ-loop
-key-same-requires c κs = tt
+key-same-requires : tie.Need-key-same-requires
+key-same-requires c κs = search needs
 
--- The invariant over the key's figures, and the test of the row's key over its cells.
-whole : (c : tie.At-loop Inv-loop μ-loop)
-  → foundFrom (c .loop .row) (keyOf (c .before .args .major) (c .before .args .minor))
-      (decode keyAt (c .before .args .width) (c .before .args .count - c .loop .row) (c .loop .at) (c .before .args .cells .now))
-    ≡ rowFound (c .before .args .width) (keyOf (c .before .args .major) (c .before .args .minor)) (c .before .args .count) (c .before .args .cells .now)
-whole c = simp (toZ-ofZ (c .before .fits .major), toZ-ofZ (c .before .fits .minor)) at (c .loop .inv .2)
+-- The test of its key, over its cells.
+module _ (c : tie.After-key-same) where
+  abbrev there : tie.Else1
+  there = c .before .before .before
 
-tested : (c : tie.After-key-same Inv-loop μ-loop)
-  → c .key-same .result
-    ≡ same (keyAt (c .before .before .before .before .before .args .cells .now) (c .before .before .before .before .loop .at))
-      (keyOf (c .before .before .before .before .before .args .major) (c .before .before .before .before .before .args .minor))
-tested c =
-    let s : tie.Start Inv-loop μ-loop = c .before .before .before .before .before in
-    let f : SFits w64 (getD (s .args .cells .now) (c .before .before .before .before .loop .at) (pos 0)) = sfits-of (c .before .before .key-same-arg .given) in
-    let g : SFits w64 (getD (s .args .cells .now) (c .before .before .before .before .loop .at + 1) (pos 0)) = sfits-of (c .before .key-same-arg2 .given) in
-    simp (toZ-ofZ f, toZ-ofZ g, toZ-ofZ (s .fits .major), toZ-ofZ (s .fits .minor)) at (c .key-same .ensures)
+  tested : c .key-same .result ≡ same (keyAt (start there .args .cells .now) (1 + row there * start there .args .width)) (sought (start there))
+  tested =
+      let f : SFits w64 (getD (start there .args .cells .now) (1 + row there * start there .args .width) (pos 0)) = sfits-of (c .before .before .key-same-arg .given) in
+      let g : SFits w64 (getD (start there .args .cells .now) (1 + row there * start there .args .width + 1) (pos 0)) = sfits-of (c .before .key-same-arg2 .given) in
+      simp (toZ-ofZ f, toZ-ofZ g, toZ-ofZ (start there .fits .major), toZ-ofZ (start there .fits .minor)) at (c .key-same .ensures)
 
-returns : tie.Need-returns Inv-loop μ-loop
-returns c =
-    let l : tie.At-loop Inv-loop μ-loop = c .before .before .before .before .before in
-    sym (found-here _ _ _ _ _ _ (c .before .before .before .before .loop-test .taken) (sym (tested (c .before)) ∙ c .if1 .taken)) ∙ whole l
+returns-2 : tie.Need-returns-2
+returns-2 c =
+    let e : tie.Else1 = there (c .before) in
+    let s : tie.Start = start e in
+    sym (found-before (s .args .cells .now) (s .args .width) (s .args .count) (s .pre .2) (sought s) (row e) (row-before e) (sym (tested (c .before)) ∙ c .if2 .taken))
 
-add-row : tie.Need-add-row Inv-loop μ-loop
-add-row c = omega arith
-
-add-at : tie.Need-add-at Inv-loop μ-loop
-add-at c = omega (arith, within (c .before .before .before .before))
-
-loop-less : tie.Need-loop-less Inv-loop μ-loop
-loop-less c = omega arith
-
-loop-again : tie.Need-loop-again Inv-loop μ-loop
-loop-again c =
-    let l : tie.At-loop Inv-loop μ-loop = c .before .before .before .before .before in
-    (omega arith,
-      omega arith,
-      simp (toZ-ofZ (l .before .fits .major), toZ-ofZ (l .before .fits .minor))
-      (sym (found-there _ _ _ _ _ _ (c .before .before .before .before .loop-test .taken) (sym (tested (c .before)) ∙ c .if1 .left)) ∙ whole l))
-
-returns-2 : tie.Need-returns-2 Inv-loop μ-loop
-returns-2 c = sym (found-none _ _ _ _ _ _ (c .loop-test .left)) ∙ whole (c .before)
+returns-3 : tie.Need-returns-3
+returns-3 c =
+    let e : tie.Else1 = there (c .before) in
+    let s : tie.Start = start e in
+    sym (absent-before (s .args .cells .now) (s .args .width) (s .args .count) (s .pre .2) (sought s) (row e) (row-before e) (sym (tested (c .before)) ∙ c .if2 .left))
 
 pub find-row-spec : {M : Type 1} → statement M
 find-row-spec =
     tie.close
     (tie.spec
-    Inv-loop
-    μ-loop
-    loop-holds
+    place-of-requires
+    returns
+    sub-row
+    mul-at
+    add-at
     mul-key-same
     shared-slice-copy-out-key-same
     add-key-same
     mul-key-same-2
     shared-slice-copy-out-key-same-2
     key-same-requires
-    returns
-    add-row
-    add-at
-    loop-less
-    loop-again
-    returns-2)
+    returns-2
+    returns-3)

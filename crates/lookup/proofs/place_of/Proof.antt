@@ -1,40 +1,51 @@
--- `lookup::place_of` meets its contract. The loop's invariant: the place among the rows that are left, counted from the first, is the place in the whole table.
--- The measure is the number of rows left. Assumes nothing.
+-- `lookup::place_of` meets its contract. The loop's invariant: the place is at `place` or after it. The measure is how many rows are left. Assumes nothing.
 use Prim.Native.Nat.{_+_, _-_, _*_, _≤_, _<_}
 use mathlib.Core.Path.{_≡_, sym, _∙_}
 use native.Mathlib.Omega.{arith}
-use borrow.Author.Needs.{sfits-of}
+use borrow.Author.Needs.{needs, sfits-of}
 use lib.IntN.{pos}
 use lib.ListN.{length, getD}
 use mir.Facts.{toZ-ofZ}
 use mir.Syntax.{w64}
-use mir.Val.{SFits, toZ}
-use Rattle.rules.specs.Keyed.{below}
+use mir.Val.{SFits, toZ, ofZ}
+use Rattle.rules.specs.Keyed.{Key, below}
 use Rattle.rules.specs.Rows.{keyOf}
-use Rattle.rules.specs.Layout.{decode}
-use Rattle.lookup.specs.Lookup.{keyAt, placeFrom, rowPlace}
-use Rattle.lookup.proofs.Rest.{row-within, place-none, place-here, place-there}
+use Rattle.lookup.specs.Lookup.{keyAt, rowPlace}
+use Rattle.lookup.proofs.Halving.{row-within, place-at-most, place-to, place-past}
 use Rattle.lookup.proofs.place_of.Statement.{statement}
 use Rattle.lookup.proofs.place_of.Tie as tie
 
 abbrev Inv-loop : tie.InvT-loop
-Inv-loop cells count width major minor place₀ at₀ place at =
-    (place ≤ count) × (at ≡ 1 + place * width)
-    × (placeFrom place (keyOf (toZ w64 major) (toZ w64 minor)) (decode keyAt width (count - place) at cells)
-      ≡ rowPlace width (keyOf (toZ w64 major) (toZ w64 minor)) count cells)
+Inv-loop cells count width major minor place₀ place = place ≤ rowPlace width (keyOf (toZ w64 major) (toZ w64 minor)) count cells
 
 abbrev μ-loop : tie.MeasureT-loop
-μ-loop cells count width major minor place₀ at₀ place at = count - place
+μ-loop cells count width major minor place₀ place = count - place
 
-within : (c : tie.In-loop Inv-loop μ-loop)
-  → (c .before .loop .at + 1 < length (c .before .before .args .cells .now))
-    × (c .before .loop .at + c .before .before .args .width ≤ length (c .before .before .args .cells .now))
-within c = row-within _ _ _ _ _ (c .loop-test .taken) (c .before .before .pre .0) (c .before .before .pre .1) (c .before .loop .inv .1)
+-- The key sought, read from its bits.
+abbrev sought : tie.Start Inv-loop μ-loop → Key
+sought s = keyOf (toZ w64 (ofZ w64 (s .args .major))) (toZ w64 (ofZ w64 (s .args .minor)))
+
+module _ (c : tie.In-loop Inv-loop μ-loop) where
+  abbrev start : tie.Start Inv-loop μ-loop
+  start = c .before .before .before
+
+  one-of : c .before .loop .place < start .args .count
+  one-of = omega arith
+
+  within : 1 + c .before .loop .place * start .args .width + 1 < length (start .args .cells .now)
+  within = row-within (c .before .loop .place) (start .args .count) (start .args .width) (length (start .args .cells .now)) one-of (start .pre .0) (start .pre .1)
+
+row-near-requires : tie.Need-row-near-requires Inv-loop μ-loop
+row-near-requires c κs = search needs
 
 loop-holds : tie.Need-loop-holds Inv-loop μ-loop
-loop-holds c =
-    let e : c .args .count - 0 ≡ c .args .count = omega arith in
-    (omega arith, omega arith, rw e)
+loop-holds c = c .row-near .ensures
+
+mul-at : tie.Need-mul-at Inv-loop μ-loop
+mul-at c = omega (arith, within c)
+
+add-at : tie.Need-add-at Inv-loop μ-loop
+add-at c = omega (arith, within c)
 
 mul-key-below : tie.Need-mul-key-below Inv-loop μ-loop
 mul-key-below c = omega (arith, within c)
@@ -54,47 +65,47 @@ shared-slice-copy-out-key-below-2 c = omega (arith, within (c .before))
 key-below-requires : tie.Need-key-below-requires Inv-loop μ-loop
 key-below-requires c κs = tt
 
--- The invariant over the key's figures, and the test of the row's key over its cells.
-whole : (c : tie.At-loop Inv-loop μ-loop)
-  → placeFrom (c .loop .place) (keyOf (c .before .args .major) (c .before .args .minor))
-      (decode keyAt (c .before .args .width) (c .before .args .count - c .loop .place) (c .loop .at) (c .before .args .cells .now))
-    ≡ rowPlace (c .before .args .width) (keyOf (c .before .args .major) (c .before .args .minor)) (c .before .args .count) (c .before .args .cells .now)
-whole c = simp (toZ-ofZ (c .before .fits .major), toZ-ofZ (c .before .fits .minor)) at (c .loop .inv .2)
+-- The test of the row's key, over its cells.
+module _ (c : tie.After-key-below Inv-loop μ-loop) where
+  abbrev inside : tie.In-loop Inv-loop μ-loop
+  inside = c .before .before .before
 
-tested : (c : tie.After-key-below Inv-loop μ-loop)
-  → c .key-below .result
-    ≡ below (keyOf (c .before .before .before .before .before .args .major) (c .before .before .before .before .before .args .minor))
-      (keyAt (c .before .before .before .before .before .args .cells .now) (c .before .before .before .before .loop .at))
-tested c =
-    let s : tie.Start Inv-loop μ-loop = c .before .before .before .before .before in
-    let f : SFits w64 (getD (s .args .cells .now) (c .before .before .before .before .loop .at) (pos 0)) = sfits-of (c .before .before .key-below-arg .given) in
-    let g : SFits w64 (getD (s .args .cells .now) (c .before .before .before .before .loop .at + 1) (pos 0)) = sfits-of (c .before .key-below-arg2 .given) in
-    simp (toZ-ofZ f, toZ-ofZ g, toZ-ofZ (s .fits .major), toZ-ofZ (s .fits .minor)) at (c .key-below .ensures)
+  tested : c .key-below .result ≡ below (sought (start inside)) (keyAt (start inside .args .cells .now) (1 + inside .before .loop .place * start inside .args .width))
+  tested =
+      let f : SFits w64 (getD (start inside .args .cells .now) (1 + inside .before .loop .place * start inside .args .width) (pos 0)) = sfits-of (c .before .before .key-below-arg .given) in
+      let g : SFits w64 (getD (start inside .args .cells .now) (1 + inside .before .loop .place * start inside .args .width + 1) (pos 0)) = sfits-of (c .before .key-below-arg2 .given) in
+      rw (toZ-ofZ f, toZ-ofZ g) at (c .key-below .ensures)
 
 returns : tie.Need-returns Inv-loop μ-loop
 returns c =
-    let l : tie.At-loop Inv-loop μ-loop = c .before .before .before .before .before in
-    sym (place-here _ _ _ _ _ _ (c .before .before .before .before .loop-test .taken) (sym (tested (c .before)) ∙ c .if1 .taken)) ∙ whole l
+    let i : tie.In-loop Inv-loop μ-loop = inside (c .before) in
+    let s : tie.Start Inv-loop μ-loop = start i in
+    let placed : i .before .loop .place ≡ rowPlace (s .args .width) (sought s) (s .args .count) (s .args .cells .now) =
+          omega
+          (arith, i .before .loop .inv,
+          place-to (s .args .cells .now) (s .args .width) (s .args .count) (sought s) (i .before .loop .place) (one-of i) (sym (tested (c .before)) ∙ c .if1 .taken)) in
+    simp (toZ-ofZ (s .fits .major), toZ-ofZ (s .fits .minor)) at placed
 
 add-place : tie.Need-add-place Inv-loop μ-loop
-add-place c = omega arith
-
-add-at : tie.Need-add-at Inv-loop μ-loop
-add-at c = omega (arith, within (c .before .before .before .before))
+add-place c = omega (arith, one-of (inside (c .before)))
 
 loop-less : tie.Need-loop-less Inv-loop μ-loop
-loop-less c = omega arith
+loop-less c = omega (arith, one-of (inside (c .before)))
 
 loop-again : tie.Need-loop-again Inv-loop μ-loop
 loop-again c =
-    let l : tie.At-loop Inv-loop μ-loop = c .before .before .before .before .before in
-    (omega arith,
-      omega arith,
-      simp (toZ-ofZ (l .before .fits .major), toZ-ofZ (l .before .fits .minor))
-      (sym (place-there _ _ _ _ _ _ (c .before .before .before .before .loop-test .taken) (sym (tested (c .before)) ∙ c .if1 .left)) ∙ whole l))
+    let i : tie.In-loop Inv-loop μ-loop = inside (c .before) in
+    let s : tie.Start Inv-loop μ-loop = start i in
+    omega
+    (arith,
+    place-past (s .args .cells .now) (s .args .width) (s .args .count) (sought s) (i .before .loop .place) (one-of i) (s .pre .2) (sym (tested (c .before)) ∙ c .if1 .left))
 
 returns-2 : tie.Need-returns-2 Inv-loop μ-loop
-returns-2 c = sym (place-none _ _ _ _ _ _ (c .loop-test .left)) ∙ whole (c .before)
+returns-2 c =
+    let s : tie.Start Inv-loop μ-loop = c .before .before .before in
+    let placed : c .before .loop .place ≡ rowPlace (s .args .width) (sought s) (s .args .count) (s .args .cells .now) =
+          omega (arith, c .before .loop .inv, place-at-most (s .args .cells .now) (s .args .width) (s .args .count) (sought s)) in
+    simp (toZ-ofZ (s .fits .major), toZ-ofZ (s .fits .minor)) at placed
 
 pub place-of-spec : {M : Type 1} → statement M
 place-of-spec =
@@ -102,7 +113,10 @@ place-of-spec =
     (tie.spec
     Inv-loop
     μ-loop
+    row-near-requires
     loop-holds
+    mul-at
+    add-at
     mul-key-below
     shared-slice-copy-out-key-below
     add-key-below
@@ -111,7 +125,6 @@ place-of-spec =
     key-below-requires
     returns
     add-place
-    add-at
     loop-less
     loop-again
     returns-2)

@@ -3,7 +3,7 @@
 use Prim.Native.Nat.{_+_, _*_, _≤_, _<_}
 use native.Mathlib.Omega.{arith}
 use mathlib.Core.Path.{_≡_, sym, ap, subst, _∙_}
-use mathlib.Core.List.{List}
+use mathlib.Core.List.{List, _∷_}
 use mathlib.Core.Option.{some}
 use lib.IntN.{ℤ, pos, _+ℤ_}
 use lib.ListN.{length}
@@ -17,19 +17,22 @@ use Rattle.rules.specs.Figures.{greatestOfSuffixes}
 use Rattle.rules.specs.Keyed.{find}
 use Rattle.rules.specs.Rows.{keyOf, recordKey, adjustedRecord}
 use Rattle.rules.specs.Separation.{partRecords}
-use Rattle.rules.specs.Layout.{rowsOf}
-use Rattle.rules.specs.Tables.{recordAt, recordsLayout}
+use Rattle.rules.specs.Layout.{roomOf, rowsOf}
+use Rattle.rules.specs.Tables.{recordAt, recordCells, recordsLayout}
 use Rattle.rules.specs.declared.Record.{Record}
 use Rattle.rules.specs.declared.Reply.the-variants.{Booked}
-use Rattle.lookup.specs.Lookup.{recordFound}
+use Rattle.lookup.specs.Lookup.{rowPlace, recordFound}
 use Rattle.lookup.proofs.TableLookup.{record-found, record-absent}
+use Rattle.shifter.specs.Insertion.{replaced}
 use Rattle.soundness.proofs.NamedRecord.{nextOf}
 use Rattle.verdict.specs.Verdict.{answered}
 use Rattle.verdict.proofs.Puts.{putOne, putAll}
 use Rattle.verdict.proofs.SoundReads.{found-record}
-use Rattle.verdict.proofs.Parts.{PartsReady}
 use Rattle.verdict.proofs.Separation.{separationInverse}
-use Rattle.verdict.proofs.SeparationReady.{separation-found, separation-next, separation-status, separation-insert-inverse, separation-insert-parts, separation-returns}
+use Rattle.verdict.proofs.Suffixes.{parts-count}
+use Rattle.verdict.proofs.SeparationReady.{separation-found, separation-next, separation-status, separation-room, separation-free, separation-returns}
+use Rattle.separation.proofs.PartsWritten.{written}
+use Rattle.separation.proofs.GapWritten.{cells-there, gap-written}
 use Rattle.separation.proofs.book.Statement.{statement}
 use Rattle.separation.proofs.book.Tie as tie
 
@@ -148,70 +151,118 @@ adjust-record-requires c κs =
     separation-status (rs t) (t .args .positions .now) (t .args .id) (t .args .suffix) (t .args .account) (t .args .series) (parts t) (t .pre .0) (t .pre .1) (t .pre .2)
     (found-at p) (there p .1))
 
--- ---- its inverse
+-- ---- the gap
 
-module _ (c : tie.After-inverse-record) where
+module _ (c : tie.After-open-rows) where
   abbrev adjusting : tie.After-adjust-record
   adjusting = c .before .before .before
 
   abbrev read2 : tie.After-read-record
   read2 = read1 adjusting
 
-  inverse-row : c .inverse-record .result ≡ separationInverse (r read2) (next (s read2))
-  inverse-row = simp (next-is (adjusting .before .before)) at (c .inverse-record .ensures)
+  abbrev rs₁ : List ℤ
+  rs₁ = adjusting .adjust-record .last .0
 
-inserted : (c : tie.After-insert-record)
-  → c .insert-record .last .0 ≡ putOne recordsLayout recordKey (adjusting (c .before) .adjust-record .last .0) (separationInverse (r (read2 (c .before))) (next (s (read2 (c .before)))))
-inserted c = rw (inverse-row (c .before)) at (c .insert-record .ensures .0)
+  place-is : c .open-rows .result ≡ rowPlace 13 (keyOf (s read2 .args .id) (next (s read2))) (length (rowsOf recordsLayout rs₁)) rs₁
+  place-is = simp (toZ-ofZ (s read2 .fits .id), next-is (adjusting .before .before)) at (c .open-rows .ensures .0)
+
+module _ (a : tie.After-adjust-record) where
+  free : nextOf (rowsOf recordsLayout (a .adjust-record .last .0)) (s (read1 a) .args .id) ≤ℤ next (s (read1 a))
+  free =
+      let t : tie.Start = s (read1 a) in
+      separation-free (rs t) (t .args .positions .now) (t .args .id) (t .args .suffix) (t .args .account) (t .args .series) (parts t) (t .pre .0) (t .pre .1) (t .pre .2)
+      (r (read1 a)) (named (read1 a)) (a .adjust-record .last .0) (adjusted a)
+
+  room : length (rowsOf recordsLayout (a .adjust-record .last .0)) + length (separationInverse (r (read1 a)) (next (s (read1 a))) ∷ partRecords (r (read1 a)) (next (s (read1 a)) +ℤ pos 1) (parts (s (read1 a))))
+    ≤ roomOf recordsLayout (a .adjust-record .last .0)
+  room =
+      let t : tie.Start = s (read1 a) in
+      separation-room (rs t) (t .args .positions .now) (t .args .id) (t .args .suffix) (t .args .account) (t .args .series) (parts t) (t .pre .0) (t .pre .1) (t .pre .2)
+      (r (read1 a)) (named (read1 a)) (a .adjust-record .last .0) (adjusted a)
+
+  own : r (read1 a) .id ≡ s (read1 a) .args .id
+  own = found-record (rs (s (read1 a))) (s (read1 a) .pre .0) (s (read1 a) .args .id) (s (read1 a) .args .suffix) (r (read1 a)) (named (read1 a)) .id-is
+
+there-are : (c : tie.After-open-rows)
+  → (c .open-rows .result ≤ length (rowsOf recordsLayout (rs₁ c)))
+    × (1 + (length (rowsOf recordsLayout (rs₁ c)) + (length (parts (s (read2 c))) + 1)) * 13 ≤ length (rs₁ c))
+    × (length (rowsOf recordsLayout (rs₁ c)) + (length (parts (s (read2 c))) + 1) ≤ 4096)
+there-are c =
+    cells-there (rs₁ c) (adjusting c .adjust-record .ensures .1) (s (read2 c) .args .id) (next (s (read2 c))) (r (read2 c)) (own (adjusting c)) (parts (s (read2 c)))
+    (free (adjusting c)) (room (adjusting c)) (c .open-rows .result) (place-is c)
+
+add-open-rows : tie.Need-add-open-rows
+add-open-rows c = omega (arith, few (s (read1 (c .before .before))))
+
+open-rows-requires : tie.Need-open-rows-requires
+open-rows-requires c κs =
+    let a : tie.After-adjust-record = c .before .before in
+    (a .adjust-record .ensures .1, omega (arith, room a, parts-count (r (read1 a)) (next (s (read1 a)) +ℤ pos 1) (parts (s (read1 a)))))
+
+-- ---- the inverse
+
+module _ (c : tie.After-inverse-record) where
+  abbrev opening : tie.After-open-rows
+  opening = c .before .before .before
+
+  inverse-row : c .inverse-record .result ≡ separationInverse (r (read2 opening)) (next (s (read2 opening)))
+  inverse-row = simp (next-is (adjusting opening .before .before)) at (c .inverse-record .ensures)
 
 inverse-record-requires : tie.Need-inverse-record-requires
 inverse-record-requires c κs =
-    let p : tie.After-read-record = read1 (c .before .before) in
+    let p : tie.After-read-record = read2 (c .before .before) in
     found-record (rs (s p)) (s p .pre .0) (s p .args .id) (s p .args .suffix) (r p) (named p) .quantity-small
 
-insert-record-requires : tie.Need-insert-record-requires
-insert-record-requires c κs =
-    let p : tie.After-read-record = read2 c in
-    let t : tie.Start = s p in
-    rw (inverse-row c)
-    (separation-insert-inverse (rs t) (t .args .positions .now) (t .args .id) (t .args .suffix) (t .args .account) (t .args .series) (parts t) (t .pre .0) (t .pre .1) (t .pre .2)
-    (r p) (named p) (adjusting c .adjust-record .last .0) (adjusted (adjusting c)) (adjusting c .adjust-record .ensures .1))
+write-record-requires : tie.Need-write-record-requires
+write-record-requires c κs = omega (arith, there-are (opening c), opening c .open-rows .kept .0)
 
 -- ---- the parts' rows
 
-module _ (c : tie.After-insert-parts-arg) where
-  abbrev inserting : tie.After-insert-record
-  inserting = c .before .before
+module _ (c : tie.After-write-parts-arg) where
+  abbrev writing : tie.After-write-record
+  writing = c .before .before
+
+  abbrev opened : tie.After-open-rows
+  opened = opening (writing .before)
 
   abbrev read3 : tie.After-read-record
-  read3 = read2 (inserting .before)
+  read3 = read2 opened
 
-  first : toZ w64 (ofZ w64 (toZ w64 (ofZ w64 (adjusting (inserting .before) .before .before .next-suffix .result)) +ℤ pos 1)) ≡ next (s read3) +ℤ pos 1
+  first : toZ w64 (ofZ w64 (toZ w64 (ofZ w64 (adjusting opened .before .before .next-suffix .result)) +ℤ pos 1)) ≡ next (s read3) +ℤ pos 1
   first =
-      ap (λ (n : ℤ). toZ w64 (ofZ w64 (n +ℤ pos 1))) (next-is (adjusting (inserting .before) .before .before))
+      ap (λ (n : ℤ). toZ w64 (ofZ w64 (n +ℤ pos 1))) (next-is (adjusting opened .before .before))
       ∙ toZ-ofZ (first-fits (s read3))
 
-parts-put : (c : tie.After-insert-parts)
-  → c .insert-parts .last .0
-    ≡ putAll recordsLayout recordKey (inserting (c .before) .insert-record .last .0) (partRecords (r (read3 (c .before))) (next (s (read3 (c .before))) +ℤ pos 1) (parts (s (read3 (c .before)))))
+add-write-parts : tie.Need-add-write-parts
+add-write-parts c = omega (arith, there-are (opened c))
+
+add-write-parts-2 : tie.Need-add-write-parts-2
+add-write-parts-2 c = rw (next-is (adjusting (opened c) .before .before)) (first-fits (s (read3 c)))
+
+write-parts-requires : tie.Need-write-parts-requires
+write-parts-requires c κs =
+    let t : tie.Start = s (read3 c) in
+    let range : (pos 0 ≤ℤ next t) × ((next t +ℤ pos (length (parts t))) ≤ℤ greatestOfSuffixes) = suffixes t in
+    (omega (arith, there-are (opened c), opened c .open-rows .kept .0, writing c .write-record .kept .0),
+    rw (first c) (omega (zarith, +-lin (next t) (pos 1))),
+    rw (first c) (omega (zarith, +-lin (next t) (pos 1), +-lin (next t) (pos (length (parts t))))),
+    few t)
+
+parts-put : (c : tie.After-write-parts)
+  → c .write-parts .last .0
+    ≡ putAll recordsLayout recordKey (rs₁ (opened (c .before)))
+      (separationInverse (r (read3 (c .before))) (next (s (read3 (c .before)))) ∷ partRecords (r (read3 (c .before))) (next (s (read3 (c .before))) +ℤ pos 1) (parts (s (read3 (c .before)))))
 parts-put c =
-    let i : tie.After-insert-parts-arg = c .before in
-    subst
-    (λ (z : ℤ). c .insert-parts .last .0 ≡ putAll recordsLayout recordKey (inserting i .insert-record .last .0) (partRecords (r (read3 i)) z (parts (s (read3 i)))))
-    (first i) (c .insert-parts .ensures .0)
-
-add-insert-parts : tie.Need-add-insert-parts
-add-insert-parts c = rw (next-is (adjusting (inserting c .before) .before .before)) (first-fits (s (read3 c)))
-
-insert-parts-requires : tie.Need-insert-parts-requires
-insert-parts-requires c κs =
-    let i : tie.After-insert-record = inserting c in
-    let a : tie.After-adjust-record = adjusting (i .before) in
-    let p : tie.After-read-record = read3 c in
+    let i : tie.After-write-parts-arg = c .before in
+    let o : tie.After-open-rows = opened i in
+    let a : tie.After-adjust-record = adjusting o in
+    let p : tie.After-read-record = read3 i in
     let t : tie.Start = s p in
-    subst (λ (z : ℤ). PartsReady (i .insert-record .last .0) (r p) z (parts t)) (sym (first c))
-    (separation-insert-parts (rs t) (t .args .positions .now) (t .args .id) (t .args .suffix) (t .args .account) (t .args .series) (parts t) (t .pre .0) (t .pre .1) (t .pre .2)
-    (r p) (named p) (a .adjust-record .last .0) (adjusted a) (i .insert-record .last .0) (inserted i) (i .insert-record .ensures .1))
+    gap-written (rs₁ o) (a .adjust-record .ensures .1) (t .args .id) (next t) (r p) (own a) (parts t) (free a) (room a) (o .open-rows .result) (place-is o)
+    (o .open-rows .last .0) (writing i .write-record .last .0) (c .write-parts .last .0)
+    (o .open-rows .ensures .1) (o .open-rows .kept .0)
+    (writing i .write-record .ensures ∙ ap (λ (x : Record). replaced (recordCells x) (o .open-rows .result) (o .open-rows .last .0)) (inverse-row (writing i .before)))
+    (subst (λ (z : ℤ). c .write-parts .last .0 ≡ written (r p) z (parts t) (o .open-rows .result + 1) (writing i .write-record .last .0)) (first i) (c .write-parts .ensures))
 
 -- ---- the answer
 
@@ -229,14 +280,13 @@ same-length-2 c = search needs
 
 returns-2 : tie.Need-returns-2
 returns-2 c =
-    let q : tie.After-insert-parts = c .before in
-    let i : tie.After-insert-record = inserting (q .before) in
-    let a : tie.After-adjust-record = adjusting (i .before) in
+    let q : tie.After-write-parts = c .before in
+    let a : tie.After-adjust-record = adjusting (opened (q .before)) in
     let p : tie.After-read-record = read3 (q .before) in
     let t : tie.Start = s p in
-    ap (λ (z : ℤ). answered (Booked z (pos 0)) (q .insert-parts .last .0) (t .args .positions .now)) (rows t)
+    ap (λ (z : ℤ). answered (Booked z (pos 0)) (q .write-parts .last .0) (t .args .positions .now)) (rows t)
     ∙ separation-returns (rs t) (t .args .positions .now) (t .args .id) (t .args .suffix) (t .args .account) (t .args .series) (parts t) (t .pre .1) (r p) (named p)
-      (a .adjust-record .last .0) (i .insert-record .last .0) (q .insert-parts .last .0) (adjusted a) (inserted i) (parts-put q)
+      (a .adjust-record .last .0) (q .write-parts .last .0) (adjusted a) (parts-put q)
 
 pub book-spec : {M : Type 1} → statement M
 book-spec =
@@ -250,10 +300,13 @@ book-spec =
     read-record-requires
     next-suffix-requires
     adjust-record-requires
+    add-open-rows
+    open-rows-requires
     inverse-record-requires
-    insert-record-requires
-    add-insert-parts
-    insert-parts-requires
+    write-record-requires
+    add-write-parts
+    add-write-parts-2
+    write-parts-requires
     cast-rows
     add-rows
     same-length-2

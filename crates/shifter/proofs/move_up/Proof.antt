@@ -1,76 +1,69 @@
--- `shifter::move_up` meets its contract. The loop's invariant: the cells from `k` on stand `width` higher; the measure is `k`. Assumes nothing.
-use mathlib.Core.Path.{_≡_, ap, _∙_}
-use Prim.Native.Nat.{_-_, _≤_}
-use native.Mathlib.Omega.{arith}
-use borrow.Author.Needs.{needs, sfits-of}
-use lib.IntN.{pos}
-use lib.ListN.{length, getD}
-use mir.Facts.{toZ-ofZ}
-use mir.Syntax.{w64}
-use mir.Val.{SFits}
-use Rattle.shifter.proofs.Moved.{movedUp, none-moved, all-moved, length-moved, move-one}
+-- `shifter::move_up` meets its contract: each way is by the distance that was asked for. Assumes nothing.
+use borrow.Author.Needs.{needs}
 use Rattle.shifter.proofs.move_up.Statement.{statement}
 use Rattle.shifter.proofs.move_up.Tie as tie
 
-abbrev Inv-loop : tie.InvT-loop
-Inv-loop tail₀ used width k₀ tail k = (k ≤ used) × (tail ≡ movedUp tail₀ used width k)
+move-up-13-requires : tie.Need-move-up-13-requires
+move-up-13-requires c κs = search needs
 
-abbrev μ-loop : tie.MeasureT-loop
-μ-loop tail₀ used width k₀ tail k = k
+move-up-26-requires : tie.Need-move-up-26-requires
+move-up-26-requires c κs = search needs
 
-loop-holds : tie.Need-loop-holds Inv-loop μ-loop
-loop-holds c = (omega arith, none-moved (c .args .tail .now) (c .args .used) (c .args .width))
+move-up-39-requires : tie.Need-move-up-39-requires
+move-up-39-requires c κs = search needs
 
-same : (c : tie.At-loop Inv-loop μ-loop) → length (c .loop .tail) ≡ length (c .before .args .tail .now)
-same c = ap length (c .loop .inv .1) ∙ length-moved (c .before .args .tail .now) (c .before .args .used) (c .before .args .width) (c .loop .k) (c .loop .inv .0) (c .before .pre)
+move-up-52-requires : tie.Need-move-up-52-requires
+move-up-52-requires c κs = search needs
 
-sub-k : tie.Need-sub-k Inv-loop μ-loop
-sub-k c = search needs
+move-up-any-requires : tie.Need-move-up-any-requires
+move-up-any-requires c κs = search needs
 
-mul-tail : tie.Need-mul-tail Inv-loop μ-loop
-mul-tail c = omega (arith, same (c .before))
+same-length : tie.Need-same-length
+same-length c = search needs
 
-slice-copy-out-tail : tie.Need-slice-copy-out-tail Inv-loop μ-loop
-slice-copy-out-tail c = omega (arith, same (c .before))
+returns : tie.Need-returns
+returns c = rw (c .before .before .before .if1 .taken) (c .before .move-up-13 .ensures)
 
-add-t9 : tie.Need-add-t9 Inv-loop μ-loop
-add-t9 c = omega (arith, same (c .before .before))
+same-length-2 : tie.Need-same-length-2
+same-length-2 c = search needs
 
-mul-t10 : tie.Need-mul-t10 Inv-loop μ-loop
-mul-t10 c = omega (arith, same (c .before .before))
+returns-2 : tie.Need-returns-2
+returns-2 c = rw (c .before .before .before .if2 .taken) (c .before .move-up-26 .ensures)
 
-slice-set-from-tail : tie.Need-slice-set-from-tail Inv-loop μ-loop
-slice-set-from-tail c = omega (arith, same (c .before .before))
+same-length-3 : tie.Need-same-length-3
+same-length-3 c = search needs
 
-loop-less : tie.Need-loop-less Inv-loop μ-loop
-loop-less c = omega arith
+returns-3 : tie.Need-returns-3
+returns-3 c = rw (c .before .before .before .if3 .taken) (c .before .move-up-39 .ensures)
 
-loop-again : tie.Need-loop-again Inv-loop μ-loop
-loop-again c =
-    let l : tie.At-loop Inv-loop μ-loop = c .before .before in
-    let read : SFits w64 (getD (l .loop .tail) (l .loop .k - 1) (pos 0)) = sfits-of (c .tail .given) in
-    (omega arith, simp (toZ-ofZ read) (move-one (l .before .args .tail .now) (l .loop .tail) (l .before .args .used) (l .before .args .width) (l .loop .k) (pos 0) (c .before .loop-test .taken) (l .loop .inv .0) (l .before .pre) (l .loop .inv .1)))
+same-length-4 : tie.Need-same-length-4
+same-length-4 c = search needs
 
-same-length : tie.Need-same-length Inv-loop μ-loop
-same-length c = same (c .before)
+returns-4 : tie.Need-returns-4
+returns-4 c = rw (c .before .before .before .if4 .taken) (c .before .move-up-52 .ensures)
 
-returns : tie.Need-returns Inv-loop μ-loop
-returns c = c .before .loop .inv .1 ∙ all-moved (c .before .before .args .tail .now) (c .before .before .args .used) (c .before .before .args .width) (c .before .loop .k) (c .loop-test .left)
+same-length-5 : tie.Need-same-length-5
+same-length-5 c = search needs
+
+returns-5 : tie.Need-returns-5
+returns-5 c = search needs
 
 pub move-up-spec : {M : Type 1} → statement M
 move-up-spec =
     tie.close
     (tie.spec
-    Inv-loop
-    μ-loop
-    loop-holds
-    sub-k
-    mul-tail
-    slice-copy-out-tail
-    add-t9
-    mul-t10
-    slice-set-from-tail
-    loop-less
-    loop-again
+    move-up-13-requires
+    move-up-26-requires
+    move-up-39-requires
+    move-up-52-requires
+    move-up-any-requires
     same-length
-    returns)
+    returns
+    same-length-2
+    returns-2
+    same-length-3
+    returns-3
+    same-length-4
+    returns-4
+    same-length-5
+    returns-5)

@@ -1,13 +1,16 @@
--- `transfer::book` meets its contract: an accepted transfer finds its record, and each row and position goes in as the rules put it, one after the other.
--- Assumes nothing.
+-- `transfer::book` meets its contract: an accepted transfer finds its record, its two new rows fill one gap as if put one after the other, and each position
+-- goes in as the rules put it. Assumes nothing.
+mod Reads
 mod Steps
+use native.Mathlib.Omega.{arith}
 use mathlib.Core.Path.{sym, _∙_, ap}
 use borrow.Author.Needs.{needs}
 use Rattle.rules.specs.declared.Record.{Record}
 use Rattle.lookup.proofs.TableLookup.{record-absent}
 use Rattle.verdict.proofs.SoundReads.{position-read-sound}
-use Rattle.verdict.proofs.TransferReady.{transfer-found, transfer-status, transfer-insert-inverse, transfer-insert-arrived, transfer-put-old, transfer-put-new, transfer-returns}
-use Rattle.transfer.proofs.book.Proof.Steps.{rs, ps, id, suffix, from, to, series, looked, start, row-there, at-read, known, s, r, named, found, next-is, next-fits, old-is, new-is, read1, adjusted-put, adjusted1, read2, inverse-is, inverse-put, inserted, read3, arrived-is, arrived-put, inserted2, read4, taken-is, old-put, put, read5, given-is, new-put}
+use Rattle.verdict.proofs.TransferReady.{transfer-found, transfer-status, transfer-put-old, transfer-put-new, transfer-returns}
+use Rattle.transfer.proofs.book.Proof.Reads.{rs, ps, id, suffix, from, to, series, looked, start, row-there, at-read, known, s, r, named, found, next-is, next-fits, old-is, new-is}
+use Rattle.transfer.proofs.book.Proof.Steps.{adjusted-put, room-left, adjusted1, read2, fit, opened, written, read3, both-put, written2, read4, taken-is, old-put, put, read5, given-is, new-put}
 use Rattle.transfer.proofs.book.Statement.{statement}
 use Rattle.transfer.proofs.book.Tie as tie
 
@@ -51,34 +54,30 @@ adjust-record-requires c κs =
     ap (λ (x : Record). x .status) (sym (at-read p .read-record .ensures))
     ∙ transfer-status (rs s) (ps s) (id s) (suffix s) (from s) (to s) (series s) (s .pre .0) (s .pre .1) (s .pre .2) (r p) (named p))
 
-inverse-row-requires : tie.Need-inverse-row-requires
-inverse-row-requires c κs = found (read1 (c .before .before)) .quantity-small
+open-rows-requires : tie.Need-open-rows-requires
+open-rows-requires c κs =
+    let a : tie.After-adjust-record = c .before .before in
+    (a .adjust-record .ensures .1, room-left a)
 
-insert-record-requires : tie.Need-insert-record-requires
-insert-record-requires c κs =
-    let p : tie.After-position-of2 = read2 c in
-    let s : tie.Start = s p in
-    rw (inverse-is c)
-    (transfer-insert-inverse (rs s) (ps s) (id s) (suffix s) (from s) (to s) (series s) (s .pre .0) (s .pre .1) (s .pre .2) (r p) (named p)
-    (adjusted1 c .adjust-record .last .0) (adjusted-put (adjusted1 c)) (adjusted1 c .adjust-record .ensures .1))
+inverse-row-requires : tie.Need-inverse-row-requires
+inverse-row-requires c κs = found (read2 (c .before .before)) .quantity-small
+
+write-record-requires : tie.Need-write-record-requires
+write-record-requires c κs = fit (opened c) .0
+
+add-write-record : tie.Need-add-write-record
+add-write-record c = omega (arith, fit (opened (c .before .before .before)) .2)
 
 add-arrived-row : tie.Need-add-arrived-row
 add-arrived-row c =
-    let p : tie.After-position-of2 = read2 (c .before .before .before) in
+    let p : tie.After-position-of2 = read2 (opened (c .before .before .before)) in
     rw (next-is p) (next-fits p)
 
 arrived-row-requires : tie.Need-arrived-row-requires
 arrived-row-requires c κs = search needs
 
-insert-record-requires-2 : tie.Need-insert-record-requires-2
-insert-record-requires-2 c κs =
-    let p : tie.After-position-of2 = read3 c in
-    let s : tie.Start = s p in
-    let i : tie.After-insert-record = inserted c in
-    let a : tie.After-adjust-record = adjusted1 (i .before) in
-    rw (arrived-is c)
-    (transfer-insert-arrived (rs s) (ps s) (id s) (suffix s) (from s) (to s) (series s) (s .pre .0) (s .pre .1) (s .pre .2) (r p) (named p)
-    (a .adjust-record .last .0) (adjusted-put a) (i .insert-record .last .0) (inverse-put i) (i .insert-record .ensures .1))
+write-record-requires-2 : tie.Need-write-record-requires-2
+write-record-requires-2 c κs = rw (written c .write-record .kept .0) (fit (opened (written c .before)) .1)
 
 taken-from-requires : tie.Need-taken-from-requires
 taken-from-requires c κs =
@@ -108,7 +107,11 @@ put-position-requires-2 c κs =
     (put c .put-position .last .0) (old-put (put c)) (put c .put-position .ensures .1))
 
 same-length-2 : tie.Need-same-length-2
-same-length-2 c = search needs
+same-length-2 c =
+    let b : tie.After-write-record2 = written2 (put (c .before .before) .before) in
+    let w : tie.After-write-record = written (b .before) in
+    let o : tie.After-open-rows = opened (w .before) in
+    b .write-record2 .kept .0 ∙ w .write-record .kept .0 ∙ o .open-rows .kept .0 ∙ adjusted1 o .adjust-record .kept .0
 
 same-length-3 : tie.Need-same-length-3
 same-length-3 c = search needs
@@ -118,18 +121,17 @@ returns-2 c =
     let g : tie.After-given-to = c .before .before in
     let p : tie.After-position-of2 = read5 g in
     let s : tie.Start = s p in
-    let j : tie.After-insert-record2 = inserted2 (put g .before) in
-    let i : tie.After-insert-record = inserted (j .before) in
-    let a : tie.After-adjust-record = adjusted1 (i .before) in
+    let b : tie.After-write-record2 = written2 (put g .before) in
+    let a : tie.After-adjust-record = adjusted1 (opened (written (b .before) .before)) in
     transfer-returns (rs s) (ps s) (id s) (suffix s) (from s) (to s) (series s) (r p) (named p)
-    (a .adjust-record .last .0) (i .insert-record .last .0) (j .insert-record2 .last .0) (put g .put-position .last .0) (c .before .put-position2 .last .0)
-    (adjusted-put a) (inverse-put i) (arrived-put j) (old-put (put g)) (new-put (c .before))
+    (a .adjust-record .last .0) (b .write-record2 .last .0) (put g .put-position .last .0) (c .before .put-position2 .last .0)
+    (adjusted-put a) (both-put b) (old-put (put g)) (new-put (c .before))
 
 pub book-spec : {M : Type 1} → statement M
 book-spec =
     tie.close
     (tie.spec
     find-record-requires enum-known-row enum-told same-length returns read-record-requires next-suffix-requires
-    position-of-requires position-of-requires-2 adjust-record-requires inverse-row-requires insert-record-requires
-    add-arrived-row arrived-row-requires insert-record-requires-2 taken-from-requires put-position-requires
+    position-of-requires position-of-requires-2 adjust-record-requires open-rows-requires inverse-row-requires write-record-requires
+    add-write-record add-arrived-row arrived-row-requires write-record-requires-2 taken-from-requires put-position-requires
     given-to-requires put-position-requires-2 same-length-2 same-length-3 returns-2)

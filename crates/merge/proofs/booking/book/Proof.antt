@@ -1,6 +1,6 @@
 -- `merge::booking::book` meets its contract: what the sources come to is read first; then they are adjusted, their inverses and the merged row inserted, and the
 -- position put, each as the rules put it, one after the other. Assumes nothing.
-use Prim.Native.Nat.{ℕ, _+_, _*_, _/_, _≤_, _<_}
+use Prim.Native.Nat.{_+_, _/_, _≤_, _<_}
 use native.Mathlib.Omega.{arith}
 use mathlib.Core.Path.{_≡_, refl, sym, _∙_, ap, subst}
 use mathlib.Core.Bool.{Bool, true, false}
@@ -9,30 +9,29 @@ use mathlib.Core.Option.{none}
 use borrow.Author.Needs.{needs, sfits-of}
 use lib.IntN.{ℤ, pos, _+ℤ_}
 use lib.ListN.{length}
-use lib.Signed.{_≤ℤ_}
 use mir.Facts.{toZ-ofZ, toZ-pos}
 use mir.Syntax.{w64}
 use mir.Val.{SFits, toZ, ofZ}
 use Rattle.integers.specs.Average.{averageOf, residualOf}
 use Rattle.integers.specs.Averageable.{Averageable}
 use Rattle.integers.specs.Order.{inRange}
-use Rattle.rules.specs.Figures.{magnitudeAtMost, mostQuantity, isBuy, mergeKind}
+use Rattle.rules.specs.Figures.{magnitudeAtMost, isBuy, mergeKind}
 use Rattle.rules.specs.Keyed.{find, upsert, upsertAll, absentFrom}
 use Rattle.rules.specs.Rows.{recordKey, positionKey, soundRecord, soundPosition, validBooked, newRecord}
 use Rattle.rules.specs.Refusal.{anyOf, allOf}
 use Rattle.rules.specs.Layout.{roomOf, rowsOf, write}
-use Rattle.rules.specs.Tables.{recordsLayout, positionsLayout, soundRecords}
-use Rattle.rules.specs.Merge.{Source, pairsOf, stoodEarlier, firstOf, sumOfQuantities, sumOfValues, mergeResidual, mergedRecord, mergeInverses}
+use Rattle.rules.specs.Tables.{recordsLayout, positionsLayout}
+use Rattle.rules.specs.Merge.{pairsOf, firstOf, sumOfQuantities, sumOfValues, mergeResidual, mergedRecord, mergeInverses}
 use Rattle.rules.specs.declared.Record.{Record}
 use Rattle.rules.specs.declared.Position.{Position}
 use Rattle.rules.specs.declared.Reply.the-variants.{Booked}
 use Rattle.scan.proofs.ReadBack.{read-back}
-use Rattle.verdict.specs.Verdict.{answered, acceptedOn}
+use Rattle.verdict.specs.Verdict.{answered}
 use Rattle.verdict.proofs.Room.{positionRead}
 use Rattle.verdict.proofs.SoundReads.{position-read-sound}
 use Rattle.merge_sources.specs.Sources.{sourcesIn, sourceRecords, allFound}
-use Rattle.merge_sources.specs.Pairs.{pairAt, repeatsFrom}
-use Rattle.merge_sources.proofs.SourceList.{record-found, first-at, source-found}
+use Rattle.merge_sources.specs.Pairs.{repeatsFrom}
+use Rattle.merge_sources.proofs.SourceList.{record-found, first-at}
 use Rattle.merge_sources.proofs.Earlier.{sources-stood-earlier}
 use Rattle.merge_sources.proofs.SourceSums.{sources-averageable}
 use Rattle.merge_sources.proofs.SumRanges.{residual-small}
@@ -86,7 +85,7 @@ module _ (s : tie.Start) where
 -- ---- what the sources come to
 
 abbrev start1 : tie.After-source-record → tie.Start
-start1 c = c .before .before
+start1 c = c .before .before .before
 
 sum-is : (c : tie.After-sum-of-quantities) → toZ w64 (ofZ w64 (c .sum-of-quantities .result)) ≡ sumOfQuantities (sources (start1 (c .before .before)))
 sum-is c = let f : SFits w64 (c .sum-of-quantities .result) = sfits-of (c .sum-of-quantities .ok) in toZ-ofZ f ∙ c .sum-of-quantities .ensures
@@ -218,15 +217,15 @@ rows-fit : (s : tie.Start) → SFits w64 (pos (length (list s) / 2) +ℤ pos 1)
 rows-fit s = record { sfits = omega (arith, count s .1) }
 
 source-record-requires : tie.Need-source-record-requires
-source-record-requires c κs = (c .before .pre .0, found (c .before), omega (arith, count (c .before) .0))
+source-record-requires c κs = let s : tie.Start = c .before .before in (s .pre .0, s .pre .3, omega (arith, count s .0))
 
 sum-of-quantities-requires : tie.Need-sum-of-quantities-requires
-sum-of-quantities-requires c κs = let s : tie.Start = start1 (c .before) in (s .pre .0, found s, count s .1)
+sum-of-quantities-requires c κs = let s : tie.Start = start1 (c .before) in (s .pre .0, s .pre .3, found s, count s .1)
 
 sum-of-values-requires : tie.Need-sum-of-values-requires
 sum-of-values-requires c κs =
     let s : tie.Start = start1 (c .before .before .before) in
-    (s .pre .0, found s, count s .1, facts s .passed .sources-adjustable, facts s .passed .sum-small)
+    (s .pre .0, s .pre .3, found s, count s .1, facts s .passed .sources-adjustable, facts s .passed .sum-small)
 
 average-requires : tie.Need-average-requires
 average-requires c κs = rw (value-is c, sum-is (c .before .before)) (ready (start2 c))
@@ -292,11 +291,11 @@ put-position-requires c κs =
     subst (λ (p : Position). length (rowsOf positionsLayout (ps s)) + absentFrom positionKey (rowsOf positionsLayout (ps s)) (p ∷ []) ≤ roomOf positionsLayout (ps s)) e
     (facts s .positions-room))
 
-cast-rows : tie.Need-cast-rows
-cast-rows c = record { sfits = omega (arith, count (start8 c) .1) }
+cast-added : tie.Need-cast-added
+cast-added c = record { sfits = omega (arith, count (start8 c) .1) }
 
-add-rows : tie.Need-add-rows
-add-rows c = rw (rows-bits (start8 c)) (rows-fit (start8 c))
+add-added : tie.Need-add-added
+add-added c = rw (rows-bits (start8 c)) (rows-fit (start8 c))
 
 same-length : tie.Need-same-length
 same-length c = search needs
@@ -322,5 +321,5 @@ book-spec =
     tie.close
     (tie.spec
     source-record-requires sum-of-quantities-requires sum-of-values-requires average-requires is-buy-requires residual-requires merged-row-requires
-    position-of-requires moved-requires adjust-sources-requires insert-inverses-requires insert-record-requires put-position-requires cast-rows add-rows
+    position-of-requires moved-requires adjust-sources-requires insert-inverses-requires insert-record-requires put-position-requires cast-added add-added
     same-length same-length-2 returns)

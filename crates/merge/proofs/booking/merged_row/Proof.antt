@@ -1,4 +1,5 @@
 -- `merge::booking::merged_row` meets its contract: the figures are those given, each read back from its bits. Assumes nothing.
+use mathlib.Core.Path.{refl}
 use mir.Facts.{toZ-ofZ}
 use Rattle.rules.specs.Rows.{newRecord}
 use Rattle.scan.proofs.ReadBack.{read-back}
@@ -18,6 +19,7 @@ returns c =
     toZ-ofZ (s .fits .id),
     toZ-ofZ (s .fits .quantity),
     toZ-ofZ (s .fits .price))
+    refl
 
 pub merged-row-spec : {M : Type 1} → statement M
 merged-row-spec = tie.close (tie.spec returns)

@@ -1,4 +1,6 @@
--- `merge::call::merge` meets its contract: refused 1 or 2 on a table that isn't sound, and otherwise as the verdict says. Assumes nothing.
+-- `merge::call::merge` meets its contract: refused 1 or 2 on a table that isn't sound, and otherwise as the verdict says; what the verdict
+-- says of the kept rows is what the booking requires. Assumes nothing.
+use native.Mathlib.Omega.{arith}
 use mathlib.Core.Path.{_≡_, sym, _∙_}
 use mathlib.Core.Bool.{true}
 use mathlib.Core.List.{List}
@@ -44,16 +46,19 @@ positions-pass c = passed (c .before .positions-sound .ensures) (c .if2 .left)
 
 -- The verdict.
 abbrev both : tie.After-verdict → tie.Else2
-both c = c .before .before .before
+both c = c .before .before .before .before
 
 judged : (c : tie.After-verdict) → c .verdict .result ≡ verdictOn (rs (second (both c))) (ps (second (both c))) (asked (second (both c)))
 judged c =
     let s : tie.Start = second (both c) in
     simp (toZ-ofZ (s .fits .id), toZ-ofZ (s .fits .account), toZ-ofZ (s .fits .series))
-    at (c .verdict .ensures)
+    at (c .verdict .ensures .0)
 
-accepted : (c : tie.After-enum-told) → verdictOn (rs (second (both (c .before .before)))) (ps (second (both (c .before .before)))) (asked (second (both (c .before .before)))) ≡ Accepted
-accepted c = sym (judged (c .before .before)) ∙ c .enum-told .given .1
+abbrev decided : tie.After-enum-told → tie.After-verdict
+decided c = c .before .before .before
+
+accepted : (c : tie.After-enum-told) → verdictOn (rs (second (both (decided c)))) (ps (second (both (decided c)))) (asked (second (both (decided c)))) ≡ Accepted
+accepted c = sym (judged (decided c)) ∙ c .enum-told .given .1
 
 records-sound-requires : tie.Need-records-sound-requires
 records-sound-requires c κs = search needs
@@ -82,10 +87,13 @@ returns-2 c =
     sym (merge-unsound-positions (rs s) (ps s) (records-pass r) (failed (c .before .positions-sound .ensures) (c .if2 .taken))
     (s .args .id) (s .args .account) (s .args .series) (s .args .pairs .now))
 
+slice-aggregate-verdict : tie.Need-slice-aggregate-verdict
+slice-aggregate-verdict c = search needs
+
 verdict-requires : tie.Need-verdict-requires
 verdict-requires c κs =
-    let k : tie.Else2 = c .before .before in
-    (records-pass (k .before .before .before), positions-pass k)
+    let k : tie.Else2 = c .before .before .before in
+    (records-pass (k .before .before .before), positions-pass k, omega arith)
 
 enum-known-number : tie.Need-enum-known-number
 enum-known-number c = search needs
@@ -93,14 +101,18 @@ enum-known-number c = search needs
 enum-told : tie.Need-enum-told
 enum-told c = search needs
 
+slice-aggregate-book : tie.Need-slice-aggregate-book
+slice-aggregate-book c = search needs
+
 book-requires : tie.Need-book-requires
 book-requires c κs =
-    let a : tie.After-enum-told = c .before .before in
-    let k : tie.Else2 = both (a .before .before) in
+    let a : tie.After-enum-told = c .before .before .before in
+    let k : tie.Else2 = both (decided a) in
     let s : tie.Start = second k in
     (records-pass (k .before .before .before), positions-pass k,
     simp (toZ-ofZ (s .fits .id), toZ-ofZ (s .fits .account), toZ-ofZ (s .fits .series))
-    (accepted a))
+    (accepted a),
+    decided a .verdict .ensures .1 (a .enum-told .given .1))
 
 same-length-4 : tie.Need-same-length-4
 same-length-4 c = search needs
@@ -110,7 +122,7 @@ same-length-5 c = search needs
 
 returns-3 : tie.Need-returns-3
 returns-3 c =
-    let v : tie.After-verdict = c .before .before .before in
+    let v : tie.After-verdict = c .before .before .before .before in
     let k : tie.Else2 = both v in
     let s : tie.Start = second k in
     let n : ℤ = c .before .number .given .0 .0 in
@@ -128,8 +140,8 @@ same-length-7 c = search needs
 
 returns-4 : tie.Need-returns-4
 returns-4 c =
-    let a : tie.After-enum-told = c .before .before .before .before .before in
-    let k : tie.Else2 = both (a .before .before) in
+    let a : tie.After-enum-told = c .before .before .before .before .before .before in
+    let k : tie.Else2 = both (decided a) in
     let s : tie.Start = second k in
     let booked : answered (c .before .before .book .result) (c .before .before .book .last .0) (c .before .before .book .last .1 .0) ≡ acceptedOn (rs s) (ps s) (asked s)
           = simp (toZ-ofZ (s .fits .id), toZ-ofZ (s .fits .account), toZ-ofZ (s .fits .series))
@@ -147,9 +159,11 @@ merge-spec =
     same-length-2
     same-length-3
     returns-2
+    slice-aggregate-verdict
     verdict-requires
     enum-known-number
     enum-told
+    slice-aggregate-book
     book-requires
     same-length-4
     same-length-5

@@ -67,11 +67,11 @@ module _ (s : tie.Start) where
 
 -- ---- test 11
 
-sum-is : (c : tie.After-sum-of-quantities) → toZ w64 (ofZ w64 (c .sum-of-quantities .result)) ≡ sumOfQuantities (sources (c .before))
+sum-is : (c : tie.After-sum-of-quantities) → toZ w64 (ofZ w64 (c .sum-of-quantities .result)) ≡ sumOfQuantities (sources (c .before .before))
 sum-is c = let f : SFits w64 (c .sum-of-quantities .result) = sfits-of (c .sum-of-quantities .ok) in toZ-ofZ f ∙ c .sum-of-quantities .ensures
 
 abbrev start1 : tie.Else1 → tie.Start
-start1 c = c .before .before
+start1 c = c .before .before .before
 
 sum-left : (c : tie.Else1) → ltZ (pos mostQuantity) (sumOfQuantities (sources (start1 c))) ≡ false
 sum-left c = rw (sum-is (c .before)) at (c .if1 .left)
@@ -174,11 +174,11 @@ else3 c = c .before .before .before
 -- ---- the needs
 
 sum-of-quantities-requires : tie.Need-sum-of-quantities-requires
-sum-of-quantities-requires c κs = (c .pre .0 .0, c .pre .1 .0 .2, count c .1)
+sum-of-quantities-requires c κs = let s : tie.Start = c .before in (s .pre .0 .0, s .pre .0 .2, s .pre .1 .0 .2, count s .1)
 
 returns : tie.Need-returns
 returns c =
-    let s : tie.Start = c .before .before in
+    let s : tie.Start = c .before .before .before in
     sym
     (merge-refused-11 (rs s) (ps s) (id s) (account s) (series s) (list s)
     (s .pre .1 .0 .0) (s .pre .1 .0 .1) (none-missing s) (s .pre .1 .1 .0 .0) (s .pre .1 .1 .0 .1) (s .pre .1 .1 .0 .2) (s .pre .1 .1 .1 .0) (s .pre .1 .1 .1 .1)
@@ -232,7 +232,7 @@ sum-of-values-requires : tie.Need-sum-of-values-requires
 sum-of-values-requires c κs =
     let s : tie.Start = start1 (tested c) in
     let h : ltZ (pos mostQuantity) (sumOfQuantities (sources s)) ≡ false = sum-left (tested c) in
-    (s .pre .0 .0, s .pre .1 .0 .2, count s .1, s .pre .1 .1 .0 .1, omega zarith)
+    (s .pre .0 .0, s .pre .0 .2, s .pre .1 .0 .2, count s .1, s .pre .1 .1 .0 .1, omega zarith)
 
 residual-requires : tie.Need-residual-requires
 residual-requires c κs = rw (value-is c, sum-is (tested (c .before) .before)) (ready c)

@@ -28,11 +28,11 @@ abbrev fails : ℤ → ℤ → ℤ → Bool → List ℤ → List ℤ → List B
 fails number account series buy cells pairs = map (failsTest number account series buy) (sourceRecords cells pairs)
 
 abbrev Inv-loop : tie.InvT-loop
-Inv-loop records pairs number account series buy count i₀ i =
+Inv-loop records pairs rows number account series buy count i₀ i =
     (i ≤ length pairs / 2) × (anyOf (take i (fails (toZ w64 number) (toZ w64 account) (toZ w64 series) buy records pairs)) ≡ false)
 
 abbrev μ-loop : tie.MeasureT-loop
-μ-loop records pairs number account series buy count i₀ i = length pairs / 2 - i
+μ-loop records pairs rows number account series buy count i₀ i = length pairs / 2 - i
 
 module _ (s : tie.Start Inv-loop μ-loop) where
   abbrev cells : List ℤ
@@ -51,15 +51,15 @@ module _ (s : tie.Start Inv-loop μ-loop) where
   many = length-map (sourceRecords cells list) test ∙ record-count cells list
 
 -- The invariant over the request's figures, and the test of this turn's source.
-so-far : (a : tie.At-loop Inv-loop μ-loop) → anyOf (take (a .loop .i) (all (a .before))) ≡ false
+so-far : (a : tie.At-loop Inv-loop μ-loop) → anyOf (take (a .loop .i) (all (a .before .before))) ≡ false
 so-far a =
-    let s : tie.Start Inv-loop μ-loop = a .before in
+    let s : tie.Start Inv-loop μ-loop = a .before .before in
     simp (toZ-ofZ (s .fits .number), toZ-ofZ (s .fits .account), toZ-ofZ (s .fits .series)) at (a .loop .inv .1)
 
-tested : (c : tie.After-source-fails Inv-loop μ-loop) → getD (all (c .before .before .before .before)) (c .before .before .before .loop .i) false ≡ c .source-fails .result
+tested : (c : tie.After-source-fails Inv-loop μ-loop) → getD (all (c .before .before .before .before .before)) (c .before .before .before .loop .i) false ≡ c .source-fails .result
 tested c =
     let a : tie.At-loop Inv-loop μ-loop = c .before .before .before in
-    let s : tie.Start Inv-loop μ-loop = a .before in
+    let s : tie.Start Inv-loop μ-loop = a .before .before in
     let e : c .source-fails .result ≡ test s (c .before .source-record .result) =
     simp (toZ-ofZ (s .fits .number), toZ-ofZ (s .fits .account), toZ-ofZ (s .fits .series)) at (c .source-fails .ensures) in
     record-test (cells s) (list s) (a .loop .i) (c .before .before .loop-test .taken) (test s)
@@ -70,7 +70,9 @@ loop-holds : tie.Need-loop-holds Inv-loop μ-loop
 loop-holds c = (omega arith, none-at-first [])
 
 source-record-requires : tie.Need-source-record-requires Inv-loop μ-loop
-source-record-requires c κs = (c .before .before .pre .0, c .before .before .pre .1, omega arith)
+source-record-requires c κs =
+    let s : tie.Start Inv-loop μ-loop = c .before .before .before in
+    (s .pre .0, s .pre .1, omega arith)
 
 source-fails-requires : tie.Need-source-fails-requires Inv-loop μ-loop
 source-fails-requires c κs = search needs
@@ -78,7 +80,7 @@ source-fails-requires c κs = search needs
 returns : tie.Need-returns Inv-loop μ-loop
 returns c =
     let k : tie.In-loop Inv-loop μ-loop = c .before .before .before in
-    let s : tie.Start Inv-loop μ-loop = k .before .before in
+    let s : tie.Start Inv-loop μ-loop = k .before .before .before in
     sym (place-here (all s) (k .before .loop .i) (omega (arith, many s, k .loop-test .taken)) (so-far (k .before)) (tested (c .before) ∙ c .if1 .taken))
 
 add-i : tie.Need-add-i Inv-loop μ-loop
@@ -90,14 +92,14 @@ loop-less c = omega arith
 loop-again : tie.Need-loop-again Inv-loop μ-loop
 loop-again c =
     let k : tie.In-loop Inv-loop μ-loop = c .before .before .before in
-    let s : tie.Start Inv-loop μ-loop = k .before .before in
+    let s : tie.Start Inv-loop μ-loop = k .before .before .before in
     (omega arith,
     simp (toZ-ofZ (s .fits .number), toZ-ofZ (s .fits .account), toZ-ofZ (s .fits .series))
     (none-next (all s) (k .before .loop .i) (omega (arith, many s, k .loop-test .taken)) (so-far (k .before)) (tested (c .before) ∙ c .if1 .left)))
 
 returns-2 : tie.Need-returns-2 Inv-loop μ-loop
 returns-2 c =
-    let s : tie.Start Inv-loop μ-loop = c .before .before in
+    let s : tie.Start Inv-loop μ-loop = c .before .before .before in
     sym (place-at-last (all s) (c .before .loop .i) (omega (arith, many s, c .loop-test .left)) (so-far (c .before)))
 
 pub first-failing-spec : {M : Type 1} → statement M

@@ -1,30 +1,16 @@
--- `merge::sources::source_record` meets its contract: the lookup answers the row of the source, which has one. Assumes nothing.
-use Prim.Native.Nat.{ℕ, _+_, _*_, _/_, _<_}
+-- `merge::sources::source_record` meets its contract: the kept row number is a row of the table, with the record of the source. Assumes nothing.
+use Prim.Native.Nat.{ℕ, _<_}
 use native.Mathlib.Omega.{arith}
 use mathlib.Core.Path.{_≡_, sym, ap, _∙_}
-use mathlib.Core.Option.{Option, none, some}
+use mathlib.Core.Option.{some}
 use mathlib.Core.List.{List}
-use borrow.Author.Needs.{needs, sfits-of}
-use lib.IntN.{ℤ, pos}
+use borrow.Author.Needs.{needs}
+use lib.IntN.{ℤ}
 use lib.ListN.{length, getD}
-use mir.Facts.{toZ-ofZ}
-use mir.Syntax.{w64}
-use mir.Val.{SFits}
-use Rattle.rules.specs.Keyed.{find}
-use Rattle.rules.specs.Rows.{recordKey}
-use Rattle.rules.specs.Layout.{rowsOf}
-use Rattle.rules.specs.Tables.{recordsLayout, recordAt}
-use Rattle.rules.specs.declared.Record.{Record}
-use Rattle.keys.proofs.Split.{none-some}
-use Rattle.lookup.specs.Lookup.{recordFound}
-use Rattle.lookup.specs.declared.Found.the-variants.{Row, Absent}
-use Rattle.lookup.proofs.TableLookup.{record-found, record-absent}
-use Rattle.merge_sources.specs.Pairs.{pairAt}
-use Rattle.merge_sources.proofs.SourceList.{source-found}
+use Rattle.lookup.specs.declared.Found.the-variants.{Row}
+use Rattle.merge_sources.proofs.SourceRows.{rowOfPair, place-kept, row-kept, row-within, row-record, row-small}
 use Rattle.merge.proofs.sources.source_record.Statement.{statement}
 use Rattle.merge.proofs.sources.source_record.Tie as tie
-
--- ---- the table and the pair
 
 module _ (s : tie.Start) where
   abbrev cells : List ℤ
@@ -33,98 +19,38 @@ module _ (s : tie.Start) where
   abbrev list : List ℤ
   list = s .args .pairs .now
 
-  abbrev id : ℤ
-  id = getD list (2 * s .args .place) (pos 0)
+  abbrev kept : List ℕ
+  kept = s .args .rows .now
 
-  abbrev suffix : ℤ
-  suffix = getD list (2 * s .args .place + 1) (pos 0)
+  abbrev place : ℕ
+  place = s .args .place
 
-answer : (c : tie.After-find-record) → c .find-record .result ≡ recordFound (cells (c .before .before .before)) (id (c .before .before .before)) (suffix (c .before .before .before))
-answer c =
-    let s : tie.Start = c .before .before .before in
-    let f : SFits w64 (id s) = sfits-of (c .before .before .find-record-arg .given) in
-    let g : SFits w64 (suffix s) = sfits-of (c .before .find-record-arg2 .given) in
-    simp (toZ-ofZ f, toZ-ofZ g) at (c .find-record .ensures)
+  row : rowOfPair cells list place ≡ Row (getD kept place 0)
+  row = row-kept cells list kept (s .pre .1) place (s .pre .2)
 
--- The source has a record: it is not absent.
-never-absent : {X : Type 0} (c : tie.After-enum-told) → X
-unfolding pairAt
-never-absent c =
-    let s : tie.Start = c .before .before .before .before .before in
-    none-some (record-absent (cells s) (id s) (suffix s) (sym (answer (c .before .before)) ∙ c .enum-told .given .1))
-    (source-found (cells s) (list s) (s .args .place) (omega (arith, s .pre .2)) (s .pre .1))
+  room : place < length kept
+  room = place-kept cells list kept (s .pre .1) place (s .pre .2)
 
-abbrev start : tie.After-known-told → tie.Start
-start c = c .before .before .before .before .before .before
+mul-read-record : tie.Need-mul-read-record
+mul-read-record c = search needs
 
-abbrev row : tie.After-known-told → ℕ
-row c = c .before .row .given .0 .0
+shared-slice-read-read-record : tie.Need-shared-slice-read-read-record
+shared-slice-read-read-record c = room (c .before .before)
 
-found : (c : tie.After-known-told) → (row c < length (rowsOf recordsLayout (cells (start c))))
-    × (find recordKey (pairAt (list (start c)) (start c .args .place)) (rowsOf recordsLayout (cells (start c))) ≡ some (recordAt (cells (start c)) (1 + row c * 13)))
-unfolding pairAt
-found c =
-    let s : tie.Start = start c in
-    let e : recordFound (cells s) (id s) (suffix s) ≡ Row (row c) = sym (answer (c .before .before .before)) ∙ c .before .row .given .1 in
-    (record-found (cells s) (id s) (suffix s) (row c) e .0, record-found (cells s) (id s) (suffix s) (row c) e .1)
-
-mul-find-record : tie.Need-mul-find-record
-mul-find-record c = omega arith
-
-mul-find-record-2 : tie.Need-mul-find-record-2
-mul-find-record-2 c = omega arith
-
-shared-slice-copy-out-find-record : tie.Need-shared-slice-copy-out-find-record
-shared-slice-copy-out-find-record c = omega arith
-
-mul-find-record-3 : tie.Need-mul-find-record-3
-mul-find-record-3 c = omega arith
-
-add-find-record : tie.Need-add-find-record
-add-find-record c = omega arith
-
-mul-find-record-4 : tie.Need-mul-find-record-4
-mul-find-record-4 c = omega arith
-
-shared-slice-copy-out-find-record-2 : tie.Need-shared-slice-copy-out-find-record-2
-shared-slice-copy-out-find-record-2 c = omega arith
-
-find-record-requires : tie.Need-find-record-requires
-find-record-requires c κs = search needs
-
-enum-known-row : tie.Need-enum-known-row
-enum-known-row c = search needs
-
-enum-told : tie.Need-enum-told
-enum-told c = search needs
+cast-read-record : tie.Need-cast-read-record
+cast-read-record c =
+    let s : tie.Start = c .before .before in
+    omega (arith, row-small (cells s) (list s) (place s) _ (row s) (s .pre .0))
 
 read-record-requires : tie.Need-read-record-requires
-read-record-requires c κs = never-absent c
+read-record-requires c κs =
+    let s : tie.Start = c .before .before in
+    (s .pre .0, row-within (cells s) (list s) (place s) _ (row s))
 
 returns : tie.Need-returns
-returns c = never-absent (c .before)
-
-read-record-requires-2 : tie.Need-read-record-requires-2
-read-record-requires-2 c κs = (start c .pre .0, found c .0)
-
-returns-2 : tie.Need-returns-2
-returns-2 c = found (c .before) .1 ∙ ap some (sym (c .read-record2 .ensures))
+returns c =
+    let s : tie.Start = c .before .before .before in
+    row-record (cells s) (list s) (place s) _ (row s) ∙ ap some (sym (c .read-record .ensures))
 
 pub source-record-spec : {M : Type 1} → statement M
-source-record-spec =
-    tie.close
-    (tie.spec
-    mul-find-record
-    mul-find-record-2
-    shared-slice-copy-out-find-record
-    mul-find-record-3
-    add-find-record
-    mul-find-record-4
-    shared-slice-copy-out-find-record-2
-    find-record-requires
-    enum-known-row
-    enum-told
-    read-record-requires
-    returns
-    read-record-requires-2
-    returns-2)
+source-record-spec = tie.close (tie.spec mul-read-record shared-slice-read-read-record cast-read-record read-record-requires returns)

@@ -25,10 +25,10 @@ abbrev sumFirst : List ℤ → List ℤ → ℕ → ℤ
 sumFirst cells pairs i = sumOver quantityOf (take i (sourceRecords cells pairs))
 
 abbrev Inv-loop : tie.InvT-loop
-Inv-loop records pairs count sum₀ i₀ sum i = (i ≤ length pairs / 2) × (toZ w64 sum ≡ sumFirst records pairs i)
+Inv-loop records pairs rows count sum₀ i₀ sum i = (i ≤ length pairs / 2) × (toZ w64 sum ≡ sumFirst records pairs i)
 
 abbrev μ-loop : tie.MeasureT-loop
-μ-loop records pairs count sum₀ i₀ sum i = length pairs / 2 - i
+μ-loop records pairs rows count sum₀ i₀ sum i = length pairs / 2 - i
 
 module _ (s : tie.Start Inv-loop μ-loop) where
   abbrev cells : List ℤ
@@ -38,7 +38,7 @@ module _ (s : tie.Start Inv-loop μ-loop) where
   list = s .args .pairs .now
 
   sum-fits : (i : ℕ) → i ≤ length list / 2 → SFits w64 (sumFirst cells list i)
-  sum-fits i h = quantity-sum-fits cells list (s .pre .0) (s .pre .1) i h (s .pre .2)
+  sum-fits i h = quantity-sum-fits cells list (s .pre .0) (s .pre .2) i h (s .pre .3)
 
 -- One more source, in the words of the code.
 module _ (c : tie.After-struct-told Inv-loop μ-loop) where
@@ -46,7 +46,7 @@ module _ (c : tie.After-struct-told Inv-loop μ-loop) where
   here = c .before .before .before
 
   abbrev s : tie.Start Inv-loop μ-loop
-  s = here .before .before
+  s = here .before .before .before
 
   abbrev i : ℕ
   i = here .before .loop .i
@@ -71,7 +71,9 @@ loop-holds : tie.Need-loop-holds Inv-loop μ-loop
 loop-holds c = (omega arith, sym (sum-at-first quantityOf []))
 
 source-record-requires : tie.Need-source-record-requires Inv-loop μ-loop
-source-record-requires c κs = (c .before .before .pre .0, c .before .before .pre .1, omega arith)
+source-record-requires c κs =
+    let s : tie.Start Inv-loop μ-loop = c .before .before .before in
+    (s .pre .0, s .pre .1, omega arith)
 
 add-sum : tie.Need-add-sum Inv-loop μ-loop
 add-sum c = simp (toZ-ofZ (quantity-fits c)) (more-fits c)
@@ -87,7 +89,7 @@ loop-again c = (omega arith, simp (toZ-ofZ (quantity-fits c), toZ-ofZ (more-fits
 
 returns : tie.Need-returns Inv-loop μ-loop
 returns c =
-    let s : tie.Start Inv-loop μ-loop = c .before .before in
+    let s : tie.Start Inv-loop μ-loop = c .before .before .before in
     let rs : List Record = sourceRecords (cells s) (list s) in
     c .before .loop .inv .1 ∙ sum-at-last quantityOf rs (c .before .loop .i) (omega (arith, record-count (cells s) (list s), c .loop-test .left)) ∙ sym (quantities-sum rs)
 

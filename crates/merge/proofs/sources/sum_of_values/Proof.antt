@@ -26,10 +26,10 @@ abbrev sumFirst : List ℤ → List ℤ → ℕ → ℤ
 sumFirst cells pairs i = sumOver valueOf (take i (sourceRecords cells pairs))
 
 abbrev Inv-loop : tie.InvT-loop
-Inv-loop records pairs count sum₀ i₀ sum i = (i ≤ length pairs / 2) × (toZ w64 sum ≡ sumFirst records pairs i)
+Inv-loop records pairs rows count sum₀ i₀ sum i = (i ≤ length pairs / 2) × (toZ w64 sum ≡ sumFirst records pairs i)
 
 abbrev μ-loop : tie.MeasureT-loop
-μ-loop records pairs count sum₀ i₀ sum i = length pairs / 2 - i
+μ-loop records pairs rows count sum₀ i₀ sum i = length pairs / 2 - i
 
 module _ (s : tie.Start Inv-loop μ-loop) where
   abbrev cells : List ℤ
@@ -44,7 +44,7 @@ module _ (c : tie.After-struct-told Inv-loop μ-loop) where
   here = c .before .before .before
 
   abbrev s : tie.Start Inv-loop μ-loop
-  s = here .before .before
+  s = here .before .before .before
 
   abbrev i : ℕ
   i = here .before .loop .i
@@ -58,10 +58,10 @@ module _ (c : tie.After-struct-told Inv-loop μ-loop) where
   r-priced : Priced r
   r-priced =
       subst Priced (sym (record-at (cells s) (list s) i (here .loop-test .taken) noRecord) ∙ r-at)
-      (source-priced (cells s) (list s) (s .pre .0) (s .pre .1) (s .pre .3) i (here .loop-test .taken))
+      (source-priced (cells s) (list s) (s .pre .0) (s .pre .2) (s .pre .4) i (here .loop-test .taken))
 
   product-fits : SFits w64 (r .quantity *ℤ r .price)
-  product-fits = value-fits (cells s) (list s) (s .pre .0) (s .pre .1) (s .pre .3) r r-priced
+  product-fits = value-fits (cells s) (list s) (s .pre .0) (s .pre .2) (s .pre .4) r r-priced
 
   quantity-fits : SFits w64 (r .quantity)
   quantity-fits = sfits-of {w = w64} {z = r .quantity} (c .struct-told .given .1 .1 .1 .1 .1 .1 .1 .1 .0 .1)
@@ -77,13 +77,15 @@ module _ (c : tie.After-struct-told Inv-loop μ-loop) where
 
   more-fits : SFits w64 (toZ w64 (here .before .loop .sum) +ℤ (r .quantity *ℤ r .price))
   more-fits =
-      subst (λ (z : ℤ). SFits w64 z) (sym one-more) (value-sum-fits (cells s) (list s) (s .pre .0) (s .pre .1) (s .pre .3) (s .pre .4) (i + 1))
+      subst (λ (z : ℤ). SFits w64 z) (sym one-more) (value-sum-fits (cells s) (list s) (s .pre .0) (s .pre .2) (s .pre .4) (s .pre .5) (i + 1))
 
 loop-holds : tie.Need-loop-holds Inv-loop μ-loop
 loop-holds c = (omega arith, sym (sum-at-first valueOf []))
 
 source-record-requires : tie.Need-source-record-requires Inv-loop μ-loop
-source-record-requires c κs = (c .before .before .pre .0, c .before .before .pre .1, omega arith)
+source-record-requires c κs =
+    let s : tie.Start Inv-loop μ-loop = c .before .before .before in
+    (s .pre .0, s .pre .1, omega arith)
 
 mul-sum : tie.Need-mul-sum Inv-loop μ-loop
 mul-sum c = simp (toZ-ofZ (quantity-fits c), toZ-ofZ (price-fits c)) (product-fits c)
@@ -103,7 +105,7 @@ loop-again c =
 
 returns : tie.Need-returns Inv-loop μ-loop
 returns c =
-    let s : tie.Start Inv-loop μ-loop = c .before .before in
+    let s : tie.Start Inv-loop μ-loop = c .before .before .before in
     let rs : List Record = sourceRecords (cells s) (list s) in
     c .before .loop .inv .1 ∙ sum-at-last valueOf rs (c .before .loop .i) (omega (arith, record-count (cells s) (list s), c .loop-test .left)) ∙ sym (values-sum rs)
 

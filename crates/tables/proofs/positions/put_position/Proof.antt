@@ -1,7 +1,8 @@
 -- `tables::positions::put_position` meets its contract: the row with the key is written over, or the row's cells go in at the place of its key. Assumes nothing.
 use native.Mathlib.Omega.{arith}
-use Prim.Native.Nat.{_<_}
+use Prim.Native.Nat.{_+_, _*_, _≤_, _<_}
 use mathlib.Core.Path.{_≡_, sym, _∙_}
+use mathlib.Core.Bool.{true}
 use mathlib.Core.Option.{none}
 use lib.ListN.{length}
 use borrow.Author.Needs.{needs}
@@ -12,9 +13,9 @@ use Rattle.rules.specs.Tables.{positionsLayout, soundPositions}
 use Rattle.cells.specs.SoundTable.{SoundPositions}
 use Rattle.cells.proofs.RowCells.{positions-lawful}
 use Rattle.cells.proofs.SoundCells.{positions-known}
-use Rattle.lookup.specs.Lookup.{rowFound, rowPlace}
+use Rattle.lookup.specs.Lookup.{rowFound, rowPlace, keysRise}
 use Rattle.lookup.specs.declared.Found.the-variants.{Row}
-use Rattle.lookup.proofs.TableLookup.{positions-first}
+use Rattle.lookup.proofs.TableLookup.{positions-first, table-rises}
 use Rattle.scan.proofs.ReadBack.{read-back}
 use Rattle.tables.proofs.RowFits.{absent-row, room-for-one, insertion-fits, replacement-fits}
 use Rattle.tables.proofs.RowPut.{put-inserted, put-replaced}
@@ -23,6 +24,15 @@ use Rattle.tables.proofs.positions.put_position.Tie as tie
 
 table : (s : tie.Start) → SoundPositions (s .args .cells .now)
 table s = positions-known (s .args .cells .now) (s .pre .0)
+
+-- What the lookup asks of the rows.
+searched : (c : tie.After-count) → let cells = c .before .before .before .before .args .cells .now in
+    (2 ≤ 5) × (1 + c .count .result * 5 ≤ length cells) × (keysRise 5 (c .count .result) cells ≡ true)
+searched c =
+    let s : tie.Start = c .before .before .before .before in
+    (omega arith,
+      omega (arith, table s .rows-within, c .count .ensures),
+      table-rises positionsLayout positionKey positions-first (s .args .cells .now) (table s .rows-rise) (c .count .result) (c .count .ensures))
 
 -- What the lookup answered.
 module _ (c : tie.After-find-row) where
@@ -68,7 +78,7 @@ position-cells-requires : tie.Need-position-cells-requires
 position-cells-requires c κs = search needs
 
 find-row-requires : tie.Need-find-row-requires
-find-row-requires c κs = omega (arith, table (c .before .before .before .before .before .before) .rows-within, c .before .before .count .ensures)
+find-row-requires c κs = searched (c .before .before)
 
 enum-known-at : tie.Need-enum-known-at
 enum-known-at c = search needs
@@ -91,9 +101,7 @@ enum-told : tie.Need-enum-told
 enum-told c = search needs
 
 place-of-requires : tie.Need-place-of-requires
-place-of-requires c κs =
-    let f : tie.After-find-row = c .before .before .before in
-    omega (arith, table (start f) .rows-within, counted f .count .ensures)
+place-of-requires c κs = searched (counted (c .before .before .before))
 
 slice-aggregate-insert-row : tie.Need-slice-aggregate-insert-row
 slice-aggregate-insert-row c = search needs

@@ -8,7 +8,7 @@ use Rattle.cells.specs.SoundTable.{SoundRecords}
 use Rattle.cells.proofs.RowCells.{records-lawful}
 use Rattle.cells.proofs.SoundCells.{records-known}
 use Rattle.lookup.specs.Lookup.{rowPlace}
-use Rattle.lookup.proofs.TableLookup.{records-first}
+use Rattle.lookup.proofs.TableLookup.{records-first, table-rises}
 use Rattle.scan.proofs.ReadBack.{read-back}
 use Rattle.tables.proofs.RowFits.{insertion-fits}
 use Rattle.tables.proofs.RowPut.{put-inserted}
@@ -30,7 +30,10 @@ count-requires : tie.Need-count-requires
 count-requires c κs = search needs
 
 place-of-requires : tie.Need-place-of-requires
-place-of-requires c κs = omega (arith, table (c .before .before .before .before .before) .rows-within, c .before .before .before .count .ensures)
+place-of-requires c κs =
+    let s : tie.Start = c .before .before .before .before .before in
+    let n : tie.After-count = c .before .before .before in
+    (omega arith, omega (arith, table s .rows-within, n .count .ensures), table-rises recordsLayout recordKey records-first (s .args .cells .now) (table s .rows-rise) (n .count .result) (n .count .ensures))
 
 record-cells-requires : tie.Need-record-cells-requires
 record-cells-requires c κs = search needs

@@ -1,118 +1,28 @@
--- What is known in `transfer::book` at each step: the record, the next suffix and the two positions as they were read, then what each row or position put comes to.
+-- What is known in `transfer::book` after each change: the record adjusted, the gap for two rows and each of them written, then the two positions put.
 -- Assumes nothing.
-use Prim.Native.Nat.{ℕ, _<_}
+use Prim.Native.Nat.{suc, _+_, _*_, _≤_, _<_}
 use mathlib.Core.Path.{_≡_, sym, _∙_, ap}
-use mathlib.Core.List.{List}
-use mathlib.Core.Option.{some}
+use mathlib.Core.List.{List, [], _∷_}
 use lib.IntN.{ℤ, pos, _+ℤ_}
 use lib.ListN.{length}
 use lib.Signed.{_≤ℤ_}
 use mir.Facts.{toZ-ofZ}
 use mir.Syntax.{w64}
-use mir.Val.{SFits, toZ, ofZ}
-use borrow.Author.Needs.{sfits-of}
-use Rattle.integers.proofs.Linear.{zarith, +-lin}
-use Rattle.rules.specs.Figures.{greatestOfSuffixes}
-use Rattle.rules.specs.Keyed.{find}
-use Rattle.rules.specs.Rows.{keyOf, recordKey, positionKey, adjustedRecord}
-use Rattle.rules.specs.Layout.{rowsOf}
+use mir.Val.{toZ, ofZ}
+use Rattle.rules.specs.Figures.{transferKind}
+use Rattle.rules.specs.Rows.{keyOf, recordKey, positionKey, adjustedRecord, adjustableRecord}
+use Rattle.rules.specs.Transfer.{inLong, inShort}
+use Rattle.rules.specs.Layout.{roomOf, rowsOf}
 use Rattle.rules.specs.Tables.{recordsLayout, positionsLayout}
 use Rattle.rules.specs.declared.Record.{Record}
-use Rattle.lookup.specs.Lookup.{recordFound}
-use Rattle.lookup.specs.declared.Found.the-variants.{Row}
-use Rattle.lookup.proofs.TableLookup.{record-found}
+use Rattle.lookup.specs.Lookup.{rowPlace}
 use Rattle.soundness.proofs.NamedRecord.{nextOf}
-use Rattle.verdict.proofs.Puts.{putOne}
-use Rattle.verdict.proofs.Room.{positionRead}
-use Rattle.verdict.proofs.SoundReads.{FoundRecord, found-record}
+use Rattle.verdict.proofs.Puts.{putOne, putAll}
 use Rattle.verdict.proofs.Transfer.{transferInverse, transferArrived, transferOld, transferNew}
-use Rattle.verdict.proofs.TransferReady.{transfer-next}
+use Rattle.verdict.proofs.TransferReady.{transfer-room, transfer-free}
+use Rattle.transfer.proofs.TwoRows.{rows-fit, two-rows}
+use Rattle.transfer.proofs.book.Proof.Reads.{rs, ps, id, suffix, from, to, series, next, at-next, at-read, s, r, named, next-is, next-fits, old-is, new-is, inverse-key, arrived-key}
 use Rattle.transfer.proofs.book.Tie as tie
-
-module _ (s : tie.Start) where
-  abbrev pub rs : List ℤ
-  rs = s .args .records .now
-
-  abbrev pub ps : List ℤ
-  ps = s .args .positions .now
-
-  abbrev pub id : ℤ
-  id = s .args .id
-
-  abbrev pub suffix : ℤ
-  suffix = s .args .suffix
-
-  abbrev pub from : ℤ
-  from = s .args .from
-
-  abbrev pub to : ℤ
-  to = s .args .to
-
-  abbrev pub series : ℤ
-  series = s .args .series
-
-  abbrev pub next : ℤ
-  next = nextOf (rowsOf recordsLayout rs) id
-
--- ---- what is read
-
-pub looked : (c : tie.After-find-record) → c .find-record .result ≡ recordFound (rs (c .before .before)) (id (c .before .before)) (suffix (c .before .before))
-looked c =
-    let s : tie.Start = c .before .before in
-    simp (toZ-ofZ (s .fits .id), toZ-ofZ (s .fits .suffix)) at (c .find-record .ensures)
-
-module _ (c : tie.After-known-told) where
-  abbrev pub start : tie.Start
-  start = c .before .before .before .before .before
-
-  abbrev pub row : ℕ
-  row = c .before .row .given .0 .0
-
-  pub answered : recordFound (rs start) (id start) (suffix start) ≡ Row row
-  answered = sym (looked (c .before .before .before)) ∙ c .before .row .given .1
-
-  pub row-there : row < length (rowsOf recordsLayout (rs start))
-  row-there = record-found (rs start) (id start) (suffix start) row answered .0
-
--- Past all reads.
-module _ (c : tie.After-position-of2) where
-  abbrev pub at-next : tie.After-next-suffix
-  at-next = c .before .before .before .before
-
-  abbrev pub at-read : tie.After-read-record
-  at-read = at-next .before .before
-
-  abbrev pub known : tie.After-known-told
-  known = at-read .before .before
-
-  abbrev pub s : tie.Start
-  s = start known
-
-  abbrev pub r : Record
-  r = at-read .read-record .result
-
-  pub named : find recordKey (keyOf (id s) (suffix s)) (rowsOf recordsLayout (rs s)) ≡ some r
-  named = record-found (rs s) (id s) (suffix s) (row known) (answered known) .1 ∙ ap some (sym (at-read .read-record .ensures))
-
-  pub found : FoundRecord (id s) (suffix s) r
-  found = found-record (rs s) (s .pre .0) (id s) (suffix s) r named
-
-  pub next-is : toZ w64 (ofZ w64 (at-next .next-suffix .result)) ≡ next s
-  next-is =
-      let f : SFits w64 (at-next .next-suffix .result) = sfits-of (at-next .next-suffix .ok) in
-      simp (toZ-ofZ f) (simp (toZ-ofZ (s .fits .id)) at (at-next .next-suffix .ensures))
-
-  pub next-fits : SFits w64 (next s +ℤ pos 1)
-  next-fits =
-      let range : (pos 0 ≤ℤ next s) × ((next s +ℤ pos 1) ≤ℤ greatestOfSuffixes)
-            = transfer-next (rs s) (ps s) (id s) (suffix s) (from s) (to s) (series s) (s .pre .0) (s .pre .1) (s .pre .2) r named in
-      omega (zarith, +-lin (next s) (pos 1))
-
-  pub old-is : c .before .before .position-of .result ≡ positionRead (ps s) (from s) (series s)
-  old-is = simp (toZ-ofZ (s .fits .from), toZ-ofZ (s .fits .series)) at (c .before .before .position-of .ensures)
-
-  pub new-is : c .position-of2 .result ≡ positionRead (ps s) (to s) (series s)
-  new-is = simp (toZ-ofZ (s .fits .to), toZ-ofZ (s .fits .series)) at (c .position-of2 .ensures)
 
 -- ---- the records, one change after the other
 
@@ -125,46 +35,92 @@ module _ (c : tie.After-adjust-record) where
       c .adjust-record .ensures .0
       ∙ ap (λ (x : Record). putOne recordsLayout recordKey (rs (s read1)) (adjustedRecord x)) (sym (at-read read1 .read-record .ensures))
 
-module _ (c : tie.After-inverse-row) where
+  pub room-left : length (rowsOf recordsLayout (c .adjust-record .last .0)) + 2 ≤ roomOf recordsLayout (c .adjust-record .last .0)
+  room-left =
+      let b : tie.Start = s read1 in
+      transfer-room (rs b) (ps b) (id b) (suffix b) (from b) (to b) (series b) (b .pre .0) (b .pre .1) (b .pre .2) (r read1) (named read1)
+      (c .adjust-record .last .0) adjusted-put
+
+  pub free-from : nextOf (rowsOf recordsLayout (c .adjust-record .last .0)) (id (s read1)) ≤ℤ next (s read1)
+  free-from =
+      let b : tie.Start = s read1 in
+      transfer-free (rs b) (ps b) (id b) (suffix b) (from b) (to b) (series b) (b .pre .0) (b .pre .1) (b .pre .2) (r read1) (named read1)
+      (c .adjust-record .last .0) adjusted-put
+
+-- The gap for two rows, at the place of the next suffix: both lie within the cells.
+module _ (c : tie.After-open-rows) where
   abbrev pub adjusted1 : tie.After-adjust-record
   adjusted1 = c .before .before .before
 
   abbrev pub read2 : tie.After-position-of2
   read2 = read1 adjusted1
 
-  pub inverse-is : c .inverse-row .result ≡ transferInverse (r read2) (next (s read2))
-  inverse-is = rw (next-is read2) at (c .inverse-row .ensures)
+  abbrev pub rs₁ : List ℤ
+  rs₁ = adjusted1 .adjust-record .last .0
 
-module _ (c : tie.After-insert-record) where
-  pub inverse-put : c .insert-record .last .0 ≡ putOne recordsLayout recordKey (adjusted1 (c .before) .adjust-record .last .0) (transferInverse (r (read2 (c .before))) (next (s (read2 (c .before)))))
-  inverse-put = rw (inverse-is (c .before)) at (c .insert-record .ensures .0)
+  pub place-is : c .open-rows .result ≡ rowPlace 13 (keyOf (id (s read2)) (next (s read2))) (length (rowsOf recordsLayout rs₁)) rs₁
+  place-is =
+      c .open-rows .ensures .0
+      ∙ (λ i. rowPlace 13 (keyOf (toZ-ofZ (s read2 .fits .id) i) (next-is read2 i)) (length (rowsOf recordsLayout rs₁)) rs₁)
+
+  pub fit : (1 + suc (c .open-rows .result) * 13 ≤ length (c .open-rows .last .0)) × (1 + suc (c .open-rows .result + 1) * 13 ≤ length (c .open-rows .last .0))
+    × (c .open-rows .result < 4096)
+  fit =
+      rows-fit rs₁ (adjusted1 .adjust-record .ensures .1) (id (s read2)) (next (s read2)) (c .open-rows .result) (room-left adjusted1) place-is
+      (c .open-rows .last .0) (c .open-rows .kept .0)
+
+module _ (c : tie.After-inverse-row) where
+  abbrev pub opened : tie.After-open-rows
+  opened = c .before .before .before
+
+  pub inverse-is : c .inverse-row .result ≡ transferInverse (r (read2 opened)) (next (s (read2 opened)))
+  inverse-is = rw (next-is (read2 opened)) at (c .inverse-row .ensures)
 
 module _ (c : tie.After-arrived-row) where
-  abbrev pub inserted : tie.After-insert-record
-  inserted = c .before .before .before
+  abbrev pub written : tie.After-write-record
+  written = c .before .before .before
 
   abbrev pub read3 : tie.After-position-of2
-  read3 = read2 (inserted .before)
+  read3 = read2 (opened (written .before))
 
   pub last-is : toZ w64 (ofZ w64 (toZ w64 (ofZ w64 (at-next read3 .next-suffix .result)) +ℤ pos 1)) ≡ (next (s read3) +ℤ pos 1)
   last-is = ap (λ (z : ℤ). toZ w64 (ofZ w64 (z +ℤ pos 1))) (next-is read3) ∙ toZ-ofZ (next-fits read3)
 
   pub arrived-is : c .arrived-row .result ≡ transferArrived (r read3) (next (s read3)) (to (s read3))
-  arrived-is = simp (toZ-ofZ (s read3 .fits .to)) at (rw last-is at (c .arrived-row .ensures))
+  arrived-is =
+      c .arrived-row .ensures
+      ∙ (λ i. adjustableRecord (r read3) (last-is i) transferKind (toZ-ofZ (s read3 .fits .to) i) (r read3 .quantity)
+        (inLong (r read3 .side) (r read3 .quantity)) (inShort (r read3 .side) (r read3 .quantity)))
 
-module _ (c : tie.After-insert-record2) where
-  pub arrived-put : c .insert-record2 .last .0
-    ≡ putOne recordsLayout recordKey (inserted (c .before) .insert-record .last .0) (transferArrived (r (read3 (c .before))) (next (s (read3 (c .before)))) (to (s (read3 (c .before)))))
-  arrived-put = rw (arrived-is (c .before)) at (c .insert-record2 .ensures .0)
+-- Both rows written into the gap.
+module _ (c : tie.After-write-record2) where
+  abbrev wrote : tie.After-write-record
+  wrote = written (c .before)
+
+  abbrev gap : tie.After-open-rows
+  gap = opened (wrote .before)
+
+  abbrev read : tie.After-position-of2
+  read = read2 gap
+
+  pub both-put : c .write-record2 .last .0
+    ≡ putAll recordsLayout recordKey (rs₁ gap) (transferInverse (r read) (next (s read)) ∷ transferArrived (r read) (next (s read)) (to (s read)) ∷ [])
+  both-put =
+      two-rows (rs₁ gap) (adjusted1 gap .adjust-record .ensures .1) (id (s read)) (next (s read)) (gap .open-rows .result) (room-left (adjusted1 gap)) (place-is gap)
+      (gap .open-rows .last .0) (gap .open-rows .kept .0) (free-from (adjusted1 gap)) (gap .open-rows .ensures .1)
+      (wrote .before .inverse-row .result) (c .before .arrived-row .result)
+      (ap recordKey (inverse-is (wrote .before)) ∙ inverse-key read) (ap recordKey (arrived-is (c .before)) ∙ arrived-key read)
+      (wrote .write-record .last .0) (c .write-record2 .last .0) (wrote .write-record .ensures) (c .write-record2 .ensures)
+      ∙ (λ i. putAll recordsLayout recordKey (rs₁ gap) (inverse-is (wrote .before) i ∷ arrived-is (c .before) i ∷ []))
 
 -- ---- the positions
 
 module _ (c : tie.After-taken-from) where
-  abbrev pub inserted2 : tie.After-insert-record2
-  inserted2 = c .before .before .before
+  abbrev pub written2 : tie.After-write-record2
+  written2 = c .before .before .before
 
   abbrev pub read4 : tie.After-position-of2
-  read4 = read3 (inserted2 .before)
+  read4 = read3 (written2 .before)
 
   pub taken-is : c .taken-from .result ≡ transferOld (ps (s read4)) (r read4) (from (s read4)) (series (s read4))
   taken-is = rw (old-is read4) at (c .taken-from .ensures)

@@ -1,0 +1,376 @@
+//! The transaction book as one would write it in Rust by hand: the same lent tables of flat cells, the same tests in the same order, the same
+//! bookings. The benchmark compares the proved book with it, and `tests/` can be run against it to try the harness itself.
+
+mod table;
+
+use table::{sound_rows, PositionRow, Positions, RecordRow, Records};
+
+#[derive(Clone, Copy, Debug, PartialEq, Eq)]
+pub enum Reply {
+    Booked { rows: i64, residual: i64 },
+    ClosingError { excess: i64 },
+    Lineage { price: i64, links: i64 },
+    Refused { number: i64, place: i64 },
+}
+
+struct Refusal {
+    number: i64,
+    place: usize,
+}
+
+type Outcome = Result<Reply, Refusal>;
+
+fn refuse_if(applies: bool, number: i64) -> Result<(), Refusal> {
+    if applies {
+        Err(Refusal { number, place: 0 })
+    } else {
+        Ok(())
+    }
+}
+
+/// Refuses at the first place of the list where the test applies.
+fn refuse_each<T>(list: &[T], number: i64, applies: impl Fn(&T) -> bool) -> Result<(), Refusal> {
+    match list.iter().position(applies) {
+        Some(place) => Err(Refusal { number, place }),
+        None => Ok(()),
+    }
+}
+
+fn answer(outcome: Outcome) -> Reply {
+    outcome.unwrap_or_else(|refusal| Reply::Refused { number: refusal.number, place: refusal.place as i64 })
+}
+
+// The cells of a records row.
+const ID: usize = 0;
+const SUFFIX: usize = 1;
+const PARENT: usize = 2;
+const KIND: usize = 3;
+const STATUS: usize = 4;
+const ACCOUNT: usize = 5;
+const SERIES: usize = 6;
+const SIDE: usize = 7;
+const QUANTITY: usize = 8;
+const PRICE: usize = 9;
+const LONG: usize = 10;
+const SHORT: usize = 11;
+const INTO: usize = 12;
+
+const ADJUSTABLE: i64 = 0;
+const ADJUSTED: i64 = 1;
+const INVERSE: i64 = 2;
+
+const ORIGINAL: i64 = 0;
+const TRANSFER: i64 = 4;
+const SEPARATION: i64 = 6;
+const CLOSING_ERROR: i64 = 10;
+const MERGE: i64 = 901;
+
+const BUY_OPEN: i64 = 1;
+const SELL_OPEN: i64 = 2;
+const BUY_CLOSE: i64 = 3;
+
+const GREATEST_SUFFIX: i64 = 65_535;
+const MOST_QUANTITY: i64 = 1_000_000;
+const MOST_PRICE: i64 = 1_000_000_000_000;
+const MOST_HELD: i64 = 1_000_000_000_000;
+const MOST_CASH: i64 = 1_000_000_000_000_000;
+
+fn is_id(z: i64) -> bool {
+    (1..=999_999_999).contains(&z)
+}
+
+fn is_suffix(z: i64) -> bool {
+    (0..=GREATEST_SUFFIX).contains(&z)
+}
+
+fn is_account(z: i64) -> bool {
+    (1..=9_999).contains(&z)
+}
+
+fn is_series(z: i64) -> bool {
+    (1..=999_999).contains(&z)
+}
+
+fn is_quantity(z: i64) -> bool {
+    (1..=MOST_QUANTITY).contains(&z)
+}
+
+fn is_price(z: i64) -> bool {
+    (-MOST_PRICE..=MOST_PRICE).contains(&z)
+}
+
+fn is_sound_record(row: &RecordRow) -> bool {
+    let [id, suffix, parent, kind, status, account, series, side, quantity, price, long, short, into] = *row;
+    is_id(id)
+        && is_suffix(suffix)
+        && is_suffix(parent)
+        && (parent < suffix || (parent == 0 && suffix == 0))
+        && matches!(kind, ORIGINAL | TRANSFER | SEPARATION | CLOSING_ERROR | MERGE)
+        && is_account(account)
+        && is_series(series)
+        && (1..=4).contains(&side)
+        && match status {
+            ADJUSTABLE | ADJUSTED => is_quantity(quantity),
+            INVERSE => (-MOST_QUANTITY..=-1).contains(&quantity),
+            _ => false,
+        }
+        && is_price(price)
+        && (-MOST_QUANTITY..=MOST_QUANTITY).contains(&long)
+        && (-MOST_QUANTITY..=MOST_QUANTITY).contains(&short)
+        && (into == 0 || is_id(into))
+}
+
+fn is_sound_position(row: &PositionRow) -> bool {
+    let [_, _, long, short, cash] = *row;
+    (0..=MOST_HELD).contains(&long) && (0..=MOST_HELD).contains(&short) && (-MOST_CASH..=MOST_CASH).contains(&cash)
+}
+
+const RECORDS_ROOM: usize = 4_096;
+const POSITIONS_ROOM: usize = 1_024;
+
+/// Tests 1 and 2.
+fn open<'a>(records: &'a mut [i64], positions: &'a mut [i64]) -> Result<(Records<'a>, Positions<'a>), Refusal> {
+    let records = Records::open(records, RECORDS_ROOM, is_sound_record).ok_or(Refusal { number: 1, place: 0 })?;
+    let positions = Positions::open(positions, POSITIONS_ROOM, is_sound_position).ok_or(Refusal { number: 2, place: 0 })?;
+    Ok((records, positions))
+}
+
+/// Tests 5 to 7 of a request that names one record: its place in the table, and a copy of it.
+fn named(records: &Records, id: i64, suffix: i64, account: i64, series: i64) -> Result<(usize, RecordRow), Refusal> {
+    let at = records.find(id, suffix).map_err(|_| Refusal { number: 5, place: 0 })?;
+    let row = records.rows()[at];
+    refuse_if(row[ACCOUNT] != account || row[SERIES] != series, 6)?;
+    refuse_if(row[STATUS] != ADJUSTABLE, 7)?;
+    Ok((at, row))
+}
+
+fn is_to_close(row: &RecordRow) -> bool {
+    row[SIDE] > SELL_OPEN
+}
+
+/// Where the rows of an id end, and the suffix of the last one.
+fn end_of(records: &Records, id: i64) -> (usize, i64) {
+    let end = records.find(id + 1, i64::MIN).unwrap_or_else(|place| place);
+    (end, records.rows()[end - 1][SUFFIX])
+}
+
+#[allow(clippy::too_many_arguments)]
+pub fn trade(records: &mut [i64], positions: &mut [i64], id: i64, account: i64, series: i64, side: i64, quantity: i64, price: i64) -> Reply {
+    answer(try_trade(records, positions, id, account, series, side, quantity, price))
+}
+
+#[allow(clippy::too_many_arguments)]
+fn try_trade(records: &mut [i64], positions: &mut [i64], id: i64, account: i64, series: i64, side: i64, quantity: i64, price: i64) -> Outcome {
+    let (mut records, mut positions) = open(records, positions)?;
+    let valid = is_id(id) && is_account(account) && is_series(series) && (1..=4).contains(&side) && is_quantity(quantity) && is_price(price);
+    refuse_if(!valid, 3)?;
+    let place = records.find(id, i64::MIN).unwrap_or_else(|place| place);
+    refuse_if(records.rows().get(place).is_some_and(|row| row[ID] == id), 4)?;
+    refuse_if(records.is_full(1), 14)?;
+    let held = positions.find(account, series);
+    refuse_if(held.is_err() && positions.is_full(1), 15)?;
+
+    let mut position = positions.row_or_zeros(held, account, series);
+    let (long, short) = match side {
+        BUY_OPEN => (quantity, 0),
+        SELL_OPEN => (0, quantity),
+        BUY_CLOSE => {
+            let closed = quantity.min(position[3]);
+            (quantity - closed, -closed)
+        }
+        _ => {
+            let closed = quantity.min(position[2]);
+            (-closed, quantity - closed)
+        }
+    };
+    position[2] += long;
+    position[3] += short;
+    refuse_if(!is_sound_position(&position), 16)?;
+
+    let excess = if side < BUY_CLOSE { 0 } else { long.max(short) };
+    let kind = if excess > 0 { CLOSING_ERROR } else { ORIGINAL };
+    records.insert(place, [id, 0, 0, kind, ADJUSTABLE, account, series, side, quantity, price, long, short, 0]);
+    positions.put(held, position);
+    Ok(if excess > 0 { Reply::ClosingError { excess } } else { Reply::Booked { rows: 1, residual: 0 } })
+}
+
+pub fn separate(records: &mut [i64], positions: &mut [i64], id: i64, suffix: i64, account: i64, series: i64, parts: &[i64]) -> Reply {
+    answer(try_separate(records, positions, id, suffix, account, series, parts))
+}
+
+fn try_separate(records: &mut [i64], positions: &mut [i64], id: i64, suffix: i64, account: i64, series: i64, parts: &[i64]) -> Outcome {
+    let (mut records, _) = open(records, positions)?;
+    let valid = is_id(id)
+        && is_suffix(suffix)
+        && is_account(account)
+        && is_series(series)
+        && (2..=1_000).contains(&parts.len())
+        && parts.iter().all(|&part| is_quantity(part));
+    refuse_if(!valid, 3)?;
+    let (at, mut row) = named(&records, id, suffix, account, series)?;
+    refuse_if(parts.iter().sum::<i64>() != row[QUANTITY], 11)?;
+    let added = parts.len() + 1;
+    let (end, greatest) = end_of(&records, id);
+    refuse_if(greatest + added as i64 > GREATEST_SUFFIX, 13)?;
+    refuse_if(records.is_full(added), 14)?;
+
+    records.rows_mut()[at][STATUS] = ADJUSTED;
+    row[PARENT] = suffix;
+    row[KIND] = SEPARATION;
+    row[LONG] = 0;
+    row[SHORT] = 0;
+    row[INTO] = 0;
+    let gap = records.open_gap(end, added);
+    for (k, place) in gap.iter_mut().enumerate() {
+        row[SUFFIX] = greatest + 1 + k as i64;
+        (row[STATUS], row[QUANTITY]) = match k {
+            0 => (INVERSE, -row[QUANTITY]),
+            _ => (ADJUSTABLE, parts[k - 1]),
+        };
+        *place = row;
+    }
+    Ok(Reply::Booked { rows: added as i64, residual: 0 })
+}
+
+pub fn transfer(records: &mut [i64], positions: &mut [i64], id: i64, suffix: i64, from: i64, to: i64, series: i64) -> Reply {
+    answer(try_transfer(records, positions, id, suffix, from, to, series))
+}
+
+fn try_transfer(records: &mut [i64], positions: &mut [i64], id: i64, suffix: i64, from: i64, to: i64, series: i64) -> Outcome {
+    let (mut records, mut positions) = open(records, positions)?;
+    let valid = is_id(id) && is_suffix(suffix) && is_account(from) && is_account(to) && is_series(series) && from != to;
+    refuse_if(!valid, 3)?;
+    let (at, mut row) = named(&records, id, suffix, from, series)?;
+    refuse_if(is_to_close(&row), 8)?;
+    let quantity = row[QUANTITY];
+    // The moved cell of a position row: its long for a buy, its short for a sell.
+    let cell = if row[SIDE] == BUY_OPEN { 2 } else { 3 };
+    let old = positions.find(from, series);
+    let mut giver = positions.row_or_zeros(old, from, series);
+    refuse_if(giver[cell] < quantity, 12)?;
+    let (end, greatest) = end_of(&records, id);
+    refuse_if(greatest + 2 > GREATEST_SUFFIX, 13)?;
+    refuse_if(records.is_full(2), 14)?;
+    let new = positions.find(to, series);
+    refuse_if(new.is_err() && positions.is_full(1), 15)?;
+    let mut taker = positions.row_or_zeros(new, to, series);
+    giver[cell] -= quantity;
+    taker[cell] += quantity;
+    refuse_if(!is_sound_position(&taker), 16)?;
+
+    records.rows_mut()[at][STATUS] = ADJUSTED;
+    (row[LONG], row[SHORT]) = if cell == 2 { (quantity, 0) } else { (0, quantity) };
+    row[SUFFIX] = greatest + 1;
+    row[PARENT] = suffix;
+    row[KIND] = TRANSFER;
+    row[INTO] = 0;
+    let gap = records.open_gap(end, 2);
+    gap[1] = row;
+    gap[1][SUFFIX] += 1;
+    gap[1][ACCOUNT] = to;
+    gap[0] = row;
+    gap[0][STATUS] = INVERSE;
+    gap[0][QUANTITY] = -quantity;
+    gap[0][LONG] = -row[LONG];
+    gap[0][SHORT] = -row[SHORT];
+    // The old account's row first: it is there, since it holds the quantity, and writing it moves no row.
+    positions.put(old, giver);
+    positions.put(new, taker);
+    Ok(Reply::Booked { rows: 2, residual: 0 })
+}
+
+pub fn merge(records: &mut [i64], positions: &mut [i64], id: i64, account: i64, series: i64, pairs: &[i64]) -> Reply {
+    answer(try_merge(records, positions, id, account, series, pairs))
+}
+
+fn try_merge(records: &mut [i64], positions: &mut [i64], id: i64, account: i64, series: i64, pairs: &[i64]) -> Outcome {
+    let (mut records, mut positions) = open(records, positions)?;
+    let (sources, odd) = pairs.as_chunks::<2>();
+    let valid = is_id(id)
+        && is_account(account)
+        && is_series(series)
+        && odd.is_empty()
+        && (2..=1_000).contains(&sources.len())
+        && sources.iter().all(|pair| is_id(pair[0]) && is_suffix(pair[1]));
+    refuse_if(!valid, 3)?;
+    let place = records.find(id, i64::MIN).unwrap_or_else(|place| place);
+    refuse_if(records.rows().get(place).is_some_and(|row| row[ID] == id), 4)?;
+    let rows = sources
+        .iter()
+        .enumerate()
+        .map(|(place, pair)| records.find(pair[0], pair[1]).map_err(|_| Refusal { number: 5, place }))
+        .collect::<Result<Vec<usize>, Refusal>>()?;
+    let row = |at: usize| &records.rows()[at];
+    refuse_each(&rows, 6, |&at| row(at)[ACCOUNT] != account || row(at)[SERIES] != series)?;
+    refuse_each(&rows, 7, |&at| row(at)[STATUS] != ADJUSTABLE)?;
+    refuse_each(&rows, 8, |&at| is_to_close(row(at)))?;
+    if let Some(place) = (0..rows.len()).find(|&k| rows[..k].contains(&rows[k])) {
+        return Err(Refusal { number: 9, place });
+    }
+    let side = row(rows[0])[SIDE];
+    refuse_each(&rows, 10, |&at| row(at)[SIDE] != side)?;
+    let quantity: i64 = rows.iter().map(|&at| row(at)[QUANTITY]).sum();
+    refuse_if(quantity > MOST_QUANTITY, 11)?;
+    refuse_if(overflows_suffixes(&records, sources), 13)?;
+    refuse_if(records.is_full(sources.len() + 1), 14)?;
+    let held = positions.find(account, series);
+    refuse_if(held.is_err() && positions.is_full(1), 15)?;
+    let value: i64 = rows.iter().map(|&at| row(at)[QUANTITY] * row(at)[PRICE]).sum();
+    let average = (2 * value + quantity).div_euclid(2 * quantity);
+    let over = quantity * average - value;
+    let residual = if side == BUY_OPEN { over } else { -over };
+    let mut position = positions.row_or_zeros(held, account, series);
+    position[4] += residual;
+    refuse_if(!is_sound_position(&position), 16)?;
+
+    for pair in sources {
+        let at = records.find(pair[0], pair[1]).unwrap_or_else(|place| place);
+        let (end, greatest) = end_of(&records, pair[0]);
+        let row = &mut records.rows_mut()[at];
+        row[STATUS] = ADJUSTED;
+        let mut inverse = *row;
+        inverse[SUFFIX] = greatest + 1;
+        inverse[PARENT] = pair[1];
+        inverse[KIND] = MERGE;
+        inverse[STATUS] = INVERSE;
+        inverse[QUANTITY] = -inverse[QUANTITY];
+        inverse[LONG] = 0;
+        inverse[SHORT] = 0;
+        inverse[INTO] = id;
+        records.insert(end, inverse);
+    }
+    let place = records.find(id, 0).unwrap_or_else(|place| place);
+    records.insert(place, [id, 0, 0, MERGE, ADJUSTABLE, account, series, side, quantity, average, 0, 0, 0]);
+    positions.put(held, position);
+    Ok(Reply::Booked { rows: sources.len() as i64 + 1, residual })
+}
+
+/// Whether the inverse rows of some id's sources would need a suffix above the greatest.
+fn overflows_suffixes(records: &Records, sources: &[[i64; 2]]) -> bool {
+    sources.iter().any(|&[id, _]| {
+        let (_, greatest) = end_of(records, id);
+        // Only an id near the end of its suffixes asks how many sources share it.
+        greatest + sources.len() as i64 > GREATEST_SUFFIX && {
+            let sharing = sources.iter().filter(|pair| pair[0] == id).count();
+            greatest + sharing as i64 > GREATEST_SUFFIX
+        }
+    })
+}
+
+pub fn lineage(records: &[i64], id: i64, suffix: i64) -> Reply {
+    answer(try_lineage(records, id, suffix))
+}
+
+fn try_lineage(records: &[i64], id: i64, suffix: i64) -> Outcome {
+    let rows = sound_rows(records, RECORDS_ROOM, is_sound_record).ok_or(Refusal { number: 1, place: 0 })?;
+    refuse_if(!is_id(id) || !is_suffix(suffix), 3)?;
+    let mut at = suffix;
+    for links in 0.. {
+        let place = rows.binary_search_by_key(&(id, at), |row| (row[ID], row[SUFFIX])).map_err(|_| Refusal { number: 5, place: 0 })?;
+        if at == 0 {
+            return Ok(Reply::Lineage { price: rows[place][PRICE], links });
+        }
+        at = rows[place][PARENT];
+    }
+    unreachable!("a parent is below its suffix")
+}

@@ -1,0 +1,98 @@
+//! A lent table: cell 0 is the row count, the rows follow, sorted by their first two cells.
+
+pub type RecordRow = [i64; 13];
+pub type PositionRow = [i64; 5];
+pub type Records<'a> = Table<'a, 13>;
+pub type Positions<'a> = Table<'a, 5>;
+
+/// The rows that cell 0 counts, where the table is sound: one pass over them.
+pub fn sound_rows<const W: usize>(cells: &[i64], most: usize, is_sound: impl Fn(&[i64; W]) -> bool) -> Option<&[[i64; W]]> {
+    let (count, cells) = cells.split_first()?;
+    let (rows, _) = cells.as_chunks::<W>();
+    let count = usize::try_from(*count).ok()?;
+    if count > rows.len().min(most) {
+        return None;
+    }
+    let rows = &rows[..count];
+    let mut last: Option<&[i64; W]> = None;
+    for row in rows {
+        let rises = last.is_none_or(|last| (last[0], last[1]) < (row[0], row[1]));
+        if !rises || !is_sound(row) {
+            return None;
+        }
+        last = Some(row);
+    }
+    Some(rows)
+}
+
+/// A sound table that may be written: its count, and the rows that it has room for.
+pub struct Table<'a, const W: usize> {
+    count: &'a mut i64,
+    rows: &'a mut [[i64; W]],
+}
+
+impl<'a, const W: usize> Table<'a, W> {
+    pub fn open(cells: &'a mut [i64], most: usize, is_sound: impl Fn(&[i64; W]) -> bool) -> Option<Self> {
+        sound_rows(cells, most, is_sound)?;
+        let (count, cells) = cells.split_first_mut()?;
+        let (rows, _) = cells.as_chunks_mut::<W>();
+        let room = rows.len().min(most);
+        Some(Table { count, rows: &mut rows[..room] })
+    }
+
+    fn len(&self) -> usize {
+        *self.count as usize
+    }
+
+    /// Whether so many more rows find no room.
+    pub fn is_full(&self, more: usize) -> bool {
+        self.len() + more > self.rows.len()
+    }
+
+    pub fn rows(&self) -> &[[i64; W]] {
+        &self.rows[..self.len()]
+    }
+
+    pub fn rows_mut(&mut self) -> &mut [[i64; W]] {
+        let len = self.len();
+        &mut self.rows[..len]
+    }
+
+    /// The place of the row with that key, or the place where it would go.
+    pub fn find(&self, major: i64, minor: i64) -> Result<usize, usize> {
+        self.rows().binary_search_by_key(&(major, minor), |row| (row[0], row[1]))
+    }
+
+    /// Moves the rows from `at` on up by `more` rows, and lends the gap.
+    pub fn open_gap(&mut self, at: usize, more: usize) -> &mut [[i64; W]] {
+        let len = self.len();
+        self.rows.copy_within(at..len, at + more);
+        *self.count += more as i64;
+        &mut self.rows[at..at + more]
+    }
+
+    pub fn insert(&mut self, at: usize, row: [i64; W]) {
+        self.open_gap(at, 1)[0] = row;
+    }
+
+    /// The row at a place that `find` gave, or a row of that key with zeros.
+    pub fn row_or_zeros(&self, found: Result<usize, usize>, major: i64, minor: i64) -> [i64; W] {
+        match found {
+            Ok(at) => self.rows[at],
+            Err(_) => {
+                let mut row = [0; W];
+                row[0] = major;
+                row[1] = minor;
+                row
+            }
+        }
+    }
+
+    /// Writes a row at the place that `find` gave for its key.
+    pub fn put(&mut self, found: Result<usize, usize>, row: [i64; W]) {
+        match found {
+            Ok(at) => self.rows[at] = row,
+            Err(at) => self.insert(at, row),
+        }
+    }
+}

@@ -1,0 +1,409 @@
+//! The same book kept in SQLite, in memory: the two tables as SQL tables, a transaction for each request, prepared statements. SQLite keeps the rows
+//! sound by CHECK constraints and finds them by their keys; its tables have no room, so 14 and 15 are not tested.
+//!
+//! The library is opened at run time, where it is installed.
+
+use crate::request::{Coded, Request, REFUSED};
+use std::ffi::{c_char, c_int, c_void, CStr, CString};
+
+extern "C" {
+    fn dlopen(name: *const c_char, flags: c_int) -> *mut c_void;
+    fn dlsym(library: *mut c_void, name: *const c_char) -> *mut c_void;
+}
+
+type Connection = *mut c_void;
+type Statement = *mut c_void;
+
+struct Library {
+    open: unsafe extern "C" fn(*const c_char, *mut Connection) -> c_int,
+    prepare: unsafe extern "C" fn(Connection, *const c_char, c_int, *mut Statement, *mut *const c_char) -> c_int,
+    bind: unsafe extern "C" fn(Statement, c_int, i64) -> c_int,
+    step: unsafe extern "C" fn(Statement) -> c_int,
+    reset: unsafe extern "C" fn(Statement) -> c_int,
+    column: unsafe extern "C" fn(Statement, c_int) -> i64,
+    column_type: unsafe extern "C" fn(Statement, c_int) -> c_int,
+    changes: unsafe extern "C" fn(Connection) -> c_int,
+    message: unsafe extern "C" fn(Connection) -> *const c_char,
+    version: unsafe extern "C" fn() -> *const c_char,
+}
+
+const RESOLVE_NOW: c_int = 2;
+const ROW: c_int = 100;
+const DONE: c_int = 101;
+const NULL: c_int = 5;
+
+impl Library {
+    fn load() -> Option<Library> {
+        unsafe {
+            let library = [c"libsqlite3.so.0", c"libsqlite3.so"].iter().map(|name| dlopen(name.as_ptr(), RESOLVE_NOW)).find(|found| !found.is_null())?;
+            let symbol = |name: &CStr| {
+                let found = dlsym(library, name.as_ptr());
+                (!found.is_null()).then_some(found)
+            };
+            use std::mem::transmute as as_function;
+            Some(Library {
+                open: as_function::<*mut c_void, unsafe extern "C" fn(*const c_char, *mut Connection) -> c_int>(symbol(c"sqlite3_open")?),
+                prepare: as_function::<*mut c_void, unsafe extern "C" fn(Connection, *const c_char, c_int, *mut Statement, *mut *const c_char) -> c_int>(
+                    symbol(c"sqlite3_prepare_v2")?,
+                ),
+                bind: as_function::<*mut c_void, unsafe extern "C" fn(Statement, c_int, i64) -> c_int>(symbol(c"sqlite3_bind_int64")?),
+                step: as_function::<*mut c_void, unsafe extern "C" fn(Statement) -> c_int>(symbol(c"sqlite3_step")?),
+                reset: as_function::<*mut c_void, unsafe extern "C" fn(Statement) -> c_int>(symbol(c"sqlite3_reset")?),
+                column: as_function::<*mut c_void, unsafe extern "C" fn(Statement, c_int) -> i64>(symbol(c"sqlite3_column_int64")?),
+                column_type: as_function::<*mut c_void, unsafe extern "C" fn(Statement, c_int) -> c_int>(symbol(c"sqlite3_column_type")?),
+                changes: as_function::<*mut c_void, unsafe extern "C" fn(Connection) -> c_int>(symbol(c"sqlite3_changes")?),
+                message: as_function::<*mut c_void, unsafe extern "C" fn(Connection) -> *const c_char>(symbol(c"sqlite3_errmsg")?),
+                version: as_function::<*mut c_void, unsafe extern "C" fn() -> *const c_char>(symbol(c"sqlite3_libversion")?),
+            })
+        }
+    }
+}
+
+const RECORDS: &str = "CREATE TABLE records (
+    id INTEGER NOT NULL CHECK (id BETWEEN 1 AND 999999999),
+    suffix INTEGER NOT NULL CHECK (suffix BETWEEN 0 AND 65535),
+    parent INTEGER NOT NULL CHECK (parent BETWEEN 0 AND 65535),
+    type INTEGER NOT NULL CHECK (type IN (0, 4, 6, 10, 901)),
+    status INTEGER NOT NULL CHECK (status BETWEEN 0 AND 2),
+    account INTEGER NOT NULL CHECK (account BETWEEN 1 AND 9999),
+    series INTEGER NOT NULL CHECK (series BETWEEN 1 AND 999999),
+    side INTEGER NOT NULL CHECK (side BETWEEN 1 AND 4),
+    quantity INTEGER NOT NULL CHECK (quantity <> 0 AND quantity BETWEEN -1000000 AND 1000000),
+    price INTEGER NOT NULL CHECK (price BETWEEN -1000000000000 AND 1000000000000),
+    long INTEGER NOT NULL CHECK (long BETWEEN -1000000 AND 1000000),
+    short INTEGER NOT NULL CHECK (short BETWEEN -1000000 AND 1000000),
+    into_id INTEGER NOT NULL CHECK (into_id BETWEEN 0 AND 999999999),
+    PRIMARY KEY (id, suffix),
+    CHECK ((quantity < 0) = (status = 2)),
+    CHECK (parent < suffix OR (parent = 0 AND suffix = 0))
+) WITHOUT ROWID";
+
+const POSITIONS: &str = "CREATE TABLE positions (
+    account INTEGER NOT NULL,
+    series INTEGER NOT NULL,
+    long INTEGER NOT NULL CHECK (long BETWEEN 0 AND 1000000000000),
+    short INTEGER NOT NULL CHECK (short BETWEEN 0 AND 1000000000000),
+    cash INTEGER NOT NULL CHECK (cash BETWEEN -1000000000000000 AND 1000000000000000),
+    PRIMARY KEY (account, series)
+) WITHOUT ROWID";
+
+pub struct SqlBook {
+    library: Library,
+    connection: Connection,
+    begin: Statement,
+    commit: Statement,
+    rollback: Statement,
+    has_id: Statement,
+    greatest: Statement,
+    record: Statement,
+    add: Statement,
+    adjust: Statement,
+    position: Statement,
+    make_position: Statement,
+    move_position: Statement,
+    all_records: Statement,
+    all_positions: Statement,
+    clear_records: Statement,
+    clear_positions: Statement,
+}
+
+/// parent to into, as in a records row from cell 2 on
+type Record = [i64; 11];
+
+enum Stop {
+    Refused(i64, usize),
+}
+
+impl SqlBook {
+    /// A book in memory, where SQLite is installed.
+    pub fn open() -> Option<SqlBook> {
+        let library = Library::load()?;
+        let mut connection = std::ptr::null_mut();
+        let opened = unsafe { (library.open)(c":memory:".as_ptr(), &mut connection) };
+        assert_eq!(opened, 0, "SQLite opens no database in memory");
+        let mut book = SqlBook {
+            library,
+            connection,
+            begin: std::ptr::null_mut(),
+            commit: std::ptr::null_mut(),
+            rollback: std::ptr::null_mut(),
+            has_id: std::ptr::null_mut(),
+            greatest: std::ptr::null_mut(),
+            record: std::ptr::null_mut(),
+            add: std::ptr::null_mut(),
+            adjust: std::ptr::null_mut(),
+            position: std::ptr::null_mut(),
+            make_position: std::ptr::null_mut(),
+            move_position: std::ptr::null_mut(),
+            all_records: std::ptr::null_mut(),
+            all_positions: std::ptr::null_mut(),
+            clear_records: std::ptr::null_mut(),
+            clear_positions: std::ptr::null_mut(),
+        };
+        for table in [RECORDS, POSITIONS] {
+            let create = book.prepare(table);
+            book.run(create, &[]);
+        }
+        book.begin = book.prepare("BEGIN IMMEDIATE");
+        book.commit = book.prepare("COMMIT");
+        book.rollback = book.prepare("ROLLBACK");
+        book.has_id = book.prepare("SELECT 1 FROM records WHERE id = ?1 LIMIT 1");
+        book.greatest = book.prepare("SELECT max(suffix) FROM records WHERE id = ?1");
+        book.record = book
+            .prepare("SELECT parent, type, status, account, series, side, quantity, price, long, short, into_id FROM records WHERE id = ?1 AND suffix = ?2");
+        book.add = book.prepare("INSERT INTO records VALUES (?1, ?2, ?3, ?4, ?5, ?6, ?7, ?8, ?9, ?10, ?11, ?12, ?13)");
+        book.adjust = book.prepare("UPDATE records SET status = 1 WHERE id = ?1 AND suffix = ?2");
+        book.position = book.prepare("SELECT long, short, cash FROM positions WHERE account = ?1 AND series = ?2");
+        book.make_position = book.prepare("INSERT OR IGNORE INTO positions VALUES (?1, ?2, 0, 0, 0)");
+        book.move_position = book.prepare("UPDATE positions SET long = long + ?3, short = short + ?4, cash = cash + ?5 WHERE account = ?1 AND series = ?2");
+        book.all_records = book.prepare("SELECT * FROM records ORDER BY id, suffix");
+        book.all_positions = book.prepare("SELECT * FROM positions ORDER BY account, series");
+        book.clear_records = book.prepare("DELETE FROM records");
+        book.clear_positions = book.prepare("DELETE FROM positions");
+        Some(book)
+    }
+
+    pub fn version(&self) -> String {
+        unsafe { CStr::from_ptr((self.library.version)()).to_string_lossy().into_owned() }
+    }
+
+    fn prepare(&self, sql: &str) -> Statement {
+        let text = CString::new(sql).expect("no zero byte");
+        let mut statement = std::ptr::null_mut();
+        let result = unsafe { (self.library.prepare)(self.connection, text.as_ptr(), -1, &mut statement, std::ptr::null_mut()) };
+        assert_eq!(result, 0, "{sql}: {}", self.message());
+        statement
+    }
+
+    fn message(&self) -> String {
+        unsafe { CStr::from_ptr((self.library.message)(self.connection)).to_string_lossy().into_owned() }
+    }
+
+    fn bind(&self, statement: Statement, figures: &[i64]) {
+        for (k, figure) in figures.iter().enumerate() {
+            unsafe { (self.library.bind)(statement, k as c_int + 1, *figure) };
+        }
+    }
+
+    /// Runs a statement that answers no row; false where a constraint stops it.
+    fn run(&self, statement: Statement, figures: &[i64]) -> bool {
+        self.bind(statement, figures);
+        let result = unsafe { (self.library.step)(statement) };
+        unsafe { (self.library.reset)(statement) };
+        result == DONE
+    }
+
+    /// The first row of a query.
+    fn row<const N: usize>(&self, statement: Statement, figures: &[i64]) -> Option<[i64; N]> {
+        self.bind(statement, figures);
+        let result = unsafe { (self.library.step)(statement) };
+        let row = (result == ROW && unsafe { (self.library.column_type)(statement, 0) } != NULL)
+            .then(|| std::array::from_fn(|k| unsafe { (self.library.column)(statement, k as c_int) }));
+        unsafe { (self.library.reset)(statement) };
+        row
+    }
+
+    fn rows(&self, statement: Statement, width: usize) -> Vec<i64> {
+        let mut cells = vec![0];
+        while unsafe { (self.library.step)(statement) } == ROW {
+            cells.extend((0..width).map(|k| unsafe { (self.library.column)(statement, k as c_int) }));
+            cells[0] += 1;
+        }
+        unsafe { (self.library.reset)(statement) };
+        cells
+    }
+
+    /// The count and the rows of both tables, as the lent tables have them.
+    pub fn cells(&self) -> (Vec<i64>, Vec<i64>) {
+        (self.rows(self.all_records, 13), self.rows(self.all_positions, 5))
+    }
+
+    pub fn clear(&mut self) {
+        assert!(self.run(self.clear_records, &[]) && self.run(self.clear_positions, &[]), "{}", self.message());
+    }
+
+    /// One request in a transaction of its own.
+    pub fn handle(&mut self, request: &Request) -> Coded {
+        self.run(self.begin, &[]);
+        let outcome = match request {
+            Request::Trade { id, account, series, side, quantity, price } => self.trade(*id, *account, *series, *side, *quantity, *price),
+            Request::Separate { id, suffix, account, series, parts } => self.separate(*id, *suffix, *account, *series, parts),
+            Request::Transfer { id, suffix, from, to, series } => self.transfer(*id, *suffix, *from, *to, *series),
+            Request::Merge { id, account, series, pairs } => self.merge(*id, *account, *series, pairs),
+            Request::Lineage { id, suffix } => self.lineage(*id, *suffix),
+        };
+        match outcome {
+            Ok(answer) => {
+                self.run(self.commit, &[]);
+                answer
+            }
+            Err(Stop::Refused(number, place)) => {
+                self.run(self.rollback, &[]);
+                Coded { kind: REFUSED, first: number, second: place as i64 }
+            }
+        }
+    }
+
+    fn find(&self, id: i64, suffix: i64, place: usize) -> Result<Record, Stop> {
+        self.row(self.record, &[id, suffix]).ok_or(Stop::Refused(5, place))
+    }
+
+    fn next_suffix(&self, id: i64) -> i64 {
+        self.row::<1>(self.greatest, &[id]).map_or(0, |row| row[0] + 1)
+    }
+
+    fn add_record(&self, id: i64, suffix: i64, row: Record) -> Result<(), Stop> {
+        let mut cells = [0; 13];
+        cells[0] = id;
+        cells[1] = suffix;
+        cells[2..].copy_from_slice(&row);
+        refuse_if(!self.run(self.add, &cells), 13, 0)
+    }
+
+    fn move_by(&self, account: i64, series: i64, long: i64, short: i64, cash: i64) -> Result<(), Stop> {
+        let key = [account, series];
+        let delta = [account, series, long, short, cash];
+        if self.run(self.move_position, &delta) && unsafe { (self.library.changes)(self.connection) } == 0 {
+            self.run(self.make_position, &key);
+            return refuse_if(!self.run(self.move_position, &delta), 16, 0);
+        }
+        Ok(())
+    }
+
+    fn held(&self, account: i64, series: i64) -> [i64; 3] {
+        self.row(self.position, &[account, series]).unwrap_or([0; 3])
+    }
+
+    fn trade(&self, id: i64, account: i64, series: i64, side: i64, quantity: i64, price: i64) -> Result<Coded, Stop> {
+        let valid = is_in(id, 1, 999_999_999)
+            && is_in(account, 1, 9_999)
+            && is_in(series, 1, 999_999)
+            && is_in(side, 1, 4)
+            && is_in(quantity, 1, 1_000_000)
+            && is_in(price, -1_000_000_000_000, 1_000_000_000_000);
+        refuse_if(!valid, 3, 0)?;
+        refuse_if(self.row::<1>(self.has_id, &[id]).is_some(), 4, 0)?;
+        let [open_long, open_short, _] = self.held(account, series);
+        let (long, short, excess) = match side {
+            1 => (quantity, 0, 0),
+            2 => (0, quantity, 0),
+            3 => (quantity - quantity.min(open_short), -quantity.min(open_short), quantity - quantity.min(open_short)),
+            _ => (-quantity.min(open_long), quantity - quantity.min(open_long), quantity - quantity.min(open_long)),
+        };
+        let kind = if excess > 0 { 10 } else { 0 };
+        self.move_by(account, series, long, short, 0)?;
+        self.add_record(id, 0, [0, kind, 0, account, series, side, quantity, price, long, short, 0])?;
+        Ok(if excess > 0 { Coded { kind: 1, first: excess, second: 0 } } else { Coded { kind: 0, first: 1, second: 0 } })
+    }
+
+    fn separate(&self, id: i64, suffix: i64, account: i64, series: i64, parts: &[i64]) -> Result<Coded, Stop> {
+        let valid = is_in(id, 1, 999_999_999)
+            && is_in(suffix, 0, 65_535)
+            && is_in(account, 1, 9_999)
+            && is_in(series, 1, 999_999)
+            && (2..=1_000).contains(&parts.len())
+            && parts.iter().all(|&part| is_in(part, 1, 1_000_000));
+        refuse_if(!valid, 3, 0)?;
+        let row = self.find(id, suffix, 0)?;
+        let [_, _, status, of_account, of_series, side, quantity, price, ..] = row;
+        refuse_if(of_account != account || of_series != series, 6, 0)?;
+        refuse_if(status != 0, 7, 0)?;
+        refuse_if(parts.iter().sum::<i64>() != quantity, 11, 0)?;
+        let next = self.next_suffix(id);
+        self.run(self.adjust, &[id, suffix]);
+        self.add_record(id, next, [suffix, 6, 2, account, series, side, -quantity, price, 0, 0, 0])?;
+        for (k, &part) in parts.iter().enumerate() {
+            self.add_record(id, next + 1 + k as i64, [suffix, 6, 0, account, series, side, part, price, 0, 0, 0])?;
+        }
+        Ok(Coded { kind: 0, first: 1 + parts.len() as i64, second: 0 })
+    }
+
+    fn transfer(&self, id: i64, suffix: i64, from: i64, to: i64, series: i64) -> Result<Coded, Stop> {
+        let valid = is_in(id, 1, 999_999_999) && is_in(suffix, 0, 65_535) && is_in(from, 1, 9_999) && is_in(to, 1, 9_999) && is_in(series, 1, 999_999);
+        refuse_if(!valid || from == to, 3, 0)?;
+        let row = self.find(id, suffix, 0)?;
+        let [_, _, status, account, of_series, side, quantity, price, ..] = row;
+        refuse_if(account != from || of_series != series, 6, 0)?;
+        refuse_if(status != 0, 7, 0)?;
+        refuse_if(side > 2, 8, 0)?;
+        let (long, short) = if side == 1 { (quantity, 0) } else { (0, quantity) };
+        let held = self.held(from, series);
+        refuse_if(held[side as usize - 1] < quantity, 12, 0)?;
+        let next = self.next_suffix(id);
+        self.run(self.adjust, &[id, suffix]);
+        self.add_record(id, next, [suffix, 4, 2, from, series, side, -quantity, price, -long, -short, 0])?;
+        self.add_record(id, next + 1, [suffix, 4, 0, to, series, side, quantity, price, long, short, 0])?;
+        self.move_by(from, series, -long, -short, 0)?;
+        self.move_by(to, series, long, short, 0)?;
+        Ok(Coded { kind: 0, first: 2, second: 0 })
+    }
+
+    fn merge(&self, id: i64, account: i64, series: i64, pairs: &[i64]) -> Result<Coded, Stop> {
+        let (sources, odd) = pairs.as_chunks::<2>();
+        let valid = is_in(id, 1, 999_999_999)
+            && is_in(account, 1, 9_999)
+            && is_in(series, 1, 999_999)
+            && odd.is_empty()
+            && (2..=1_000).contains(&sources.len())
+            && sources.iter().all(|&[id, suffix]| is_in(id, 1, 999_999_999) && is_in(suffix, 0, 65_535));
+        refuse_if(!valid, 3, 0)?;
+        refuse_if(self.row::<1>(self.has_id, &[id]).is_some(), 4, 0)?;
+        let mut rows = Vec::with_capacity(sources.len());
+        for (place, &[id, suffix]) in sources.iter().enumerate() {
+            rows.push(self.find(id, suffix, place)?);
+        }
+        refuse_each(&rows, 6, |row| row[3] != account || row[4] != series)?;
+        refuse_each(&rows, 7, |row| row[2] != 0)?;
+        refuse_each(&rows, 8, |row| row[5] > 2)?;
+        if let Some(place) = (0..sources.len()).find(|&k| sources[..k].contains(&sources[k])) {
+            return Err(Stop::Refused(9, place));
+        }
+        let side = rows[0][5];
+        refuse_each(&rows, 10, |row| row[5] != side)?;
+        let quantity: i64 = rows.iter().map(|row| row[6]).sum();
+        refuse_if(quantity > 1_000_000, 11, 0)?;
+        let value: i64 = rows.iter().map(|row| row[6] * row[7]).sum();
+        let average = (2 * value + quantity).div_euclid(2 * quantity);
+        let residual = (quantity * average - value) * if side == 1 { 1 } else { -1 };
+        for (&[of, suffix], row) in sources.iter().zip(&rows) {
+            self.run(self.adjust, &[of, suffix]);
+            self.add_record(of, self.next_suffix(of), [suffix, 901, 2, account, series, side, -row[6], row[7], 0, 0, id])?;
+        }
+        self.add_record(id, 0, [0, 901, 0, account, series, side, quantity, average, 0, 0, 0])?;
+        self.move_by(account, series, 0, 0, residual)?;
+        Ok(Coded { kind: 0, first: sources.len() as i64 + 1, second: residual })
+    }
+
+    fn lineage(&self, id: i64, suffix: i64) -> Result<Coded, Stop> {
+        refuse_if(!is_in(id, 1, 999_999_999) || !is_in(suffix, 0, 65_535), 3, 0)?;
+        let mut at = suffix;
+        let mut links = 0;
+        loop {
+            let row = self.find(id, at, 0)?;
+            if at == 0 {
+                return Ok(Coded { kind: 2, first: row[7], second: links });
+            }
+            at = row[0];
+            links += 1;
+        }
+    }
+}
+
+fn is_in(figure: i64, least: i64, most: i64) -> bool {
+    (least..=most).contains(&figure)
+}
+
+fn refuse_if(applies: bool, number: i64, place: usize) -> Result<(), Stop> {
+    if applies {
+        Err(Stop::Refused(number, place))
+    } else {
+        Ok(())
+    }
+}
+
+fn refuse_each(rows: &[Record], number: i64, applies: impl Fn(&Record) -> bool) -> Result<(), Stop> {
+    match rows.iter().position(applies) {
+        Some(place) => Err(Stop::Refused(number, place)),
+        None => Ok(()),
+    }
+}

@@ -1,0 +1,42 @@
+-- One step of the search by halving: the key of any row says on which side of it the place lies. By the keys that rise, read from the cells.
+-- Assumes nothing.
+use Prim.Native.Nat.{ℕ, _+_, _*_, _≤_, _<_}
+use mathlib.Core.Path.{_≡_, ap, _∙_}
+use mathlib.Core.Bool.{true, false}
+use mathlib.Core.List.{List}
+use native.Mathlib.Nat.{mul-le-mul-right}
+use native.Mathlib.Omega.{arith}
+use lib.IntN.{ℤ}
+use lib.ListN.{length, getD}
+use Rattle.rules.specs.Keyed.{Key, below}
+use Rattle.rules.specs.Layout.{decode}
+use Rattle.cells.proofs.Decode.{length-decode, getD-decode}
+use Rattle.lookup.specs.Lookup.{keyAt, rowPlace, keysRise}
+use Rattle.lookup.proofs.RisingKeys.{place-in, above-from-place, not-above-before}
+
+-- The key of a row lies within the table.
+pub row-within : (row count width cells : ℕ) → row < count → 2 ≤ width → 1 + count * width ≤ cells → 1 + row * width + 1 < cells
+row-within row count width cells h w fit = omega (arith, mul-le-mul-right width h)
+
+module _ (cells : List ℤ) (width count : ℕ) where
+
+  pub keys-count : length (decode keyAt width count 1 cells) ≡ count
+  keys-count = length-decode keyAt width count 1 cells
+
+  pub row-key : (row : ℕ) (other : Key) → row < count → getD (decode keyAt width count 1 cells) row other ≡ keyAt cells (1 + row * width)
+  row-key row other h = getD-decode keyAt width count 1 cells row other h
+
+  pub place-at-most : (k : Key) → rowPlace width k count cells ≤ count
+  place-at-most k = omega (arith, place-in k (decode keyAt width count 1 cells), keys-count)
+
+  module _ (k : Key) (row : ℕ) (h : row < count) where
+
+    -- The row's key, as the place's laws read it.
+    tested : below k (getD (decode keyAt width count 1 cells) row k) ≡ below k (keyAt cells (1 + row * width))
+    tested = ap (below k) (row-key row k h)
+
+    pub place-to : below k (keyAt cells (1 + row * width)) ≡ true → rowPlace width k count cells ≤ row
+    place-to s = above-from-place k (decode keyAt width count 1 cells) row k (tested ∙ s)
+
+    pub place-past : keysRise width count cells ≡ true → below k (keyAt cells (1 + row * width)) ≡ false → row < rowPlace width k count cells
+    place-past rises s = not-above-before (decode keyAt width count 1 cells) rises k row k (omega (arith, keys-count)) (tested ∙ s)

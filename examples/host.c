@@ -1,0 +1,87 @@
+/*
+ * A host: lends two tables, books document 01's worked example P11, and prints both tables and a refusal.
+ *
+ *     cc -std=c11 -Iinclude examples/host.c target/staticlib/libvelichundam.a -o host
+ */
+#include <inttypes.h>
+#include <stdio.h>
+
+#include "velichundam.h"
+
+#define RECORDS_LEN VELICHUNDAM_RECORDS_LEN(8)
+#define POSITIONS_LEN VELICHUNDAM_POSITIONS_LEN(4)
+
+static int64_t records[RECORDS_LEN];
+static int64_t positions[POSITIONS_LEN];
+
+static const char *why(int64_t number)
+{
+    switch (number) {
+    case VELICHUNDAM_RECORDS_NOT_SOUND: return "records table not sound";
+    case VELICHUNDAM_POSITIONS_NOT_SOUND: return "positions table not sound";
+    case VELICHUNDAM_OUT_OF_RANGE: return "a figure or a count is out of range";
+    case VELICHUNDAM_ID_TAKEN: return "the new id has a record";
+    case VELICHUNDAM_NO_RECORD: return "no such record";
+    case VELICHUNDAM_ELSEWHERE: return "another account or series";
+    case VELICHUNDAM_NOT_ADJUSTABLE: return "the record isn't adjustable";
+    case VELICHUNDAM_TO_CLOSE: return "the record is to close";
+    case VELICHUNDAM_TWICE: return "a pair stands twice in the list";
+    case VELICHUNDAM_OTHER_SIDE: return "the side differs";
+    case VELICHUNDAM_WRONG_SUM: return "the sum doesn't fit";
+    case VELICHUNDAM_NOT_HELD: return "the old account holds too little";
+    case VELICHUNDAM_NO_SUFFIX: return "no suffix is left";
+    case VELICHUNDAM_RECORDS_FULL: return "no room for the new records";
+    case VELICHUNDAM_POSITIONS_FULL: return "no room for the new positions";
+    case VELICHUNDAM_BEYOND_LIMIT: return "a position would leave its range";
+    default: return "unknown";
+    }
+}
+
+static void print_reply(const char *request, velichundam_reply r)
+{
+    printf("%s: ", request);
+    switch (r.kind) {
+    case VELICHUNDAM_BOOKED:
+        printf("booked, rows %" PRId64 ", residual %" PRId64 "\n", r.first, r.second);
+        break;
+    case VELICHUNDAM_CLOSING_ERROR:
+        printf("booked with a closing error, excess %" PRId64 "\n", r.first);
+        break;
+    case VELICHUNDAM_LINEAGE:
+        printf("price %" PRId64 ", links %" PRId64 "\n", r.first, r.second);
+        break;
+    default:
+        printf("refused, number %" PRId64 " (%s), place %" PRId64 "\n", r.first, why(r.first), r.second);
+    }
+}
+
+static void print_table(const char *title, const int64_t *table, size_t width)
+{
+    printf("\n%s: %" PRId64 " rows\n", title, table[0]);
+    for (size_t row = 0; row < (size_t)table[0]; row++) {
+        for (size_t cell = 0; cell < width; cell++)
+            printf("%s%" PRId64, cell == 0 ? "| " : " | ", table[1 + row * width + cell]);
+        printf(" |\n");
+    }
+}
+
+int main(void)
+{
+    const int64_t parts[] = {50, 25, 25};
+    const int64_t again[] = {60, 41};
+
+    print_reply("trade", velichundam_trade(records, RECORDS_LEN, positions, POSITIONS_LEN,
+        456789, 1, 1, VELICHUNDAM_BUY_OPEN, 100, 1250000000));
+    print_reply("transfer", velichundam_transfer(records, RECORDS_LEN, positions, POSITIONS_LEN, 456789, 0, 1, 2, 1));
+    print_reply("separation", velichundam_separate(records, RECORDS_LEN, positions, POSITIONS_LEN,
+        456789, 2, 2, 1, parts, sizeof parts / sizeof parts[0]));
+    print_reply("lineage of suffix 6", velichundam_lineage(records, RECORDS_LEN, 456789, 6));
+
+    print_table("records", records, VELICHUNDAM_RECORD_CELLS);
+    print_table("positions", positions, VELICHUNDAM_POSITION_CELLS);
+
+    printf("\n");
+    print_reply("separation again", velichundam_separate(records, RECORDS_LEN, positions, POSITIONS_LEN,
+        456789, 2, 2, 1, again, sizeof again / sizeof again[0]));
+    return 0;
+}

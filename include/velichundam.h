@@ -1,0 +1,218 @@
+/*
+ * velichundam.h - a transaction book for clearing back offices
+ *
+ * The book lives in two tables that the host owns and lends for the length of a call: plain arrays of signed 64-bit numbers. Nothing is
+ * allocated, nothing is kept between calls, and no call does input or output. Four requests book: trade, separation, account transfer and
+ * average-price merge. One question, lineage, only reads.
+ *
+ * Every call takes any tables of any length with any contents and any figures, and answers. A request that is refused changes nothing. What each
+ * call answers and what it leaves in every cell is proved of the code behind these functions (see crates/velichundam/src/lib.rt).
+ *
+ * A first program:
+ *
+ *     int64_t records[1 + 13 * 100] = {0};          // room for 100 records, none yet
+ *     int64_t positions[1 + 5 * 20] = {0};          // room for 20 positions, none yet
+ *     velichundam_reply r = velichundam_trade(records, 1 + 13 * 100, positions, 1 + 5 * 20,
+ *                                             456789, 1, 1, VELICHUNDAM_BUY_OPEN, 100, 1250000000);
+ *     if (r.kind == VELICHUNDAM_REFUSED) { ... r.first is the number below ... }
+ *
+ * THE TABLES
+ *
+ * Records. Cell 0 is the row count. Row k (from 0) has the 13 cells from 1 + 13 * k on:
+ *
+ *     +0 id      +1 suffix  +2 parent  +3 type     +4 status  +5 account  +6 series
+ *     +7 side    +8 quantity           +9 price    +10 long booked        +11 short booked      +12 into
+ *
+ * Positions. Cell 0 is the row count. Row k has the 5 cells from 1 + 5 * k on:
+ *
+ *     +0 account  +1 series  +2 long  +3 short  +4 cash
+ *
+ * The room of a table is the number of whole rows that fit after cell 0, at most 4,096 records and 1,024 positions. A longer array is fine: what
+ * lies past the room is never touched, and neither is a part of a row at the end. Cells past the last row are neither read nor changed.
+ * An empty table is a 0 in cell 0; the other cells may hold anything.
+ *
+ * Rows strictly rise, records by id and then suffix, positions by account and then series. The book keeps them so. A new row goes where its key
+ * belongs, and the rows above that place move up by one.
+ *
+ * RANGES
+ *
+ *     id              1 to 999,999,999                        suffix, parent   0 to 65,535
+ *     account         1 to 9,999                              series           1 to 999,999
+ *     quantity        1 to 1,000,000, in a request            side             1 to 4
+ *     price           -1,000,000,000,000 to 1,000,000,000,000, in units of 0.0000001
+ *     long, short     0 to 1,000,000,000,000, in a position   cash             magnitude at most 1,000,000,000,000,000
+ *     parts of a separation, sources of a merge               2 to 1,000
+ *
+ * In a record the type is 0, 4, 6, 10 or 901; the status 0, 1 or 2; the quantity is not 0, has magnitude at most 1,000,000 and is negative
+ * exactly where the status is 2; the two booked cells have magnitude at most 1,000,000; into is 0 or an id; the parent is below the suffix, or
+ * both are 0. A table that breaks one of these rules, or whose count is not between 0 and the room, is not sound: refusals 1 and 2. (Account and
+ * series of a position row are not tested; only that the rows rise by them.)
+ *
+ * WHAT THE HOST GUARANTEES
+ *
+ * For the length of a call:
+ *   - a pointer points to as many int64_t as its length says, aligned as int64_t is, and is not NULL even where the length is 0;
+ *   - that memory may be read, and written for the two tables (not for a parameter that is const);
+ *   - records, positions and the list share no cell with each other;
+ *   - nobody else writes any of them, nor reads a table that the call may write: where threads share a book, hold a lock.
+ *
+ * Different tables may be used from different threads at the same time: the functions have no state of their own.
+ */
+#ifndef VELICHUNDAM_H
+#define VELICHUNDAM_H
+
+#include <stddef.h>
+#include <stdint.h>
+
+#ifdef __cplusplus
+extern "C" {
+#endif
+
+/* Cells of a row, and the greatest room of a table. */
+#define VELICHUNDAM_RECORD_CELLS 13
+#define VELICHUNDAM_POSITION_CELLS 5
+#define VELICHUNDAM_MOST_RECORDS 4096
+#define VELICHUNDAM_MOST_POSITIONS 1024
+
+/* How many cells a table takes that has room for so many rows. */
+#define VELICHUNDAM_RECORDS_LEN(rows) (1 + (size_t)VELICHUNDAM_RECORD_CELLS * (rows))
+#define VELICHUNDAM_POSITIONS_LEN(rows) (1 + (size_t)VELICHUNDAM_POSITION_CELLS * (rows))
+
+/* Side codes. */
+enum {
+    VELICHUNDAM_BUY_OPEN = 1,
+    VELICHUNDAM_SELL_OPEN = 2,
+    VELICHUNDAM_BUY_CLOSE = 3,
+    VELICHUNDAM_SELL_CLOSE = 4
+};
+
+/* Status of a record. */
+enum {
+    VELICHUNDAM_ADJUSTABLE = 0,
+    VELICHUNDAM_ADJUSTED = 1,
+    VELICHUNDAM_INVERSE = 2
+};
+
+/* Type of a record. */
+enum {
+    VELICHUNDAM_TYPE_ORIGINAL = 0,
+    VELICHUNDAM_TYPE_TRANSFER = 4,
+    VELICHUNDAM_TYPE_SEPARATION = 6,
+    VELICHUNDAM_TYPE_CLOSING_ERROR = 10,
+    VELICHUNDAM_TYPE_MERGE = 901
+};
+
+/*
+ * An answer: which of four it is, and two numbers.
+ *
+ *     kind                            first                            second
+ *     0 VELICHUNDAM_BOOKED            rows added to the records table  residual (0 but for a merge)
+ *     1 VELICHUNDAM_CLOSING_ERROR     excess (the trade is booked)     0
+ *     2 VELICHUNDAM_LINEAGE           price of the original            links followed
+ *     3 VELICHUNDAM_REFUSED           number, 1 to 16                  place
+ */
+typedef struct velichundam_reply {
+    int64_t kind;
+    int64_t first;
+    int64_t second;
+} velichundam_reply;
+
+enum {
+    VELICHUNDAM_BOOKED = 0,
+    VELICHUNDAM_CLOSING_ERROR = 1,
+    VELICHUNDAM_LINEAGE = 2,
+    VELICHUNDAM_REFUSED = 3
+};
+
+/*
+ * Why a request is refused: the lowest number that applies.
+ *
+ * The place is the position in the list, from 0, of the first source that fails, for 5 to 10 in a merge; otherwise 0. In a merge each test runs
+ * over the whole list before the next number is tried.
+ */
+enum {
+    /* The records table is not sound. */
+    VELICHUNDAM_RECORDS_NOT_SOUND = 1,
+    /* The positions table is not sound. Not for lineage. */
+    VELICHUNDAM_POSITIONS_NOT_SOUND = 2,
+    /* A figure of the request, an element of its list or the list's count is out of range; the list of pairs has an odd length; from equals to. */
+    VELICHUNDAM_OUT_OF_RANGE = 3,
+    /* Trade, merge: the new id has a record already, under whatever suffix. */
+    VELICHUNDAM_ID_TAKEN = 4,
+    /* There is no such record. For lineage also: a parent row is missing. */
+    VELICHUNDAM_NO_RECORD = 5,
+    /* The record's account or series is not the one named. */
+    VELICHUNDAM_ELSEWHERE = 6,
+    /* The record's status is not 0: it is adjusted, or an inverse. */
+    VELICHUNDAM_NOT_ADJUSTABLE = 7,
+    /* Transfer, merge: the record is to close. */
+    VELICHUNDAM_TO_CLOSE = 8,
+    /* Merge: this pair stood earlier in the list. */
+    VELICHUNDAM_TWICE = 9,
+    /* Merge: the side differs from the first source's. */
+    VELICHUNDAM_OTHER_SIDE = 10,
+    /* Separation: the parts don't sum to the quantity. Merge: the quantities sum to more than 1,000,000. */
+    VELICHUNDAM_WRONG_SUM = 11,
+    /* Transfer: the old account holds less than the quantity, long for a buy and short for a sell. */
+    VELICHUNDAM_NOT_HELD = 12,
+    /* An id would need a suffix above 65,535. */
+    VELICHUNDAM_NO_SUFFIX = 13,
+    /* The new rows don't fit into the records table's room. */
+    VELICHUNDAM_RECORDS_FULL = 14,
+    /* The rows that are needed and absent don't fit into the positions table's room. */
+    VELICHUNDAM_POSITIONS_FULL = 15,
+    /* Long, short or cash of a position would leave its range. */
+    VELICHUNDAM_BEYOND_LIMIT = 16
+};
+
+/*
+ * Books a trade under a new id: one record with suffix 0.
+ *
+ * Buy open adds the quantity to the position's long, sell open to its short. Buy close takes it off the open short, sell close off the open long;
+ * what is not open is booked on the other side, the record's type is 10, and the answer is a closing error with that excess.
+ *
+ * Answers booked (1 row), or a closing error. Refuses by 1, 2, 3, 4, 14, 15, 16.
+ */
+velichundam_reply velichundam_trade(int64_t *records, size_t records_len, int64_t *positions, size_t positions_len,
+    int64_t id, int64_t account, int64_t series, int64_t side, int64_t quantity, int64_t price);
+
+/*
+ * Separates a record into parts, which use up its whole quantity. The record becomes adjusted; an inverse row and a row for each part follow, with
+ * the id's next suffixes. The position does not move.
+ *
+ * Answers booked (1 + parts_len rows). Refuses by 1, 2, 3, 5, 6, 7, 11, 13, 14.
+ */
+velichundam_reply velichundam_separate(int64_t *records, size_t records_len, int64_t *positions, size_t positions_len,
+    int64_t id, int64_t suffix, int64_t account, int64_t series, const int64_t *parts, size_t parts_len);
+
+/*
+ * Moves a record to open, and its quantity, to another account. The record becomes adjusted; an inverse row in the old account and a row in the new
+ * one follow, with the id's next suffixes. Both positions move.
+ *
+ * Answers booked (2 rows). Refuses by 1, 2, 3, 5, 6, 7, 8, 12, 13, 14, 15, 16.
+ */
+velichundam_reply velichundam_transfer(int64_t *records, size_t records_len, int64_t *positions, size_t positions_len,
+    int64_t id, int64_t suffix, int64_t from, int64_t to, int64_t series);
+
+/*
+ * Merges records to open of one account, series and side into one under a new id, at their average price, a half going to the greater number.
+ * pairs holds id, suffix, id, suffix, ..: pairs_len is twice the number of sources. Each source becomes adjusted and gets an inverse row whose
+ * cell into is the new id. What the rounding leaves, the residual, goes to the position's cash, in price units times quantity.
+ *
+ * Answers booked (a row for each source and one more, and the residual). Refuses by 1, 2, 3, 4, 5 to 10 with their place, 11, 13, 14, 15, 16.
+ */
+velichundam_reply velichundam_merge(int64_t *records, size_t records_len, int64_t *positions, size_t positions_len,
+    int64_t id, int64_t account, int64_t series, const int64_t *pairs, size_t pairs_len);
+
+/*
+ * Follows a record from parent to parent to suffix 0, the original. Writes nothing.
+ *
+ * Answers lineage: the original's price, and the number of links. Refuses by 1, 3, 5.
+ */
+velichundam_reply velichundam_lineage(const int64_t *records, size_t records_len, int64_t id, int64_t suffix);
+
+#ifdef __cplusplus
+}
+#endif
+
+#endif

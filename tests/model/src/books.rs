@@ -1,0 +1,73 @@
+//! The rows of the two tables as sorted maps, and the few ways in which requests look at them and change them.
+
+use std::collections::BTreeMap;
+
+/// A records row without its key, which is (id, suffix).
+#[derive(Clone, Debug, PartialEq, Eq)]
+pub struct Record {
+    pub parent: i64,
+    pub kind: i64,
+    pub status: i64,
+    pub account: i64,
+    pub series: i64,
+    pub side: i64,
+    pub quantity: i64,
+    pub price: i64,
+    pub long: i64,
+    pub short: i64,
+    pub into: i64,
+}
+
+/// A positions row without its key, which is (account, series).
+#[derive(Clone, Debug, Default, PartialEq, Eq)]
+pub struct Position {
+    pub long: i64,
+    pub short: i64,
+    pub cash: i64,
+}
+
+pub type Records = BTreeMap<(i64, i64), Record>;
+pub type Positions = BTreeMap<(i64, i64), Position>;
+
+#[derive(Clone, Debug)]
+pub struct Books {
+    pub records: Records,
+    pub positions: Positions,
+    pub records_room: usize,
+    pub positions_room: usize,
+}
+
+impl Record {
+    pub fn is_buy(&self) -> bool {
+        self.side == 1 || self.side == 3
+    }
+
+    pub fn is_to_close(&self) -> bool {
+        self.side == 3 || self.side == 4
+    }
+}
+
+impl Books {
+    /// The greatest suffix that the id has, where it has any.
+    pub fn greatest_suffix(&self, id: i64) -> Option<i64> {
+        self.records.range((id, i64::MIN)..=(id, i64::MAX)).next_back().map(|(key, _)| key.1)
+    }
+
+    /// "The next suffix is one above the greatest that the id has."
+    pub fn next_suffix(&self, id: i64) -> i64 {
+        self.greatest_suffix(id).map_or(0, |greatest| greatest + 1)
+    }
+
+    /// "an absent row reads as zeros"
+    pub fn position(&self, account: i64, series: i64) -> Position {
+        self.positions.get(&(account, series)).cloned().unwrap_or_default()
+    }
+
+    /// Adds to the row of that key, which is "made with zeros" where it is absent.
+    pub fn move_position(&mut self, account: i64, series: i64, long: i64, short: i64, cash: i64) {
+        let row = self.positions.entry((account, series)).or_default();
+        row.long += long;
+        row.short += short;
+        row.cash += cash;
+    }
+}

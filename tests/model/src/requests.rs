@@ -1,0 +1,210 @@
+//! Document 01, "Booking rules" and "Replies". Each request runs its tests in the order of the refusals' numbers and then books.
+
+use crate::books::{Books, Record, Records};
+use crate::tables::{is_sound_position, ACCOUNTS, IDS, PRICES, QUANTITIES, SERIES, SIDES, SUFFIXES};
+
+/// What is asked of the book, with any figures.
+#[derive(Clone, Debug, PartialEq, Eq)]
+pub enum Request {
+    Trade { id: i64, account: i64, series: i64, side: i64, quantity: i64, price: i64 },
+    Separate { id: i64, suffix: i64, account: i64, series: i64, parts: Vec<i64> },
+    Transfer { id: i64, suffix: i64, from: i64, to: i64, series: i64 },
+    Merge { id: i64, account: i64, series: i64, pairs: Vec<i64> },
+    Lineage { id: i64, suffix: i64 },
+}
+
+#[derive(Clone, Copy, Debug, PartialEq, Eq)]
+pub enum Reply {
+    Booked { rows: i64, residual: i64 },
+    ClosingError { excess: i64 },
+    Lineage { price: i64, links: i64 },
+    Refused { number: i64, place: i64 },
+}
+
+#[derive(Clone, Copy, Debug, PartialEq, Eq)]
+pub struct Refusal {
+    pub number: i64,
+    pub place: usize,
+}
+
+impl Refusal {
+    pub fn number(number: i64) -> Refusal {
+        Refusal { number, place: 0 }
+    }
+}
+
+/// Refused by that number unless it holds.
+fn ensure(holds: bool, number: i64) -> Result<(), Refusal> {
+    if holds {
+        Ok(())
+    } else {
+        Err(Refusal::number(number))
+    }
+}
+
+/// "Each test runs over the whole list before the next number is tried." The place is that of the first that fails.
+fn ensure_each<T>(list: &[T], number: i64, mut holds: impl FnMut(usize, &T) -> bool) -> Result<(), Refusal> {
+    match list.iter().enumerate().find(|(place, item)| !holds(*place, item)) {
+        Some((place, _)) => Err(Refusal { number, place }),
+        None => Ok(()),
+    }
+}
+
+/// Tests 3 to 16 of a request that books, and its booking. The caller drops the books of a refused one.
+pub fn book(books: &mut Books, request: &Request) -> Result<Reply, Refusal> {
+    match request {
+        Request::Trade { id, account, series, side, quantity, price } => trade(books, *id, *account, *series, *side, *quantity, *price),
+        Request::Separate { id, suffix, account, series, parts } => separate(books, *id, *suffix, *account, *series, parts),
+        Request::Transfer { id, suffix, from, to, series } => transfer(books, *id, *suffix, *from, *to, *series),
+        Request::Merge { id, account, series, pairs } => merge(books, *id, *account, *series, pairs),
+        Request::Lineage { id, suffix } => lineage(&books.records, *id, *suffix),
+    }
+}
+
+fn trade(books: &mut Books, id: i64, account: i64, series: i64, side: i64, quantity: i64, price: i64) -> Result<Reply, Refusal> {
+    let figures = IDS.contains(&id)
+        && ACCOUNTS.contains(&account)
+        && SERIES.contains(&series)
+        && SIDES.contains(&side)
+        && QUANTITIES.contains(&quantity)
+        && PRICES.contains(&price);
+    ensure(figures, 3)?;
+    ensure(books.greatest_suffix(id).is_none(), 4)?;
+
+    let open = books.position(account, series);
+    let (long, short, excess) = match side {
+        1 => (quantity, 0, 0),
+        2 => (0, quantity, 0),
+        3 => {
+            let closed = quantity.min(open.short);
+            (quantity - closed, -closed, quantity - closed)
+        }
+        _ => {
+            let closed = quantity.min(open.long);
+            (-closed, quantity - closed, quantity - closed)
+        }
+    };
+    let kind = if excess > 0 { 10 } else { 0 };
+    books.records.insert((id, 0), Record { parent: 0, kind, status: 0, account, series, side, quantity, price, long, short, into: 0 });
+    books.move_position(account, series, long, short, 0);
+    fits(books)?;
+    Ok(if excess > 0 { Reply::ClosingError { excess } } else { Reply::Booked { rows: 1, residual: 0 } })
+}
+
+fn separate(books: &mut Books, id: i64, suffix: i64, account: i64, series: i64, parts: &[i64]) -> Result<Reply, Refusal> {
+    let figures = IDS.contains(&id) && SUFFIXES.contains(&suffix) && ACCOUNTS.contains(&account) && SERIES.contains(&series);
+    ensure(figures && (2..=1_000).contains(&parts.len()) && parts.iter().all(|part| QUANTITIES.contains(part)), 3)?;
+    let named = named_record(books, id, suffix, account, series)?;
+    ensure(parts.iter().sum::<i64>() == named.quantity, 11)?;
+    ensure(books.next_suffix(id) + parts.len() as i64 <= *SUFFIXES.end(), 13)?;
+
+    adjust(books, (id, suffix));
+    let row = Record { parent: suffix, kind: 6, long: 0, short: 0, into: 0, ..named };
+    append(books, id, Record { status: 2, quantity: -row.quantity, ..row.clone() });
+    for &part in parts {
+        append(books, id, Record { status: 0, quantity: part, ..row.clone() });
+    }
+    fits(books)?;
+    Ok(Reply::Booked { rows: 1 + parts.len() as i64, residual: 0 })
+}
+
+fn transfer(books: &mut Books, id: i64, suffix: i64, from: i64, to: i64, series: i64) -> Result<Reply, Refusal> {
+    let figures = IDS.contains(&id) && SUFFIXES.contains(&suffix) && ACCOUNTS.contains(&from) && ACCOUNTS.contains(&to) && SERIES.contains(&series);
+    ensure(figures && from != to, 3)?;
+    let named = named_record(books, id, suffix, from, series)?;
+    ensure(!named.is_to_close(), 8)?;
+    let q = named.quantity;
+    let held = books.position(from, series);
+    ensure(q <= if named.is_buy() { held.long } else { held.short }, 12)?;
+    ensure(books.next_suffix(id) + 1 <= *SUFFIXES.end(), 13)?;
+
+    adjust(books, (id, suffix));
+    let (long, short) = if named.is_buy() { (q, 0) } else { (0, q) };
+    let row = Record { parent: suffix, kind: 4, into: 0, ..named };
+    append(books, id, Record { status: 2, quantity: -q, long: -long, short: -short, ..row.clone() });
+    append(books, id, Record { status: 0, account: to, long, short, ..row });
+    books.move_position(from, series, -long, -short, 0);
+    books.move_position(to, series, long, short, 0);
+    fits(books)?;
+    Ok(Reply::Booked { rows: 2, residual: 0 })
+}
+
+fn merge(books: &mut Books, new: i64, account: i64, series: i64, pairs: &[i64]) -> Result<Reply, Refusal> {
+    let sources: Vec<(i64, i64)> = pairs.chunks(2).map(|pair| (pair[0], *pair.last().unwrap())).collect();
+    let figures = IDS.contains(&new) && ACCOUNTS.contains(&account) && SERIES.contains(&series);
+    let list = pairs.len() % 2 == 0 && (2..=1_000).contains(&sources.len());
+    let members = || sources.iter().all(|(id, suffix)| IDS.contains(id) && SUFFIXES.contains(suffix));
+    ensure(figures && list && members(), 3)?;
+    ensure(books.greatest_suffix(new).is_none(), 4)?;
+    ensure_each(&sources, 5, |_, key| books.records.contains_key(key))?;
+    let rows: Vec<Record> = sources.iter().map(|key| books.records[key].clone()).collect();
+    ensure_each(&rows, 6, |_, row| row.account == account && row.series == series)?;
+    ensure_each(&rows, 7, |_, row| row.status == 0)?;
+    ensure_each(&rows, 8, |_, row| !row.is_to_close())?;
+    ensure_each(&sources, 9, |place, key| !sources[..place].contains(key))?;
+    ensure_each(&rows, 10, |_, row| row.is_buy() == rows[0].is_buy())?;
+    let quantity: i64 = rows.iter().map(|row| row.quantity).sum();
+    ensure(QUANTITIES.contains(&quantity), 11)?;
+
+    let value: i128 = rows.iter().map(|row| i128::from(row.quantity) * i128::from(row.price)).sum();
+    let average = average(value, quantity);
+    let over = i128::from(quantity) * average - value;
+    let residual = if rows[0].is_buy() { over } else { -over } as i64;
+    for (key, row) in sources.iter().zip(&rows) {
+        adjust(books, *key);
+        append(books, key.0, Record { parent: key.1, kind: 901, status: 2, quantity: -row.quantity, long: 0, short: 0, into: new, ..row.clone() });
+    }
+    ensure(sources.iter().all(|key| books.greatest_suffix(key.0) <= Some(*SUFFIXES.end())), 13)?;
+    let merged = Record { parent: 0, kind: 901, status: 0, quantity, price: average as i64, long: 0, short: 0, into: 0, ..rows[0].clone() };
+    books.records.insert((new, 0), merged);
+    books.move_position(account, series, 0, 0, residual);
+    fits(books)?;
+    Ok(Reply::Booked { rows: sources.len() as i64 + 1, residual })
+}
+
+/// "V/Q rounded to a whole unit, a half going to the greater number": the greatest whole number that is at most V/Q + 1/2.
+fn average(value: i128, quantity: i64) -> i128 {
+    let quantity = i128::from(quantity);
+    (2 * value + quantity).div_euclid(2 * quantity)
+}
+
+/// "follows parent to parent until suffix 0"; "no such record; for lineage also a parent row missing"
+pub fn lineage(records: &Records, id: i64, suffix: i64) -> Result<Reply, Refusal> {
+    ensure(IDS.contains(&id) && SUFFIXES.contains(&suffix), 3)?;
+    let mut links = 0;
+    let mut at = suffix;
+    loop {
+        let row = records.get(&(id, at)).ok_or(Refusal::number(5))?;
+        if at == 0 {
+            return Ok(Reply::Lineage { price: row.price, links });
+        }
+        at = row.parent;
+        links += 1;
+    }
+}
+
+/// Tests 5 to 7 of a request that names one record.
+fn named_record(books: &Books, id: i64, suffix: i64, account: i64, series: i64) -> Result<Record, Refusal> {
+    let row = books.records.get(&(id, suffix)).ok_or(Refusal::number(5))?;
+    ensure(row.account == account && row.series == series, 6)?;
+    ensure(row.status == 0, 7)?;
+    Ok(row.clone())
+}
+
+/// "It becomes status 1", and nothing else of it changes.
+fn adjust(books: &mut Books, key: (i64, i64)) {
+    books.records.get_mut(&key).expect("the record was found").status = 1;
+}
+
+/// Puts a row under the next suffix of its id.
+fn append(books: &mut Books, id: i64, row: Record) {
+    let suffix = books.next_suffix(id);
+    books.records.insert((id, suffix), row);
+}
+
+/// Tests 14 to 16, on the books as they would be.
+fn fits(books: &Books) -> Result<(), Refusal> {
+    ensure(books.records.len() <= books.records_room, 14)?;
+    ensure(books.positions.len() <= books.positions_room, 15)?;
+    ensure(books.positions.values().all(is_sound_position), 16)
+}

@@ -1,0 +1,119 @@
+//! Document 01, "The two tables": how rows lie in the lent cells, and when a table is sound.
+
+use crate::books::{Position, Positions, Record, Records};
+use std::ops::RangeInclusive;
+
+pub const RECORD_CELLS: usize = 13;
+pub const POSITION_CELLS: usize = 5;
+const MOST_RECORDS: usize = 4_096;
+const MOST_POSITIONS: usize = 1_024;
+
+pub const IDS: RangeInclusive<i64> = 1..=999_999_999;
+pub const SUFFIXES: RangeInclusive<i64> = 0..=65_535;
+pub const ACCOUNTS: RangeInclusive<i64> = 1..=9_999;
+pub const SERIES: RangeInclusive<i64> = 1..=999_999;
+pub const QUANTITIES: RangeInclusive<i64> = 1..=1_000_000;
+pub const PRICES: RangeInclusive<i64> = -1_000_000_000_000..=1_000_000_000_000;
+pub const SIDES: RangeInclusive<i64> = 1..=4;
+pub const LONG_OR_SHORT: RangeInclusive<i64> = 0..=1_000_000_000_000;
+pub const CASH: RangeInclusive<i64> = -1_000_000_000_000_000..=1_000_000_000_000_000;
+const BOOKED: RangeInclusive<i64> = -1_000_000..=1_000_000;
+
+/// "Room is the whole rows that fit after cell 0, at most 4,096."
+pub fn records_room(cells: &[i64]) -> usize {
+    MOST_RECORDS.min(cells.len().saturating_sub(1) / RECORD_CELLS)
+}
+
+/// "Room likewise, at most 1,024."
+pub fn positions_room(cells: &[i64]) -> usize {
+    MOST_POSITIONS.min(cells.len().saturating_sub(1) / POSITION_CELLS)
+}
+
+/// The rows that cell 0 counts, or nothing where there is no cell 0 or the count is not between 0 and the room.
+fn counted(cells: &[i64], width: usize, room: usize) -> Option<Vec<&[i64]>> {
+    let count = usize::try_from(*cells.first()?).ok()?;
+    (count <= room).then(|| cells[1..].chunks(width).take(count).collect())
+}
+
+/// The rows of a sound records table.
+pub fn read_records(cells: &[i64]) -> Option<Records> {
+    let mut rows = Records::new();
+    for row in counted(cells, RECORD_CELLS, records_room(cells))? {
+        let key = (row[0], row[1]);
+        let record = Record {
+            parent: row[2],
+            kind: row[3],
+            status: row[4],
+            account: row[5],
+            series: row[6],
+            side: row[7],
+            quantity: row[8],
+            price: row[9],
+            long: row[10],
+            short: row[11],
+            into: row[12],
+        };
+        let rises = rows.last_key_value().map_or(true, |(last, _)| *last < key);
+        if !rises || !is_sound_record(key, &record) {
+            return None;
+        }
+        rows.insert(key, record);
+    }
+    Some(rows)
+}
+
+fn is_sound_record((id, suffix): (i64, i64), r: &Record) -> bool {
+    let figures = IDS.contains(&id)
+        && SUFFIXES.contains(&suffix)
+        && SUFFIXES.contains(&r.parent)
+        && ACCOUNTS.contains(&r.account)
+        && SERIES.contains(&r.series)
+        && SIDES.contains(&r.side)
+        && PRICES.contains(&r.price);
+    let kind = matches!(r.kind, 0 | 4 | 6 | 10 | 901);
+    let status = matches!(r.status, 0 | 1 | 2);
+    // "Quantity is not zero, magnitude at most 1,000,000, negative exactly where status is 2."
+    let magnitude = if r.status == 2 { r.quantity.checked_neg() } else { Some(r.quantity) };
+    let quantity = magnitude.is_some_and(|q| QUANTITIES.contains(&q));
+    let booked = BOOKED.contains(&r.long) && BOOKED.contains(&r.short);
+    // "Into is 0 or an id. Parent is below suffix, or both are 0."
+    let into = r.into == 0 || IDS.contains(&r.into);
+    let parent = r.parent < suffix || (r.parent == 0 && suffix == 0);
+    figures && kind && status && quantity && booked && into && parent
+}
+
+/// The rows of a sound positions table. Nothing is asked of account and series but that the rows rise by them.
+pub fn read_positions(cells: &[i64]) -> Option<Positions> {
+    let mut rows = Positions::new();
+    for row in counted(cells, POSITION_CELLS, positions_room(cells))? {
+        let key = (row[0], row[1]);
+        let position = Position { long: row[2], short: row[3], cash: row[4] };
+        let rises = rows.last_key_value().map_or(true, |(last, _)| *last < key);
+        if !rises || !is_sound_position(&position) {
+            return None;
+        }
+        rows.insert(key, position);
+    }
+    Some(rows)
+}
+
+pub fn is_sound_position(p: &Position) -> bool {
+    LONG_OR_SHORT.contains(&p.long) && LONG_OR_SHORT.contains(&p.short) && CASH.contains(&p.cash)
+}
+
+/// Writes the count and the rows. Cells past the last row stay as they are.
+pub fn write_records(cells: &mut [i64], rows: &Records) {
+    cells[0] = rows.len() as i64;
+    let places = cells[1..].chunks_mut(RECORD_CELLS);
+    for (cells, ((id, suffix), r)) in places.zip(rows) {
+        cells.copy_from_slice(&[*id, *suffix, r.parent, r.kind, r.status, r.account, r.series, r.side, r.quantity, r.price, r.long, r.short, r.into]);
+    }
+}
+
+pub fn write_positions(cells: &mut [i64], rows: &Positions) {
+    cells[0] = rows.len() as i64;
+    let places = cells[1..].chunks_mut(POSITION_CELLS);
+    for (cells, ((account, series), p)) in places.zip(rows) {
+        cells.copy_from_slice(&[*account, *series, p.long, p.short, p.cash]);
+    }
+}

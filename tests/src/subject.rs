@@ -1,0 +1,135 @@
+//! What is tested: the functions of include/velichundam.h, called on lent memory.
+
+use crate::lent::{Arena, Fence};
+use crate::tables::Tables;
+use model::{Reply, Request};
+
+#[repr(C)]
+#[derive(Clone, Copy, Debug, PartialEq, Eq)]
+pub struct Coded {
+    pub kind: i64,
+    pub first: i64,
+    pub second: i64,
+}
+
+#[rustfmt::skip]
+extern "C" {
+    fn velichundam_trade(records: *mut i64, records_len: usize, positions: *mut i64, positions_len: usize,
+        id: i64, account: i64, series: i64, side: i64, quantity: i64, price: i64) -> Coded;
+    fn velichundam_separate(records: *mut i64, records_len: usize, positions: *mut i64, positions_len: usize,
+        id: i64, suffix: i64, account: i64, series: i64, parts: *const i64, parts_len: usize) -> Coded;
+    fn velichundam_transfer(records: *mut i64, records_len: usize, positions: *mut i64, positions_len: usize,
+        id: i64, suffix: i64, from: i64, to: i64, series: i64) -> Coded;
+    fn velichundam_merge(records: *mut i64, records_len: usize, positions: *mut i64, positions_len: usize,
+        id: i64, account: i64, series: i64, pairs: *const i64, pairs_len: usize) -> Coded;
+    fn velichundam_lineage(records: *const i64, records_len: usize, id: i64, suffix: i64) -> Coded;
+}
+
+/// The numbers by which include/velichundam.h gives an answer.
+pub fn coded(reply: Reply) -> Coded {
+    let (kind, first, second) = match reply {
+        Reply::Booked { rows, residual } => (0, rows, residual),
+        Reply::ClosingError { excess } => (1, excess, 0),
+        Reply::Lineage { price, links } => (2, price, links),
+        Reply::Refused { number, place } => (3, number, place),
+    };
+    Coded { kind, first, second }
+}
+
+/// The three pieces of memory that calls borrow.
+pub struct Subject {
+    records: Arena,
+    positions: Arena,
+    list: Arena,
+}
+
+/// What came of a call: its answer, the cells afterwards, and what it may not have written.
+pub struct Outcome {
+    pub answer: Coded,
+    pub tables: Tables,
+    pub guards_kept: bool,
+    pub list_kept: bool,
+}
+
+impl Subject {
+    pub fn new() -> Subject {
+        Subject { records: Arena::new(60_000), positions: Arena::new(8_000), list: Arena::new(4_000) }
+    }
+
+    pub fn call(&mut self, tables: &Tables, request: &Request, fence: Fence) -> Outcome {
+        let list: &[i64] = match request {
+            Request::Separate { parts, .. } => parts,
+            Request::Merge { pairs, .. } => pairs,
+            _ => &[],
+        };
+        let records = self.records.lend(&tables.records, fence);
+        let positions = self.positions.lend(&tables.positions, fence);
+        let lent_list = self.list.lend(list, fence);
+        let (r, rn, p, pn, l, ln) = (records.first, records.len, positions.first, positions.len, lent_list.first.cast_const(), lent_list.len);
+        let answer = unsafe {
+            match *request {
+                Request::Trade { id, account, series, side, quantity, price } => velichundam_trade(r, rn, p, pn, id, account, series, side, quantity, price),
+                Request::Separate { id, suffix, account, series, .. } => velichundam_separate(r, rn, p, pn, id, suffix, account, series, l, ln),
+                Request::Transfer { id, suffix, from, to, series } => velichundam_transfer(r, rn, p, pn, id, suffix, from, to, series),
+                Request::Merge { id, account, series, .. } => velichundam_merge(r, rn, p, pn, id, account, series, l, ln),
+                Request::Lineage { id, suffix } => velichundam_lineage(r.cast_const(), rn, id, suffix),
+            }
+        };
+        let (records, records_kept) = self.records.take_back(rn, fence);
+        let (positions, positions_kept) = self.positions.take_back(pn, fence);
+        let (list_after, list_guards_kept) = self.list.take_back(ln, fence);
+        Outcome {
+            answer,
+            tables: Tables { records: records.to_vec(), positions: positions.to_vec() },
+            guards_kept: records_kept && positions_kept && list_guards_kept,
+            list_kept: list_after == list,
+        }
+    }
+}
+
+/// The peer behind the same interface, where it is tested in the place of the archive.
+#[cfg(feature = "peer")]
+#[rustfmt::skip]
+mod peer_behind_the_interface {
+    use super::Coded;
+    use peer::Reply;
+    use std::slice::{from_raw_parts, from_raw_parts_mut};
+
+    fn coded(reply: Reply) -> Coded {
+        match reply {
+            Reply::Booked { rows, residual } => Coded { kind: 0, first: rows, second: residual },
+            Reply::ClosingError { excess } => Coded { kind: 1, first: excess, second: 0 },
+            Reply::Lineage { price, links } => Coded { kind: 2, first: price, second: links },
+            Reply::Refused { number, place } => Coded { kind: 3, first: number, second: place },
+        }
+    }
+
+    #[no_mangle]
+    unsafe extern "C" fn velichundam_trade(records: *mut i64, records_len: usize, positions: *mut i64, positions_len: usize,
+        id: i64, account: i64, series: i64, side: i64, quantity: i64, price: i64) -> Coded {
+        coded(peer::trade(from_raw_parts_mut(records, records_len), from_raw_parts_mut(positions, positions_len), id, account, series, side, quantity, price))
+    }
+
+    #[no_mangle]
+    unsafe extern "C" fn velichundam_separate(records: *mut i64, records_len: usize, positions: *mut i64, positions_len: usize,
+        id: i64, suffix: i64, account: i64, series: i64, parts: *const i64, parts_len: usize) -> Coded {
+        coded(peer::separate(from_raw_parts_mut(records, records_len), from_raw_parts_mut(positions, positions_len), id, suffix, account, series, from_raw_parts(parts, parts_len)))
+    }
+
+    #[no_mangle]
+    unsafe extern "C" fn velichundam_transfer(records: *mut i64, records_len: usize, positions: *mut i64, positions_len: usize,
+        id: i64, suffix: i64, from: i64, to: i64, series: i64) -> Coded {
+        coded(peer::transfer(from_raw_parts_mut(records, records_len), from_raw_parts_mut(positions, positions_len), id, suffix, from, to, series))
+    }
+
+    #[no_mangle]
+    unsafe extern "C" fn velichundam_merge(records: *mut i64, records_len: usize, positions: *mut i64, positions_len: usize,
+        id: i64, account: i64, series: i64, pairs: *const i64, pairs_len: usize) -> Coded {
+        coded(peer::merge(from_raw_parts_mut(records, records_len), from_raw_parts_mut(positions, positions_len), id, account, series, from_raw_parts(pairs, pairs_len)))
+    }
+
+    #[no_mangle]
+    unsafe extern "C" fn velichundam_lineage(records: *const i64, records_len: usize, id: i64, suffix: i64) -> Coded {
+        coded(peer::lineage(from_raw_parts(records, records_len), id, suffix))
+    }
+}

@@ -1,0 +1,264 @@
+//! The fixed part of a run: every figure and every cell at the ends of the ranges, every length of a slice around the limits, and full tables.
+
+use crate::checker::Checker;
+use crate::draw::{figures, set_figure, ENDS};
+use crate::tables::Tables;
+use model::{Reply, Request};
+
+/// A small pair of tables on which each of `accepted` is accepted.
+fn small() -> Tables {
+    let mut records = vec![
+        6, //
+        5, 0, 0, 0, 0, 1, 1, 1, 10, 100, 10, 0, 0, //
+        7, 0, 0, 0, 1, 1, 1, 1, 20, 103, 20, 0, 0, //
+        7, 1, 0, 6, 2, 1, 1, 1, -20, 103, 0, 0, 0, //
+        7, 2, 0, 6, 0, 1, 1, 1, 15, 103, 0, 0, 0, //
+        7, 3, 0, 6, 0, 1, 1, 1, 5, 103, 0, 0, 0, //
+        9, 0, 0, 10, 0, 3, 2, 4, 8, -7, 0, 8, 0,
+    ];
+    records.extend((0..13 * 6 + 5).map(|k| -1_000 - k));
+    let mut positions = vec![
+        3, //
+        1, 1, 30, 4, -2, //
+        3, 1, 0, 0, 0, //
+        3, 2, 0, 8, 1,
+    ];
+    positions.extend((0..5 * 2 + 3).map(|k| -2_000 - k));
+    Tables { records, positions }
+}
+
+fn accepted() -> Vec<Request> {
+    vec![
+        Request::Trade { id: 8, account: 2, series: 1, side: 1, quantity: 3, price: 99 },
+        Request::Trade { id: 6, account: 1, series: 1, side: 3, quantity: 5, price: -99 },
+        Request::Separate { id: 7, suffix: 2, account: 1, series: 1, parts: vec![5, 4, 6] },
+        Request::Transfer { id: 7, suffix: 3, from: 1, to: 2, series: 1 },
+        Request::Merge { id: 6, account: 1, series: 1, pairs: vec![7, 3, 5, 0, 7, 2] },
+        Request::Lineage { id: 7, suffix: 3 },
+    ]
+}
+
+pub fn run(checker: &mut Checker) {
+    for request in accepted() {
+        assert!(!matches!(checker.ask(&small(), &request), Reply::Refused { .. }), "{request:?}");
+    }
+    every_figure(checker);
+    every_cell(checker);
+    every_length(checker);
+    list_lengths(checker);
+    last_suffixes(checker);
+    full_tables(checker);
+    deep_lineage(checker);
+    ends_of_averages(checker);
+}
+
+/// Each figure of each request at each end.
+fn every_figure(checker: &mut Checker) {
+    for request in accepted() {
+        for which in 0..figures(&request) {
+            for end in ENDS {
+                let mut request = request.clone();
+                set_figure(&mut request, which, end);
+                checker.ask(&small(), &request);
+            }
+        }
+    }
+}
+
+/// Each cell of both tables at each end, for each request.
+fn every_cell(checker: &mut Checker) {
+    for request in accepted() {
+        let tables = small();
+        for end in ENDS {
+            for cell in 0..1 + 6 * 13 {
+                let mut tables = tables.clone();
+                tables.records[cell] = end;
+                checker.ask(&tables, &request);
+            }
+            for cell in 0..1 + 3 * 5 {
+                let mut tables = tables.clone();
+                tables.positions[cell] = end;
+                checker.ask(&tables, &request);
+            }
+        }
+    }
+}
+
+/// Each length of either slice, with each count.
+fn every_length(checker: &mut Checker) {
+    for request in accepted() {
+        let tables = small();
+        for len in 0..tables.records.len() {
+            for count in [-1, 0, 1, 2, 3, 5, 6, 7] {
+                let mut tables = tables.clone();
+                tables.records[0] = count;
+                tables.records.truncate(len);
+                checker.ask(&tables, &request);
+            }
+        }
+        for len in 0..tables.positions.len() {
+            for count in [-1, 0, 1, 2, 3, 4, 5, 6] {
+                let mut tables = tables.clone();
+                tables.positions[0] = count;
+                tables.positions.truncate(len);
+                checker.ask(&tables, &request);
+            }
+        }
+    }
+}
+
+/// A records table of so many adjustable buys of 1 in account 1, series 1, under ids from 10 on, and one position that holds them.
+fn many(rows: usize, room: usize, quantity: i64) -> Tables {
+    let mut records = vec![rows as i64];
+    for k in 0..rows as i64 {
+        records.extend([10 + k, 0, 0, 0, 0, 1, 1, 1, quantity, 50 + k % 7, quantity, 0, 0]);
+    }
+    records.extend(vec![-9; (room - rows) * 13 + 6]);
+    Tables { records, positions: vec![1, 1, 1, 1_000_000, 0, 0, -9, -9, -9, -9, -9] }
+}
+
+/// Parts and pairs of every length around 2 and 1,000.
+fn list_lengths(checker: &mut Checker) {
+    for quantity in [3, 1_000, 1_001] {
+        for count in (0..6).chain(997..1_004) {
+            let mut parts = vec![1; count];
+            if let Some(last) = parts.last_mut() {
+                *last = quantity - (count as i64 - 1);
+            }
+            checker.ask(&many(3, 1_010, quantity), &Request::Separate { id: 11, suffix: 0, account: 1, series: 1, parts });
+        }
+    }
+    let tables = many(1_003, 2_010, 1);
+    for cells in (0..8).chain(1_996..2_005) {
+        let pairs: Vec<i64> = (0..cells as i64).map(|k| if k % 2 == 0 { 1_012 - k / 2 } else { 0 }).collect();
+        checker.ask(&tables, &Request::Merge { id: 5, account: 1, series: 1, pairs: pairs.clone() });
+        checker.ask(&tables, &Request::Merge { id: 500_000, account: 1, series: 1, pairs });
+    }
+}
+
+/// The suffix 65,535 is reached and not passed.
+fn last_suffixes(checker: &mut Checker) {
+    for greatest in 65_528..=65_535 {
+        let records = [
+            vec![3, 4, 0, 0, 0, 0, 1, 1, 1, 6, 10, 6, 0, 0],
+            vec![4, greatest - 1, 0, 6, 0, 1, 1, 1, 6, 10, 0, 0, 0],
+            vec![4, greatest, 0, 6, 0, 1, 1, 1, 6, 10, 0, 0, 0],
+        ];
+        let mut tables = Tables { records: records.concat(), positions: vec![1, 1, 1, 99, 0, 0, 0, 0, 0, 0, 0] };
+        tables.records.extend(vec![3; 13 * 9]);
+        for count in 2..=6 {
+            let mut parts = vec![1; count];
+            parts[0] = 6 - (count as i64 - 1);
+            checker.ask(&tables, &Request::Separate { id: 4, suffix: greatest, account: 1, series: 1, parts });
+        }
+        checker.ask(&tables, &Request::Transfer { id: 4, suffix: 0, from: 1, to: 2, series: 1 });
+        checker.ask(&tables, &Request::Merge { id: 3, account: 1, series: 1, pairs: vec![4, 0, 4, greatest] });
+        checker.ask(&tables, &Request::Merge { id: 5, account: 1, series: 1, pairs: vec![4, 0, 4, greatest, 4, greatest - 1] });
+        checker.ask(&tables, &Request::Lineage { id: 4, suffix: greatest });
+    }
+}
+
+/// Tables at 4,096 and 1,024 rows, in slices that are just long enough, shorter and longer.
+fn full_tables(checker: &mut Checker) {
+    for spare in [0, 12, 13, 14, 40] {
+        for count in [4_090, 4_091, 4_092, 4_093, 4_094, 4_095, 4_096, 4_097] {
+            let mut tables = many(4_098, 4_100, 4);
+            tables.records[0] = count;
+            tables.records.truncate(1 + 4_096 * 13 + spare);
+            checker.ask(&tables, &Request::Trade { id: 9_000, account: 1, series: 1, side: 2, quantity: 1, price: 1 });
+            checker.ask(&tables, &Request::Trade { id: 9, account: 1, series: 1, side: 2, quantity: 1, price: 1 });
+            checker.ask(&tables, &Request::Separate { id: 2_000, suffix: 0, account: 1, series: 1, parts: vec![1, 2, 1] });
+            checker.ask(&tables, &Request::Transfer { id: 2_000, suffix: 0, from: 1, to: 2, series: 1 });
+            checker.ask(&tables, &Request::Merge { id: 9, account: 1, series: 1, pairs: vec![2_000, 0, 10, 0] });
+            checker.ask(&tables, &Request::Lineage { id: 2_000, suffix: 0 });
+        }
+    }
+    for spare in [0, 4, 5, 6, 50] {
+        for count in [1_022, 1_023, 1_024, 1_025] {
+            let mut tables = many(5, 20, 4);
+            tables.positions = vec![count];
+            for k in 0..1_026 {
+                tables.positions.extend([1 + k / 400, 1 + 2 * (k % 400), 1_000, 5, k]);
+            }
+            tables.positions.truncate(1 + 1_024 * 5 + spare);
+            for series in [1, 2, 800] {
+                checker.ask(&tables, &Request::Trade { id: 9, account: 1, series, side: 4, quantity: 1_001, price: 1 });
+            }
+            checker.ask(&tables, &Request::Transfer { id: 12, suffix: 0, from: 1, to: 2, series: 1 });
+            checker.ask(&tables, &Request::Transfer { id: 12, suffix: 0, from: 1, to: 7, series: 1 });
+            checker.ask(&tables, &Request::Merge { id: 9, account: 1, series: 1, pairs: vec![13, 0, 10, 0] });
+        }
+    }
+    // The limits are reached by booking.
+    let mut tables = many(4_000, 4_110, 4);
+    for id in 4_010..4_112 {
+        checker.call(&mut tables, &Request::Trade { id, account: 1, series: 1, side: 1 + id % 4, quantity: id, price: 1 });
+    }
+    let mut tables = many(5, 40, 4);
+    tables.positions = vec![1_020];
+    for k in 0..1_020 {
+        tables.positions.extend([3, 10 + k, 0, 0, 0]);
+    }
+    tables.positions.extend(vec![77; 61]);
+    for k in 0..8 {
+        checker.call(&mut tables, &Request::Trade { id: 1 + k, account: 4 - k % 2 * 2, series: 20 - k, side: 1 + k % 4, quantity: 5, price: 1 });
+    }
+}
+
+/// A record separated again and again: every suffix's lineage.
+fn deep_lineage(checker: &mut Checker) {
+    let mut tables = many(1, 200, 70);
+    let mut suffix = 0;
+    for quantity in (12..=70).rev() {
+        let request = Request::Separate { id: 10, suffix, account: 1, series: 1, parts: vec![1, quantity - 1] };
+        assert!(matches!(checker.call(&mut tables, &request), Reply::Booked { .. }), "{request:?}");
+        suffix += 3;
+    }
+    for suffix in 0..=suffix + 1 {
+        checker.ask(&tables, &Request::Lineage { id: 10, suffix });
+    }
+    // A parent row that is missing, the original's among them.
+    let rows: Vec<Vec<i64>> = tables.record_rows().map(<[i64]>::to_vec).collect();
+    for gone in [0, 1, 2, 60, rows.len() - 1] {
+        let mut cells = vec![rows.len() as i64 - 1];
+        cells.extend(rows.iter().enumerate().filter(|(k, _)| *k != gone).flat_map(|(_, row)| row.clone()));
+        let holed = Tables { records: cells, positions: vec![] };
+        for suffix in (0..suffix).step_by(7) {
+            checker.ask(&holed, &Request::Lineage { id: 10, suffix });
+        }
+    }
+}
+
+/// Merges whose value is at the ends, and every remainder of small ones: averages above, below and at a half.
+fn ends_of_averages(checker: &mut Checker) {
+    let merge = |checker: &mut Checker, side: i64, sources: &[(i64, i64)], cash: i64| {
+        let mut tables = Tables { records: vec![sources.len() as i64], positions: vec![1, 1, 1, 0, 0, cash, 4, 4, 4, 4, 4] };
+        for (k, (quantity, price)) in sources.iter().enumerate() {
+            tables.records.extend([20 + k as i64, 0, 0, 0, 0, 1, 1, side, *quantity, *price, 0, 0, 0]);
+        }
+        tables.records.extend(vec![6; 13 * (sources.len() + 1)]);
+        let pairs = (0..sources.len() as i64).flat_map(|k| [20 + k, 0]).collect();
+        checker.ask(&tables, &Request::Merge { id: 22, account: 1, series: 1, pairs });
+        let pairs = (0..sources.len() as i64).rev().flat_map(|k| [20 + k, 0]).collect();
+        checker.ask(&tables, &Request::Merge { id: 19, account: 1, series: 1, pairs });
+    };
+    let far = 1_000_000_000_000;
+    for side in [1, 2] {
+        for first in 1..=5 {
+            for second in 1..=5 {
+                for price in -4..=4 {
+                    merge(checker, side, &[(first, price), (second, 0)], 0);
+                }
+            }
+        }
+        for (first, second) in [(1, 999_999), (500_000, 500_000), (499_999, 500_001), (999_999, 1), (999_998, 1), (1_000_000, 1), (333_333, 666_666)] {
+            for (a, b) in [(far, far), (-far, -far), (far, -far), (-far, far), (far - 1, far), (1 - far, -far), (0, -1), (1, 0)] {
+                for cash in
+                    [0, 1_000_000_000_000_000, -1_000_000_000_000_000, 999_999_999_999_999, 999_999_999_500_000, -999_999_999_500_000, -999_999_999_500_001]
+                {
+                    merge(checker, side, &[(first, a), (second, b)], cash);
+                }
+            }
+        }
+    }
+}
