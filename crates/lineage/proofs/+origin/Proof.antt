@@ -175,8 +175,8 @@ origin-returns-2 : (t : ℕ) → origin-lts.Need-returns-2 (claims t) (origin-at
 origin-returns-2 t c =
     let r : Read t = c .before .before in
     let s : Start t = start t (r .before) in
-    simp (read-back (r .read-record .result .price) (c .struct-told .given .1 .1 .1 .1 .1 .1 .1 .1 .1 .0 .1))
-    (step-first (cells t s) (id t s) (suffix t s) (r .read-record .result) (named t r) (is-literal 0 tt (s .fits .suffix) (c .before .if1 .taken)))
+    ap (λ (z : ℤ). From z (pos 0)) (read-back (r .read-record .result .price) (c .struct-told .given .1 .1 .1 .1 .1 .1 .1 .1 .1 .0 .1))
+    ∙ (step-first (cells t s) (id t s) (suffix t s) (r .read-record .result) (named t r) (is-literal 0 tt (s .fits .suffix) (c .before .if1 .taken)))
 
 origin-origin-requires : (t : ℕ) → origin-lts.Need-origin-requires (claims t) (origin-at t) origin.Post
 origin-origin-requires t c κs =

@@ -3,7 +3,7 @@
 use Prim.Native.Nat.{ℕ, _+_, _*_, _/_, _≤_, _<_}
 use mathlib.Core.Path.{_≡_, sym, _∙_}
 use mathlib.Core.Bool.{true, false}
-use mathlib.Core.Logic.{_⊎_, inl, inr}
+use mathlib.Core.Logic.{⊎-elim}
 use native.Mathlib.Omega.{arith}
 use borrow.Author.Needs.{needs, sfits-of}
 use borrow.Author.Tests.{not-true}
@@ -103,16 +103,13 @@ loop-less : tie.Need-loop-less Inv-loop μ-loop
 loop-less c = omega (arith, halved (inside (c .before)))
 
 -- After either way through the test.
-by-cases : {A B C : Type 0} → A ⊎ B → (A → C) → (B → C) → C
-by-cases (inl a) f g = f a
-by-cases (inr b) f g = g b
-
 loop-again : tie.Need-loop-again Inv-loop μ-loop
 loop-again c =
     let i : tie.In-loop Inv-loop μ-loop = inside (c .before) in
-    by-cases (c .if1 .came)
+    ⊎-elim
     (λ t. omega (arith, past (c .before) (not-true (c .before .comes-before .result) (t .0 .taken)), t .1, i .before .loop .inv, halved i))
     (λ t. omega (arith, t .1, i .before .loop .inv, halved i))
+    (c .if1 .came)
 
 returns : tie.Need-returns Inv-loop μ-loop
 returns c =

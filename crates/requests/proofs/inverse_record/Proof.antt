@@ -1,5 +1,5 @@
 -- `requests::inverse_record` meets its contract: the quantity's negative fits, and the other figures are those given, each read back from its bits. Assumes nothing.
-use mathlib.Core.Path.{_≡_, ap, _∙_}
+use mathlib.Core.Path.{_≡_, sym, ap, subst, _∙_}
 use Prim.Native.Nat.{_<_, _^_}
 use mathlib.Core.Bool.{true}
 use lib.IntN.{ℤ, pos, negℤ, _-ℤ_, +ℤ-idl}
@@ -27,7 +27,8 @@ negated q h k = ap (λ (z : ℤ). toZ w64 (ofZ w64 (pos 0 -ℤ z))) (read-back q
 sub-t7 : tie.Need-sub-t7
 sub-t7 c =
     let s : tie.Start = c .before .before in
-    simp (read-back (s .args .r .quantity) (c .struct-told .given .1 .1 .1 .1 .1 .1 .1 .1 .0 .1)) (negated-fits (s .args .r .quantity) (s .pre))
+    let q : ℤ = s .args .r .quantity in
+    subst (λ (z : ℤ). SFits w64 (pos 0 -ℤ z)) (sym (read-back q (c .struct-told .given .1 .1 .1 .1 .1 .1 .1 .1 .0 .1))) (negated-fits q (s .pre))
 
 returns : tie.Need-returns
 unfolding inverseRecord

@@ -34,8 +34,8 @@ module _ (c : tie.Joined2) where
   against : toZ w64 (c .if2 .«open») ≡ openAgainst (s .args .side) (s .args .p)
   against =
       ⊎-elim
-      (λ w. ap (toZ w64) (w .2) ∙ simp (read-back (s .args .p .short) (w .1 .given .1 .1 .1 .0 .1)) (against-buy (s .args .side) (s .args .p) (sym buys ∙ w .0 .taken)))
-      (λ w. ap (toZ w64) (w .1) ∙ simp (read-back (s .args .p .long) (told .struct-told .given .1 .1 .0 .1)) (against-sell (s .args .side) (s .args .p) (sym buys ∙ w .0 .left)))
+      (λ w. ap (toZ w64) (w .2) ∙ read-back (s .args .p .short) (w .1 .given .1 .1 .1 .0 .1) ∙ against-buy (s .args .side) (s .args .p) (sym buys ∙ w .0 .taken))
+      (λ w. ap (toZ w64) (w .1) ∙ read-back (s .args .p .long) (told .struct-told .given .1 .1 .0 .1) ∙ against-sell (s .args .side) (s .args .p) (sym buys ∙ w .0 .left))
       (c .if2 .came)
 
 is-to-close-requires : tie.Need-is-to-close-requires

@@ -16,7 +16,7 @@ is-buy-requires c κs = search needs
 returns : tie.Need-returns
 returns c =
     let s : tie.Start = c .before .before in
-    simp (toZ-ofZ (s .fits .amount)) (long-buy (s .args .side) (s .args .amount) (sym (answer (c .before)) ∙ c .if1 .taken))
+    toZ-ofZ (s .fits .amount) ∙ long-buy (s .args .side) (s .args .amount) (sym (answer (c .before)) ∙ c .if1 .taken)
 
 returns-2 : tie.Need-returns-2
 returns-2 c =

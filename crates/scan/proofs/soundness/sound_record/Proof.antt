@@ -1,7 +1,7 @@
 -- `scan::soundness::sound_record` meets its contract: after each test the row is sound where the remaining tests hold. The kind, fourth in the definition, is tested last.
 -- Assumes nothing.
 use Prim.Native.Nat.{ℕ}
-use mathlib.Core.Path.{_≡_}
+use mathlib.Core.Path.{_≡_, ap, _∙_}
 use mathlib.Core.Bool.{Bool, _&&_}
 use mathlib.Core.List.{List, [], _∷_}
 use borrow.Author.Needs.{needs}
@@ -81,7 +81,7 @@ returns-2 c = stops (after1 (c .before .before .before)) (answer2 (c .before)) (
 
 -- test 3: parent
 answer3 : (c : tie.After-valid-suffix2) → c .valid-suffix2 .result ≡ validSuffix (row2 (c .before .before) .parent)
-answer3 c = simp (read-back (row2 (c .before .before) .parent) (c .before .struct-told3 .given .1 .1 .0 .1)) at (c .valid-suffix2 .ensures)
+answer3 c = c .valid-suffix2 .ensures ∙ ap validSuffix (read-back (row2 (c .before .before) .parent) (c .before .struct-told3 .given .1 .1 .0 .1))
 
 abbrev row3 : tie.Else3 → Record
 row3 c = row2 (c .before .before .before)

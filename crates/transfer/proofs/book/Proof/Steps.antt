@@ -3,18 +3,19 @@
 use Prim.Native.Nat.{suc, _+_, _*_, _≤_, _<_}
 use mathlib.Core.Path.{_≡_, sym, _∙_, ap}
 use mathlib.Core.List.{List, [], _∷_}
-use lib.IntN.{ℤ, pos, _+ℤ_}
+use lib.IntN.{ℤ, pos, negℤ, _+ℤ_}
 use lib.ListN.{length}
 use lib.Signed.{_≤ℤ_}
 use mir.Facts.{toZ-ofZ}
 use mir.Syntax.{w64}
 use mir.Val.{toZ, ofZ}
 use Rattle.rules.specs.Figures.{transferKind}
-use Rattle.rules.specs.Rows.{keyOf, recordKey, positionKey, adjustedRecord, adjustableRecord}
+use Rattle.rules.specs.Rows.{keyOf, recordKey, positionKey, adjustedRecord, adjustableRecord, moved}
 use Rattle.rules.specs.Transfer.{inLong, inShort}
 use Rattle.rules.specs.Layout.{roomOf, rowsOf}
 use Rattle.rules.specs.Tables.{recordsLayout, positionsLayout}
 use Rattle.rules.specs.declared.Record.{Record}
+use Rattle.rules.specs.declared.Position.{Position}
 use Rattle.lookup.specs.Lookup.{rowPlace}
 use Rattle.soundness.proofs.NamedRecord.{nextOf}
 use Rattle.verdict.proofs.Puts.{putOne, putAll}
@@ -123,7 +124,9 @@ module _ (c : tie.After-taken-from) where
   read4 = read3 (written2 .before)
 
   pub taken-is : c .taken-from .result ≡ transferOld (ps (s read4)) (r read4) (from (s read4)) (series (s read4))
-  taken-is = rw (old-is read4) at (c .taken-from .ensures)
+  taken-is =
+      c .taken-from .ensures
+      ∙ ap (λ (p : Position). moved p (inLong (r read4 .side) (negℤ (r read4 .quantity))) (inShort (r read4 .side) (negℤ (r read4 .quantity))) (pos 0)) (old-is read4)
 
 module _ (c : tie.After-put-position) where
   pub old-put : c .put-position .last .0
