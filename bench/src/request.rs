@@ -1,5 +1,8 @@
 //! A request, and the two books that answer it on lent tables: the archive through its C interface, and the peer by hand.
 
+pub use velichundam::c::Coded;
+use velichundam::c::{velichundam_lineage, velichundam_merge, velichundam_separate, velichundam_trade, velichundam_transfer};
+
 #[derive(Clone, Debug)]
 pub enum Request {
     Trade { id: i64, account: i64, series: i64, side: i64, quantity: i64, price: i64 },
@@ -23,29 +26,7 @@ impl Request {
     }
 }
 
-/// An answer, by the numbers of include/velichundam.h.
-#[repr(C)]
-#[derive(Clone, Copy, Debug, PartialEq, Eq)]
-pub struct Coded {
-    pub kind: i64,
-    pub first: i64,
-    pub second: i64,
-}
-
 pub const REFUSED: i64 = 3;
-
-#[rustfmt::skip]
-extern "C" {
-    fn velichundam_trade(records: *mut i64, records_len: usize, positions: *mut i64, positions_len: usize,
-        id: i64, account: i64, series: i64, side: i64, quantity: i64, price: i64) -> Coded;
-    fn velichundam_separate(records: *mut i64, records_len: usize, positions: *mut i64, positions_len: usize,
-        id: i64, suffix: i64, account: i64, series: i64, parts: *const i64, parts_len: usize) -> Coded;
-    fn velichundam_transfer(records: *mut i64, records_len: usize, positions: *mut i64, positions_len: usize,
-        id: i64, suffix: i64, from: i64, to: i64, series: i64) -> Coded;
-    fn velichundam_merge(records: *mut i64, records_len: usize, positions: *mut i64, positions_len: usize,
-        id: i64, account: i64, series: i64, pairs: *const i64, pairs_len: usize) -> Coded;
-    fn velichundam_lineage(records: *const i64, records_len: usize, id: i64, suffix: i64) -> Coded;
-}
 
 pub type Book = fn(&mut [i64], &mut [i64], &Request) -> Coded;
 

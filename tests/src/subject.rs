@@ -3,27 +3,8 @@
 use crate::lent::{Arena, Fence};
 use crate::tables::Tables;
 use model::{Reply, Request};
-
-#[repr(C)]
-#[derive(Clone, Copy, Debug, PartialEq, Eq)]
-pub struct Coded {
-    pub kind: i64,
-    pub first: i64,
-    pub second: i64,
-}
-
-#[rustfmt::skip]
-extern "C" {
-    fn velichundam_trade(records: *mut i64, records_len: usize, positions: *mut i64, positions_len: usize,
-        id: i64, account: i64, series: i64, side: i64, quantity: i64, price: i64) -> Coded;
-    fn velichundam_separate(records: *mut i64, records_len: usize, positions: *mut i64, positions_len: usize,
-        id: i64, suffix: i64, account: i64, series: i64, parts: *const i64, parts_len: usize) -> Coded;
-    fn velichundam_transfer(records: *mut i64, records_len: usize, positions: *mut i64, positions_len: usize,
-        id: i64, suffix: i64, from: i64, to: i64, series: i64) -> Coded;
-    fn velichundam_merge(records: *mut i64, records_len: usize, positions: *mut i64, positions_len: usize,
-        id: i64, account: i64, series: i64, pairs: *const i64, pairs_len: usize) -> Coded;
-    fn velichundam_lineage(records: *const i64, records_len: usize, id: i64, suffix: i64) -> Coded;
-}
+pub use velichundam::c::Coded;
+use velichundam::c::{velichundam_lineage, velichundam_merge, velichundam_separate, velichundam_trade, velichundam_transfer};
 
 /// The numbers by which include/velichundam.h gives an answer.
 pub fn coded(reply: Reply) -> Coded {

@@ -4,7 +4,7 @@ use std::path::PathBuf;
 
 fn main() {
     println!("cargo:rerun-if-env-changed=VELICHUNDAM_LIB_DIR");
-    if std::env::var_os("CARGO_FEATURE_PEER").is_some() {
+    if std::env::var_os("CARGO_FEATURE_UNLINKED").is_some() {
         return;
     }
     let here = PathBuf::from(std::env::var_os("CARGO_MANIFEST_DIR").expect("cargo sets it"));

@@ -1,0 +1,85 @@
+//! The proved transaction book for hosts in Rust: the calls of include/velichundam.h, on lent slices and with an enum for the answer.
+//!
+//! What each call answers and leaves in every cell is said in that header, and proved in crates/velichundam. The borrow checker sees to what the header asks of a
+//! host: slices of the right length that do not overlap, and nobody else who writes them. The archive is made by `rt staticlib velichundam`; its folder is
+//! VELICHUNDAM_LIB_DIR, or ../target/staticlib.
+
+/// An answer.
+#[derive(Clone, Copy, Debug, PartialEq, Eq)]
+pub enum Reply {
+    /// Booked: the rows added to the records table, and the residual, which is 0 but for a merge.
+    Booked { rows: i64, residual: i64 },
+    /// Booked, a trade to close that exceeds what was open by so much.
+    ClosingError { excess: i64 },
+    /// The price of the original, and the links followed to it.
+    Lineage { price: i64, links: i64 },
+    /// Refused, with the first number that applies, 1 to 16, and its place in the list; no cell has changed.
+    Refused { number: i64, place: i64 },
+}
+
+impl From<c::Coded> for Reply {
+    fn from(coded: c::Coded) -> Reply {
+        let c::Coded { kind, first, second } = coded;
+        match kind {
+            0 => Reply::Booked { rows: first, residual: second },
+            1 => Reply::ClosingError { excess: first },
+            2 => Reply::Lineage { price: first, links: second },
+            _ => Reply::Refused { number: first, place: second },
+        }
+    }
+}
+
+/// Books a trade. Sides: 1 buy open, 2 sell open, 3 buy close, 4 sell close.
+#[allow(clippy::too_many_arguments)]
+pub fn trade(records: &mut [i64], positions: &mut [i64], id: i64, account: i64, series: i64, side: i64, quantity: i64, price: i64) -> Reply {
+    let (r, p) = (records.as_mut_ptr(), positions.as_mut_ptr());
+    unsafe { c::velichundam_trade(r, records.len(), p, positions.len(), id, account, series, side, quantity, price) }.into()
+}
+
+/// Separates a record into parts, whose quantities come to the record's.
+pub fn separate(records: &mut [i64], positions: &mut [i64], id: i64, suffix: i64, account: i64, series: i64, parts: &[i64]) -> Reply {
+    let (r, p) = (records.as_mut_ptr(), positions.as_mut_ptr());
+    unsafe { c::velichundam_separate(r, records.len(), p, positions.len(), id, suffix, account, series, parts.as_ptr(), parts.len()) }.into()
+}
+
+/// Transfers a record to another account.
+pub fn transfer(records: &mut [i64], positions: &mut [i64], id: i64, suffix: i64, from: i64, to: i64, series: i64) -> Reply {
+    let (r, p) = (records.as_mut_ptr(), positions.as_mut_ptr());
+    unsafe { c::velichundam_transfer(r, records.len(), p, positions.len(), id, suffix, from, to, series) }.into()
+}
+
+/// Merges records, named by id and suffix in turn, into a new id at their average price.
+pub fn merge(records: &mut [i64], positions: &mut [i64], id: i64, account: i64, series: i64, pairs: &[i64]) -> Reply {
+    let (r, p) = (records.as_mut_ptr(), positions.as_mut_ptr());
+    unsafe { c::velichundam_merge(r, records.len(), p, positions.len(), id, account, series, pairs.as_ptr(), pairs.len()) }.into()
+}
+
+/// Asks where a record came from.
+pub fn lineage(records: &[i64], id: i64, suffix: i64) -> Reply {
+    unsafe { c::velichundam_lineage(records.as_ptr(), records.len(), id, suffix) }.into()
+}
+
+/// The C interface as it is.
+pub mod c {
+    /// An answer by the numbers of include/velichundam.h.
+    #[repr(C)]
+    #[derive(Clone, Copy, Debug, PartialEq, Eq)]
+    pub struct Coded {
+        pub kind: i64,
+        pub first: i64,
+        pub second: i64,
+    }
+
+    #[rustfmt::skip]
+    extern "C" {
+        pub fn velichundam_trade(records: *mut i64, records_len: usize, positions: *mut i64, positions_len: usize,
+            id: i64, account: i64, series: i64, side: i64, quantity: i64, price: i64) -> Coded;
+        pub fn velichundam_separate(records: *mut i64, records_len: usize, positions: *mut i64, positions_len: usize,
+            id: i64, suffix: i64, account: i64, series: i64, parts: *const i64, parts_len: usize) -> Coded;
+        pub fn velichundam_transfer(records: *mut i64, records_len: usize, positions: *mut i64, positions_len: usize,
+            id: i64, suffix: i64, from: i64, to: i64, series: i64) -> Coded;
+        pub fn velichundam_merge(records: *mut i64, records_len: usize, positions: *mut i64, positions_len: usize,
+            id: i64, account: i64, series: i64, pairs: *const i64, pairs_len: usize) -> Coded;
+        pub fn velichundam_lineage(records: *const i64, records_len: usize, id: i64, suffix: i64) -> Coded;
+    }
+}
