@@ -46,16 +46,16 @@ pub fn lineage(records: &[i64], id: i64, suffix: i64) -> Reply
     ensures { λ r. ⌜ r ≡ (handle (tablesOf (now (records .entry)) []) (Request.lineage id suffix)) .reply ⌝ }
 {
     if !scan::soundness::records_sound(records) {
-        return Reply::Refused { number: 1, place: 0 };
+        return Reply::Refused(1, 0);
     }
     if !figures::valid_id(id) {
-        return Reply::Refused { number: 3, place: 0 };
+        return Reply::Refused(3, 0);
     }
     if !figures::valid_suffix(suffix) {
-        return Reply::Refused { number: 3, place: 0 };
+        return Reply::Refused(3, 0);
     }
     match origin(records, id, suffix) {
         Traced::From { price, links } => Reply::Lineage { price, links },
-        Traced::Missing => Reply::Refused { number: 5, place: 0 },
+        Traced::Missing => Reply::Refused(5, 0),
     }
 }

@@ -107,7 +107,8 @@ pub fn book(records: &mut [i64], positions: &mut [i64], id: i64, account: i64, s
     let price = integers::average(value, quantity);
     let residual = integers::residual(figures::is_buy(first.side), value, quantity);
     let merged = merged_row(first, id, quantity, price);
-    let left = requests::moved(positions::position_of(positions, account, series), 0, 0, residual);
+    let old = positions::position_of(positions, account, series);
+    let left = requests::moved(old, 0, 0, residual);
     adjust_sources(&mut *records, pairs);
     insert_inverses(&mut *records, pairs, id);
     records::insert_record(records, merged);

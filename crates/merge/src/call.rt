@@ -34,10 +34,7 @@ fn refused_at(number: i64, place: usize) -> Verdict
     requires { ⌜ place < 1000 ⌝ }
     ensures { λ r. ⌜ r ≡ Refused number (pos place) ⌝ }
 {
-    Verdict::Refused {
-        number,
-        place: place as i64,
-    }
+    Verdict::Refused(number, place as i64)
 }
 
 // Tests 3 to 5, which find the row of each source; then those of the sources.
@@ -46,10 +43,10 @@ fn verdict(records: &[i64], positions: &[i64], id: i64, account: i64, series: i6
     ensures { λ r. ⌜ (r ≡ verdictOn (now (records .entry)) (now (positions .entry)) (Request.merge id account series (now (pairs .entry)))) × (r ≡ Accepted → rowsKnown (now (records .entry)) (now (pairs .entry)) (now (rows .exit))) ⌝ }
 {
     if !pairs::figures_valid(id, account, series, pairs) {
-        return Verdict::Refused { number: 3, place: 0 };
+        return Verdict::Refused(3, 0);
     }
     let lookup::Greatest::Nothing = records::greatest_suffix(records, id) else {
-        return Verdict::Refused { number: 4, place: 0 };
+        return Verdict::Refused(4, 0);
     };
     if let Place::At(i) = sources::locate(records, pairs, &mut *rows) {
         return refused_at(5, i);
@@ -92,23 +89,23 @@ fn verdict_on_sums(records: &[i64], positions: &[i64], id: i64, account: i64, se
 {
     let quantity = sources::sum_of_quantities(records, pairs, rows);
     if 1_000_000 < quantity {
-        return Verdict::Refused { number: 11, place: 0 };
+        return Verdict::Refused(11, 0);
     }
     if sources::suffix_above(records, pairs) {
-        return Verdict::Refused { number: 13, place: 0 };
+        return Verdict::Refused(13, 0);
     }
     if requests::lacks_records_room(records, pairs.len() / 2 + 1) {
-        return Verdict::Refused { number: 14, place: 0 };
+        return Verdict::Refused(14, 0);
     }
     let absent = requests::absent_position(positions, account, series);
     if requests::lacks_positions_room(positions, absent) {
-        return Verdict::Refused { number: 15, place: 0 };
+        return Verdict::Refused(15, 0);
     }
     let value = sources::sum_of_values(records, pairs, rows);
     let residual = integers::residual(buy, value, quantity);
     let p = positions::position_of(positions, account, series);
     if !scan::soundness::sound_position(requests::moved(p, 0, 0, residual)) {
-        return Verdict::Refused { number: 16, place: 0 };
+        return Verdict::Refused(16, 0);
     }
     Verdict::Accepted
 }
@@ -117,14 +114,14 @@ pub fn merge(records: &mut [i64], positions: &mut [i64], id: i64, account: i64, 
     ensures { λ r. ⌜ answered r (now (records .exit)) (now (positions .exit)) ≡ handle (tablesOf (now (records .entry)) (now (positions .entry))) (Request.merge id account series (now (pairs .entry))) ⌝ }
 {
     if !scan::soundness::records_sound(records) {
-        return Reply::Refused { number: 1, place: 0 };
+        return Reply::Refused(1, 0);
     }
     if !scan::soundness::positions_sound(positions) {
-        return Reply::Refused { number: 2, place: 0 };
+        return Reply::Refused(2, 0);
     }
     let mut rows: [u16; 1000] = [0; 1000];
     match verdict(records, positions, id, account, series, pairs, &mut rows) {
-        Verdict::Refused { number, place } => Reply::Refused { number, place },
+        Verdict::Refused(number, place) => Reply::Refused(number, place),
         Verdict::Accepted => booking::book(records, positions, id, account, series, pairs, &rows),
     }
 }

@@ -35,5 +35,6 @@ pub enum Reply {
     Booked { rows: i64, residual: i64 },
     ClosingError { excess: i64 },
     Lineage { price: i64, links: i64 },
-    Refused { number: i64, place: i64 },
+    // The number of the first refusal that applies, then its place.
+    Refused(i64, i64),
 }

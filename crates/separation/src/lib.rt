@@ -77,27 +77,27 @@ fn verdict(records: &[i64], positions: &[i64], id: i64, suffix: i64, account: i6
     ensures { λ r. ⌜ r ≡ verdictOn (now (records .entry)) (now (positions .entry)) (Request.separate id suffix account series (now (parts .entry))) ⌝ }
 {
     if !figures_valid(id, suffix, account, series, parts) {
-        return Verdict::Refused { number: 3, place: 0 };
+        return Verdict::Refused(3, 0);
     }
     let Found::Row(row) = records::find_record(records, id, suffix) else {
-        return Verdict::Refused { number: 5, place: 0 };
+        return Verdict::Refused(5, 0);
     };
     let r = records::read_record(records, row);
     if requests::is_elsewhere(r, account, series) {
-        return Verdict::Refused { number: 6, place: 0 };
+        return Verdict::Refused(6, 0);
     }
     if r.status != 0 {
-        return Verdict::Refused { number: 7, place: 0 };
+        return Verdict::Refused(7, 0);
     }
     if sum_of(parts) != r.quantity {
-        return Verdict::Refused { number: 11, place: 0 };
+        return Verdict::Refused(11, 0);
     }
     let last = requests::next_suffix(records, id) + parts.len() as i64;
     if 65_535 < last {
-        return Verdict::Refused { number: 13, place: 0 };
+        return Verdict::Refused(13, 0);
     }
     if requests::lacks_records_room(records, parts.len() + 1) {
-        return Verdict::Refused { number: 14, place: 0 };
+        return Verdict::Refused(14, 0);
     }
     Verdict::Accepted
 }
@@ -123,7 +123,7 @@ fn book(records: &mut [i64], positions: &[i64], id: i64, suffix: i64, account: i
     ensures { λ r. ⌜ answered r (now (records .exit)) (now (positions .entry)) ≡ acceptedOn (now (records .entry)) (now (positions .entry)) (Request.separate id suffix account series (now (parts .entry))) ⌝ }
 {
     let Found::Row(row) = records::find_record(records, id, suffix) else {
-        return Reply::Refused { number: 5, place: 0 };
+        return Reply::Refused(5, 0);
     };
     let r = records::read_record(records, row);
     let next = requests::next_suffix(records, id);
@@ -139,13 +139,13 @@ pub fn separate(records: &mut [i64], positions: &mut [i64], id: i64, suffix: i64
     ensures { λ r. ⌜ answered r (now (records .exit)) (now (positions .exit)) ≡ handle (tablesOf (now (records .entry)) (now (positions .entry))) (Request.separate id suffix account series (now (parts .entry))) ⌝ }
 {
     if !scan::soundness::records_sound(records) {
-        return Reply::Refused { number: 1, place: 0 };
+        return Reply::Refused(1, 0);
     }
     if !scan::soundness::positions_sound(positions) {
-        return Reply::Refused { number: 2, place: 0 };
+        return Reply::Refused(2, 0);
     }
     match verdict(records, positions, id, suffix, account, series, parts) {
-        Verdict::Refused { number, place } => Reply::Refused { number, place },
+        Verdict::Refused(number, place) => Reply::Refused(number, place),
         Verdict::Accepted => book(records, positions, id, suffix, account, series, parts),
     }
 }

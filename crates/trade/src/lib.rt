@@ -104,20 +104,21 @@ fn verdict(records: &[i64], positions: &[i64], id: i64, account: i64, series: i6
     ensures { λ r. ⌜ r ≡ verdictOn (now (records .entry)) (now (positions .entry)) (Request.trade id account series side quantity price) ⌝ }
 {
     if !figures_valid(id, account, series, side, quantity, price) {
-        return Verdict::Refused { number: 3, place: 0 };
+        return Verdict::Refused(3, 0);
     }
     let lookup::Greatest::Nothing = records::greatest_suffix(records, id) else {
-        return Verdict::Refused { number: 4, place: 0 };
+        return Verdict::Refused(4, 0);
     };
     if requests::lacks_records_room(records, 1) {
-        return Verdict::Refused { number: 14, place: 0 };
+        return Verdict::Refused(14, 0);
     }
     let absent = requests::absent_position(positions, account, series);
     if requests::lacks_positions_room(positions, absent) {
-        return Verdict::Refused { number: 15, place: 0 };
+        return Verdict::Refused(15, 0);
     }
-    if !scan::soundness::sound_position(position_after(positions, account, series, side, quantity)) {
-        return Verdict::Refused { number: 16, place: 0 };
+    let left = position_after(positions, account, series, side, quantity);
+    if !scan::soundness::sound_position(left) {
+        return Verdict::Refused(16, 0);
     }
     Verdict::Accepted
 }
@@ -161,13 +162,13 @@ pub fn trade(records: &mut [i64], positions: &mut [i64], id: i64, account: i64, 
     ensures { λ r. ⌜ answered r (now (records .exit)) (now (positions .exit)) ≡ handle (tablesOf (now (records .entry)) (now (positions .entry))) (Request.trade id account series side quantity price) ⌝ }
 {
     if !scan::soundness::records_sound(records) {
-        return Reply::Refused { number: 1, place: 0 };
+        return Reply::Refused(1, 0);
     }
     if !scan::soundness::positions_sound(positions) {
-        return Reply::Refused { number: 2, place: 0 };
+        return Reply::Refused(2, 0);
     }
     match verdict(records, positions, id, account, series, side, quantity, price) {
-        Verdict::Refused { number, place } => Reply::Refused { number, place },
+        Verdict::Refused(number, place) => Reply::Refused(number, place),
         Verdict::Accepted => book(records, positions, id, account, series, side, quantity, price),
     }
 }

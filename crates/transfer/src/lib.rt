@@ -109,20 +109,20 @@ fn verdict(records: &[i64], positions: &[i64], id: i64, suffix: i64, from: i64, 
     ensures { λ r. ⌜ r ≡ verdictOn (now (records .entry)) (now (positions .entry)) (Request.transfer id suffix from to series) ⌝ }
 {
     if !figures_valid(id, suffix, from, to, series) {
-        return Verdict::Refused { number: 3, place: 0 };
+        return Verdict::Refused(3, 0);
     }
     let Found::Row(row) = records::find_record(records, id, suffix) else {
-        return Verdict::Refused { number: 5, place: 0 };
+        return Verdict::Refused(5, 0);
     };
     let r = records::read_record(records, row);
     if requests::is_elsewhere(r, from, series) {
-        return Verdict::Refused { number: 6, place: 0 };
+        return Verdict::Refused(6, 0);
     }
     if r.status != 0 {
-        return Verdict::Refused { number: 7, place: 0 };
+        return Verdict::Refused(7, 0);
     }
     if figures::is_to_close(r.side) {
-        return Verdict::Refused { number: 8, place: 0 };
+        return Verdict::Refused(8, 0);
     }
     verdict_on_record(records, positions, r, id, suffix, from, to, series)
 }
@@ -135,24 +135,24 @@ fn verdict_on_record(records: &[i64], positions: &[i64], r: Record, id: i64, suf
 {
     let old = positions::position_of(positions, from, series);
     if holds_too_little(r, old) {
-        return Verdict::Refused { number: 12, place: 0 };
+        return Verdict::Refused(12, 0);
     }
     if 65_535 < requests::next_suffix(records, id) + 1 {
-        return Verdict::Refused { number: 13, place: 0 };
+        return Verdict::Refused(13, 0);
     }
     if requests::lacks_records_room(records, 2) {
-        return Verdict::Refused { number: 14, place: 0 };
+        return Verdict::Refused(14, 0);
     }
     let absent = requests::absent_position(positions, from, series) + requests::absent_position(positions, to, series);
     if requests::lacks_positions_room(positions, absent) {
-        return Verdict::Refused { number: 15, place: 0 };
+        return Verdict::Refused(15, 0);
     }
     let new = positions::position_of(positions, to, series);
     if !scan::soundness::sound_position(taken_from(old, r)) {
-        return Verdict::Refused { number: 16, place: 0 };
+        return Verdict::Refused(16, 0);
     }
     if !scan::soundness::sound_position(given_to(new, r)) {
-        return Verdict::Refused { number: 16, place: 0 };
+        return Verdict::Refused(16, 0);
     }
     Verdict::Accepted
 }
@@ -162,7 +162,7 @@ fn book(records: &mut [i64], positions: &mut [i64], id: i64, suffix: i64, from: 
     ensures { λ r. ⌜ answered r (now (records .exit)) (now (positions .exit)) ≡ acceptedOn (now (records .entry)) (now (positions .entry)) (Request.transfer id suffix from to series) ⌝ }
 {
     let Found::Row(row) = records::find_record(records, id, suffix) else {
-        return Reply::Refused { number: 5, place: 0 };
+        return Reply::Refused(5, 0);
     };
     let r = records::read_record(records, row);
     let next = requests::next_suffix(records, id);
@@ -181,13 +181,13 @@ pub fn transfer(records: &mut [i64], positions: &mut [i64], id: i64, suffix: i64
     ensures { λ r. ⌜ answered r (now (records .exit)) (now (positions .exit)) ≡ handle (tablesOf (now (records .entry)) (now (positions .entry))) (Request.transfer id suffix from to series) ⌝ }
 {
     if !scan::soundness::records_sound(records) {
-        return Reply::Refused { number: 1, place: 0 };
+        return Reply::Refused(1, 0);
     }
     if !scan::soundness::positions_sound(positions) {
-        return Reply::Refused { number: 2, place: 0 };
+        return Reply::Refused(2, 0);
     }
     match verdict(records, positions, id, suffix, from, to, series) {
-        Verdict::Refused { number, place } => Reply::Refused { number, place },
+        Verdict::Refused(number, place) => Reply::Refused(number, place),
         Verdict::Accepted => book(records, positions, id, suffix, from, to, series),
     }
 }

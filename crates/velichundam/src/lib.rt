@@ -25,7 +25,7 @@ fn code_of(r: Reply) -> Coded
         Reply::Booked { rows, residual } => Coded { kind: 0, first: rows, second: residual },
         Reply::ClosingError { excess } => Coded { kind: 1, first: excess, second: 0 },
         Reply::Lineage { price, links } => Coded { kind: 2, first: price, second: links },
-        Reply::Refused { number, place } => Coded { kind: 3, first: number, second: place },
+        Reply::Refused(number, place) => Coded { kind: 3, first: number, second: place },
     }
 }
 

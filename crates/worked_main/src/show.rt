@@ -25,7 +25,7 @@ pub fn reply(r: Reply) {
             printing::text(b"lineage: price, links");
             two(price, links);
         }
-        Reply::Refused { number, place } => {
+        Reply::Refused(number, place) => {
             printing::text(b"refused: number, place");
             two(number, place);
         }
