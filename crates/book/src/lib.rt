@@ -7,25 +7,66 @@ ghost use Rattle.rules.specs.Request as Request;
 ghost use Rattle.rules.specs.Handle.{handle};
 ghost use Rattle.verdict.specs.Verdict.{tablesOf, answered};
 
-pub fn trade(records: &mut [i64], positions: &mut [i64], id: i64, account: i64, series: i64, side: i64, quantity: i64, price: i64) -> Reply
+pub fn trade(
+    records: &mut [i64],
+    positions: &mut [i64],
+    id: i64,
+    account: i64,
+    series: i64,
+    side: i64,
+    quantity: i64,
+    price: i64,
+) -> Reply
     ensures { λ r. ⌜ answered r (now (records .exit)) (now (positions .exit)) ≡ handle (tablesOf (now (records .entry)) (now (positions .entry))) (Request.trade id account series side quantity price) ⌝ }
 {
-    trade::trade(records, positions, id, account, series, side, quantity, price)
+    trade::trade(
+        records,
+        positions,
+        id,
+        account,
+        series,
+        side,
+        quantity,
+        price,
+    )
 }
 
-pub fn separate(records: &mut [i64], positions: &mut [i64], id: i64, suffix: i64, account: i64, series: i64, parts: &[i64]) -> Reply
+pub fn separate(
+    records: &mut [i64],
+    positions: &mut [i64],
+    id: i64,
+    suffix: i64,
+    account: i64,
+    series: i64,
+    parts: &[i64],
+) -> Reply
     ensures { λ r. ⌜ answered r (now (records .exit)) (now (positions .exit)) ≡ handle (tablesOf (now (records .entry)) (now (positions .entry))) (Request.separate id suffix account series (now (parts .entry))) ⌝ }
 {
     separation::separate(records, positions, id, suffix, account, series, parts)
 }
 
-pub fn transfer(records: &mut [i64], positions: &mut [i64], id: i64, suffix: i64, from: i64, to: i64, series: i64) -> Reply
+pub fn transfer(
+    records: &mut [i64],
+    positions: &mut [i64],
+    id: i64,
+    suffix: i64,
+    from: i64,
+    to: i64,
+    series: i64,
+) -> Reply
     ensures { λ r. ⌜ answered r (now (records .exit)) (now (positions .exit)) ≡ handle (tablesOf (now (records .entry)) (now (positions .entry))) (Request.transfer id suffix from to series) ⌝ }
 {
     transfer::transfer(records, positions, id, suffix, from, to, series)
 }
 
-pub fn merge(records: &mut [i64], positions: &mut [i64], id: i64, account: i64, series: i64, pairs: &[i64]) -> Reply
+pub fn merge(
+    records: &mut [i64],
+    positions: &mut [i64],
+    id: i64,
+    account: i64,
+    series: i64,
+    pairs: &[i64],
+) -> Reply
     ensures { λ r. ⌜ answered r (now (records .exit)) (now (positions .exit)) ≡ handle (tablesOf (now (records .entry)) (now (positions .entry))) (Request.merge id account series (now (pairs .entry))) ⌝ }
 {
     merge::call::merge(records, positions, id, account, series, pairs)

@@ -12,7 +12,6 @@ use Rattle.cells.proofs.Write.{length-write, room-write, rows-write, wr
 use Rattle.cells.proofs.RowCells.{records-lawful, positions-lawful}
 
 module _ (t : Tables) where
-
   -- The books of two tables, part by part.
   pub books-records : booksOf t .records ≡ rowsOf recordsLayout (t .records)
   unfolding booksOf
@@ -43,19 +42,20 @@ module _ (t : Tables) where
   pub write-own-books : countIsSound recordsLayout (t .records) ≡ true → countIsSound positionsLayout (t .positions) ≡ true → writeBooks t (booksOf t) ≡ t
   unfolding booksOf writeBooks
   write-own-books r p = λ i. record {
-      records = write-own recordsLayout records-lawful (t .records) r i;
-      positions = write-own positionsLayout positions-lawful (t .positions) p i }
+    records = write-own recordsLayout records-lawful (t .records) r i;
+    positions = write-own positionsLayout positions-lawful (t .positions) p i;
+  }
 
   -- Of two writings the second alone is seen, where neither table shrinks.
   pub write-books-twice : (b b′ : Books) → length (b .records) ≤ length (b′ .records) → length (b .positions) ≤ length (b′ .positions)
-    → writeBooks (writeBooks t b) b′ ≡ writeBooks t b′
+      → writeBooks (writeBooks t b) b′ ≡ writeBooks t b′
   unfolding writeBooks
   write-books-twice b b′ r p = λ i. record {
-      records = write-write recordsLayout records-lawful (t .records) (b .records) (b′ .records) r i;
-      positions = write-write positionsLayout positions-lawful (t .positions) (b .positions) (b′ .positions) p i }
+    records = write-write recordsLayout records-lawful (t .records) (b .records) (b′ .records) r i;
+    positions = write-write positionsLayout positions-lawful (t .positions) (b .positions) (b′ .positions) p i;
+  }
 
 module _ (t : Tables) (b : Books) (fits : Fitting t b) where
-
   -- The rows are within the tables' rooms.
   pub records-within : length (b .records) ≤ roomOf recordsLayout (t .records)
   records-within = rw (fits .records-room ∙ books-records-room t) at (fits .records-fit)
@@ -76,15 +76,17 @@ module _ (t : Tables) (b : Books) (fits : Fitting t b) where
   pub books-written : booksOf (writeBooks t b) ≡ b
   unfolding booksOf writeBooks
   books-written = λ i. record {
-      records = rows-write recordsLayout records-lawful (t .records) (b .records) i;
-      positions = rows-write positionsLayout positions-lawful (t .positions) (b .positions) i;
-      recordsRoom = records-room-kept i;
-      positionsRoom = positions-room-kept i }
+    records = rows-write recordsLayout records-lawful (t .records) (b .records) i;
+    positions = rows-write positionsLayout positions-lawful (t .positions) (b .positions) i;
+    recordsRoom = records-room-kept i;
+    positionsRoom = positions-room-kept i;
+  }
     where
       records-room-kept : roomOf recordsLayout (write recordsLayout (t .records) (b .records)) ≡ b .recordsRoom
       records-room-kept =
           room-write recordsLayout records-lawful (t .records) (b .records) (fits .records-cell) records-within
           ∙ sym (fits .records-room ∙ books-records-room t)
+
       positions-room-kept : roomOf positionsLayout (write positionsLayout (t .positions) (b .positions)) ≡ b .positionsRoom
       positions-room-kept =
           room-write positionsLayout positions-lawful (t .positions) (b .positions) (fits .positions-cell) positions-within
@@ -92,11 +94,12 @@ module _ (t : Tables) (b : Books) (fits : Fitting t b) where
 
   -- Later books of the same rooms fit the written tables.
   pub fitting-next : (b′ : Books) → b′ .recordsRoom ≡ b .recordsRoom → b′ .positionsRoom ≡ b .positionsRoom
-    → length (b′ .records) ≤ b′ .recordsRoom → length (b′ .positions) ≤ b′ .positionsRoom → Fitting (writeBooks t b) b′
+      → length (b′ .records) ≤ b′ .recordsRoom → length (b′ .positions) ≤ b′ .positionsRoom → Fitting (writeBooks t b) b′
   fitting-next b′ er ep fr fp = record {
-      records-cell = rw length-written-records (fits .records-cell);
-      positions-cell = rw length-written-positions (fits .positions-cell);
-      records-room = er ∙ ap (λ (c : Books). c .recordsRoom) (sym books-written);
-      positions-room = ep ∙ ap (λ (c : Books). c .positionsRoom) (sym books-written);
-      records-fit = fr;
-      positions-fit = fp }
+    records-cell = rw length-written-records (fits .records-cell);
+    positions-cell = rw length-written-positions (fits .positions-cell);
+    records-room = er ∙ ap (λ (c : Books). c .recordsRoom) (sym books-written);
+    positions-room = ep ∙ ap (λ (c : Books). c .positionsRoom) (sym books-written);
+    records-fit = fr;
+    positions-fit = fp;
+  }

@@ -33,7 +33,6 @@ count-then [] m h = absurd (omega arith)
 count-then (c ∷ rest) m h = ap (λ (j : ℕ). take j (c ∷ rest)) (sym (one-add m))
 
 module _ {Row : Type 0} (l : Layout Row) where
-
   -- Room depends on the number of cells alone.
   pub room-by-length : (xs ys : List ℤ) → length xs ≡ length ys → roomOf l xs ≡ roomOf l ys
   unfolding roomOf
@@ -48,7 +47,6 @@ module _ {Row : Type 0} (l : Layout Row) where
   length-rowsOf cells = length-decode (l .get) (l .width) (natAbs (countOf cells)) (l .header) cells
 
 module _ {Row : Type 0} (l : Layout Row) (lawful : Lawful l) where
-
   -- So many rows within the room lie within the cells, and the other way round.
   pub fits-cells : (cells : List ℤ) (n : ℕ) → 1 ≤ length cells → n ≤ roomOf l cells → 1 + n * l .width ≤ length cells
   unfolding roomOf
@@ -83,7 +81,6 @@ module _ {Row : Type 0} (l : Layout Row) (lawful : Lawful l) where
 
   -- What a sound count says.
   module _ (cells : List ℤ) (sound : countIsSound l cells ≡ true) where
-
     pub sound-count-cell : 1 ≤ length cells
     unfolding countIsSound
     sound-count-cell =

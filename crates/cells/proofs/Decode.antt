@@ -11,7 +11,6 @@ use lib.Seq.{take-at, drop-at}
 use Rattle.rules.specs.Layout.{decode}
 
 module _ {Row : Type 0} (get : List ℤ → ℕ → Row) (width : ℕ) where
-
   pub length-decode : (n at : ℕ) (xs : List ℤ) → length (decode get width n at xs) ≡ n
   length-decode zero at xs = refl
   length-decode (suc n) at xs = ap suc (length-decode n (at + width) xs)

@@ -14,7 +14,6 @@ use Rattle.cells.proofs.Parts.{around}
 use Rattle.cells.proofs.Decode.{length-decode}
 
 module _ {Row : Type 0} (put : Row → List ℤ) where
-
   pub encode-nil : encode put [] ≡ []
   unfolding encode
   encode-nil = refl
@@ -29,7 +28,6 @@ module _ {Row : Type 0} (put : Row → List ℤ) where
   encode-append (r ∷ rest) b = ap (λ (c : List ℤ). put r ++ c) (encode-append rest b) ∙ sym (append-assoc (put r) (encode put rest) (encode put b))
 
 module _ {Row : Type 0} (l : Layout Row) (lawful : Lawful l) where
-
   pub length-encode : (rows : List Row) → length (encode (l .put) rows) ≡ length rows * l .width
   unfolding encode
   length-encode [] = sym (zero-mul (l .width))
@@ -39,7 +37,7 @@ module _ {Row : Type 0} (l : Layout Row) (lawful : Lawful l) where
 
   -- Writing what was read.
   pub encode-decode : (n at : ℕ) (xs : List ℤ) → at + n * l .width ≤ length xs
-    → encode (l .put) (decode (l .get) (l .width) n at xs) ≡ take (n * l .width) (drop at xs)
+      → encode (l .put) (decode (l .get) (l .width) n at xs) ≡ take (n * l .width) (drop at xs)
   unfolding encode
   encode-decode zero at xs h = rw zero-mul
   encode-decode (suc n) at xs h =
@@ -55,7 +53,7 @@ module _ {Row : Type 0} (l : Layout Row) (lawful : Lawful l) where
 
   -- Reading what was written.
   pub decode-encode : (rows : List Row) (p q : List ℤ) (at : ℕ) → length p ≡ at
-    → decode (l .get) (l .width) (length rows) at (p ++ (encode (l .put) rows ++ q)) ≡ rows
+      → decode (l .get) (l .width) (length rows) at (p ++ (encode (l .put) rows ++ q)) ≡ rows
   unfolding encode
   decode-encode [] p q at e = refl
   decode-encode (r ∷ rest) p q at e =
@@ -63,26 +61,26 @@ module _ {Row : Type 0} (l : Layout Row) (lawful : Lawful l) where
       let whole : p ++ ((l .put r ++ c) ++ q) ≡ p ++ (l .put r ++ (c ++ q)) = rw append-assoc in
       let next : p ++ ((l .put r ++ c) ++ q) ≡ (p ++ l .put r) ++ (c ++ q) = simp append-assoc in
       let here : l .get (p ++ ((l .put r ++ c) ++ q)) at ≡ r =
-            ap (λ (ys : List ℤ). l .get ys at) whole
-            ∙ ap (λ (j : ℕ). l .get (p ++ (l .put r ++ (c ++ q))) j) (sym e)
-            ∙ lawful .get-put p (c ++ q) r in
+      ap (λ (ys : List ℤ). l .get ys at) whole
+      ∙ ap (λ (j : ℕ). l .get (p ++ (l .put r ++ (c ++ q))) j) (sym e)
+      ∙ lawful .get-put p (c ++ q) r in
       let size : length (p ++ l .put r) ≡ at + l .width = length-append p (l .put r) ∙ omega (arith, lawful .put-length r) in
       let there : decode (l .get) (l .width) (length rest) (at + l .width) (p ++ ((l .put r ++ c) ++ q)) ≡ rest =
-            ap (λ (ys : List ℤ). decode (l .get) (l .width) (length rest) (at + l .width) ys) next
-            ∙ decode-encode rest (p ++ l .put r) q (at + l .width) size in
+      ap (λ (ys : List ℤ). decode (l .get) (l .width) (length rest) (at + l .width) ys) next
+      ∙ decode-encode rest (p ++ l .put r) q (at + l .width) size in
       ap (λ (s : Row). s ∷ decode (l .get) (l .width) (length rest) (at + l .width) (p ++ ((l .put r ++ c) ++ q))) here
       ∙ ap (λ (s : List Row). r ∷ s) there
 
   -- Rows are read from their own cells alone: the same cells give the same rows, at any place of any list.
   pub decode-own : (n at at′ : ℕ) (xs ys : List ℤ) → at + n * l .width ≤ length xs → at′ + n * l .width ≤ length ys
-    → take (n * l .width) (drop at xs) ≡ take (n * l .width) (drop at′ ys)
-    → decode (l .get) (l .width) n at xs ≡ decode (l .get) (l .width) n at′ ys
+      → take (n * l .width) (drop at xs) ≡ take (n * l .width) (drop at′ ys)
+      → decode (l .get) (l .width) n at xs ≡ decode (l .get) (l .width) n at′ ys
   decode-own n at at′ xs ys h h′ e =
       let w : ℕ = l .width in
       let rows : List Row = decode (l .get) w n at xs in
       let after : List ℤ = drop (at′ + n * w) ys in
       let whole : take at′ ys ++ (encode (l .put) rows ++ after) ≡ ys =
-            ap (λ (c : List ℤ). take at′ ys ++ (c ++ after)) (encode-decode n at xs h ∙ e) ∙ around ys at′ (n * w) in
+      ap (λ (c : List ℤ). take at′ ys ++ (c ++ after)) (encode-decode n at xs h ∙ e) ∙ around ys at′ (n * w) in
       let size : length (take at′ ys) ≡ at′ = length-take-le at′ ys (omega arith) in
       sym (decode-encode rows (take at′ ys) after at′ size)
       ∙ ap (λ (m : ℕ). decode (l .get) w m at′ (take at′ ys ++ (encode (l .put) rows ++ after))) (length-decode (l .get) w n at xs)
@@ -90,13 +88,13 @@ module _ {Row : Type 0} (l : Layout Row) (lawful : Lawful l) where
 
   -- One row likewise.
   pub get-own : (at at′ : ℕ) (xs ys : List ℤ) → at + l .width ≤ length xs → at′ + l .width ≤ length ys
-    → take (l .width) (drop at xs) ≡ take (l .width) (drop at′ ys)
-    → l .get xs at ≡ l .get ys at′
+      → take (l .width) (drop at xs) ≡ take (l .width) (drop at′ ys)
+      → l .get xs at ≡ l .get ys at′
   get-own at at′ xs ys h h′ e =
       let w : ℕ = l .width in
       let after : List ℤ = drop (at′ + w) ys in
       let whole : take at′ ys ++ (l .put (l .get xs at) ++ after) ≡ ys =
-            ap (λ (c : List ℤ). take at′ ys ++ (c ++ after)) (lawful .put-get xs at h ∙ e) ∙ around ys at′ w in
+      ap (λ (c : List ℤ). take at′ ys ++ (c ++ after)) (lawful .put-get xs at h ∙ e) ∙ around ys at′ w in
       let size : length (take at′ ys) ≡ at′ = length-take-le at′ ys (omega arith) in
       sym (lawful .get-put (take at′ ys) after (l .get xs at))
       ∙ ap (λ (j : ℕ). l .get (take at′ ys ++ (l .put (l .get xs at) ++ after)) j) size

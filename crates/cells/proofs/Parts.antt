@@ -7,7 +7,6 @@ use lib.ListN.{length, take, drop, length-append, length-take, length-drop, take
 use lib.Seq.{drop-drop, drop-append-add, length-take-le}
 
 module _ {ℓ} {A : Type ℓ} where
-
   -- n cells from a place on, with what is around them.
   pub around : (xs : List A) (at n : ℕ) → take at xs ++ (take n (drop at xs) ++ drop (at + n) xs) ≡ xs
   around xs at n =

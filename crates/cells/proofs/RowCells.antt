@@ -51,11 +51,12 @@ recordAt-recordCells p q r = simp (getD-append-seam, getD-append-add)
 
 pub records-lawful : Lawful recordsLayout
 records-lawful = record {
-    wide = omega arith;
-    header-one = refl;
-    put-length = length-recordCells;
-    put-get = recordCells-recordAt;
-    get-put = recordAt-recordCells }
+  wide = omega arith;
+  header-one = refl;
+  put-length = length-recordCells;
+  put-get = recordCells-recordAt;
+  get-put = recordAt-recordCells;
+}
 
 pub length-positionCells : (r : Position) → length (positionCells r) ≡ 5
 unfolding positionCells
@@ -71,8 +72,9 @@ positionAt-positionCells p q r = simp (getD-append-seam, getD-append-add)
 
 pub positions-lawful : Lawful positionsLayout
 positions-lawful = record {
-    wide = omega arith;
-    header-one = refl;
-    put-length = length-positionCells;
-    put-get = positionCells-positionAt;
-    get-put = positionAt-positionCells }
+  wide = omega arith;
+  header-one = refl;
+  put-length = length-positionCells;
+  put-get = positionCells-positionAt;
+  get-put = positionAt-positionCells;
+}

@@ -30,7 +30,6 @@ length-run rows k news h =
     length-append (take k rows) (news ++ drop k rows) ∙ omega (arith, length-take-le k rows h, length-append news (drop k rows), length-drop k rows)
 
 module _ {Row : Type 0} (l : Layout Row) (lawful : Lawful l) (cells : List ℤ) (n : ℕ) (long : 1 + n * l .width ≤ length cells) where
-
   -- The cells of the first k rows, and of those from row k on.
   pub encode-take : (k : ℕ) → k ≤ n → encode (l .put) (take k (decode (l .get) (l .width) n 1 cells)) ≡ take (k * l .width) (drop 1 cells)
   encode-take k h =
@@ -38,16 +37,16 @@ module _ {Row : Type 0} (l : Layout Row) (lawful : Lawful l) (cells : List ℤ) 
       ap (encode (l .put)) (take-decode (l .get) (l .width) k n 1 cells h) ∙ encode-decode l lawful k 1 cells fit
 
   pub encode-drop : (k : ℕ) → k ≤ n
-    → encode (l .put) (drop k (decode (l .get) (l .width) n 1 cells)) ≡ take ((n - k) * l .width) (drop (1 + k * l .width) cells)
+      → encode (l .put) (drop k (decode (l .get) (l .width) n 1 cells)) ≡ take ((n - k) * l .width) (drop (1 + k * l .width) cells)
   encode-drop k h =
       let fit : (1 + k * l .width) + (n - k) * l .width ≤ length cells = omega (arith, spans k n (l .width) h) in
       ap (encode (l .put)) (drop-decode (l .get) (l .width) k n 1 cells h) ∙ encode-decode l lawful (n - k) (1 + k * l .width) cells fit
 
   -- Some rows before row k: the rows from k on move up by so many rows.
   pub insert-run-cells : (k : ℕ) (news : List Row) → k ≤ n
-    → write l cells (take k (decode (l .get) (l .width) n 1 cells) ++ (news ++ drop k (decode (l .get) (l .width) n 1 cells)))
+      → write l cells (take k (decode (l .get) (l .width) n 1 cells) ++ (news ++ drop k (decode (l .get) (l .width) n 1 cells)))
       ≡ pos (n + length news) ∷ (take (k * l .width) (drop 1 cells)
-        ++ (encode (l .put) news ++ (take ((n - k) * l .width) (drop (1 + k * l .width) cells) ++ drop (1 + (n + length news) * l .width) cells)))
+      ++ (encode (l .put) news ++ (take ((n - k) * l .width) (drop (1 + k * l .width) cells) ++ drop (1 + (n + length news) * l .width) cells)))
   insert-run-cells k news h =
       let w : ℕ = l .width in
       let m : ℕ = n + length news in
@@ -56,12 +55,12 @@ module _ {Row : Type 0} (l : Layout Row) (lawful : Lawful l) (cells : List ℤ) 
       let moved : List ℤ = take ((n - k) * w) (drop (1 + k * w) cells) in
       let long-enough : k ≤ length rows = rw (length-decode (l .get) w n 1 cells) h in
       let size : length (take k rows ++ (news ++ drop k rows)) ≡ m =
-            length-run rows k news long-enough ∙ ap (λ (j : ℕ). j + length news) (length-decode (l .get) w n 1 cells) in
+      length-run rows k news long-enough ∙ ap (λ (j : ℕ). j + length news) (length-decode (l .get) w n 1 cells) in
       let coded : encode (l .put) (take k rows ++ (news ++ drop k rows)) ≡ before ++ (encode (l .put) news ++ moved) =
-            encode-append (l .put) (take k rows) (news ++ drop k rows)
-            ∙ ap (λ (c : List ℤ). encode (l .put) (take k rows) ++ c) (encode-append (l .put) news (drop k rows))
-            ∙ ap (λ (c : List ℤ). c ++ (encode (l .put) news ++ encode (l .put) (drop k rows))) (encode-take k h)
-            ∙ ap (λ (c : List ℤ). before ++ (encode (l .put) news ++ c)) (encode-drop k h) in
+      encode-append (l .put) (take k rows) (news ++ drop k rows)
+      ∙ ap (λ (c : List ℤ). encode (l .put) (take k rows) ++ c) (encode-append (l .put) news (drop k rows))
+      ∙ ap (λ (c : List ℤ). c ++ (encode (l .put) news ++ encode (l .put) (drop k rows))) (encode-take k h)
+      ∙ ap (λ (c : List ℤ). before ++ (encode (l .put) news ++ c)) (encode-drop k h) in
       let rest : List ℤ = drop (1 + m * w) cells in
       let regroup : (before ++ (encode (l .put) news ++ moved)) ++ rest ≡ before ++ (encode (l .put) news ++ (moved ++ rest)) = simp append-assoc in
       write-cells l lawful cells (take k rows ++ (news ++ drop k rows))
@@ -71,21 +70,21 @@ module _ {Row : Type 0} (l : Layout Row) (lawful : Lawful l) (cells : List ℤ) 
 
   -- One row.
   pub insert-cells : (k : ℕ) (new : Row) → k ≤ n
-    → write l cells (take k (decode (l .get) (l .width) n 1 cells) ++ (new ∷ drop k (decode (l .get) (l .width) n 1 cells)))
+      → write l cells (take k (decode (l .get) (l .width) n 1 cells) ++ (new ∷ drop k (decode (l .get) (l .width) n 1 cells)))
       ≡ pos (suc n) ∷ (take (k * l .width) (drop 1 cells)
-        ++ (l .put new ++ (take ((n - k) * l .width) (drop (1 + k * l .width) cells) ++ drop (1 + suc n * l .width) cells)))
+      ++ (l .put new ++ (take ((n - k) * l .width) (drop (1 + k * l .width) cells) ++ drop (1 + suc n * l .width) cells)))
   insert-cells k new h =
       let before : List ℤ = take (k * l .width) (drop 1 cells) in
       let moved : List ℤ = take ((n - k) * l .width) (drop (1 + k * l .width) cells) in
       let one : encode (l .put) (new ∷ []) ≡ l .put new =
-            encode-cons (l .put) new [] ∙ ap (λ (c : List ℤ). l .put new ++ c) (encode-nil (l .put)) ∙ append-nil (l .put new) in
+      encode-cons (l .put) new [] ∙ ap (λ (c : List ℤ). l .put new ++ c) (encode-nil (l .put)) ∙ append-nil (l .put new) in
       insert-run-cells k (new ∷ []) h
       ∙ ap (λ (j : ℕ). pos j ∷ (before ++ (encode (l .put) (new ∷ []) ++ (moved ++ drop (1 + j * l .width) cells)))) (add-one n)
       ∙ ap (λ (c : List ℤ). pos (suc n) ∷ (before ++ (c ++ (moved ++ drop (1 + suc n * l .width) cells)))) one
 
   -- A row in place of row k: all other cells stay.
   pub replace-cells : (k : ℕ) (new : Row) → countOf cells ≡ pos n → k < n
-    → write l cells (take k (decode (l .get) (l .width) n 1 cells) ++ (new ∷ drop (suc k) (decode (l .get) (l .width) n 1 cells)))
+      → write l cells (take k (decode (l .get) (l .width) n 1 cells) ++ (new ∷ drop (suc k) (decode (l .get) (l .width) n 1 cells)))
       ≡ take (1 + k * l .width) cells ++ (l .put new ++ drop (1 + suc k * l .width) cells)
   replace-cells k new count h =
       let w : ℕ = l .width in
@@ -95,12 +94,12 @@ module _ {Row : Type 0} (l : Layout Row) (lawful : Lawful l) (cells : List ℤ) 
       let m : ℕ = (n - suc k) * w in
       let long-enough : k < length rows = rw (length-decode (l .get) w n 1 cells) h in
       let size : length (take k rows ++ (new ∷ drop (suc k) rows)) ≡ n =
-            length-replaced rows k new long-enough ∙ length-decode (l .get) w n 1 cells in
+      length-replaced rows k new long-enough ∙ length-decode (l .get) w n 1 cells in
       let coded : encode (l .put) (take k rows ++ (new ∷ drop (suc k) rows)) ≡ before ++ (l .put new ++ take m rest) =
-            encode-append (l .put) (take k rows) (new ∷ drop (suc k) rows)
-            ∙ ap (λ (c : List ℤ). encode (l .put) (take k rows) ++ c) (encode-cons (l .put) new (drop (suc k) rows))
-            ∙ ap (λ (c : List ℤ). c ++ (l .put new ++ encode (l .put) (drop (suc k) rows))) (encode-take k (omega arith))
-            ∙ ap (λ (c : List ℤ). before ++ (l .put new ++ c)) (encode-drop (suc k) h) in
+      encode-append (l .put) (take k rows) (new ∷ drop (suc k) rows)
+      ∙ ap (λ (c : List ℤ). encode (l .put) (take k rows) ++ c) (encode-cons (l .put) new (drop (suc k) rows))
+      ∙ ap (λ (c : List ℤ). c ++ (l .put new ++ encode (l .put) (drop (suc k) rows))) (encode-take k (omega arith))
+      ∙ ap (λ (c : List ℤ). before ++ (l .put new ++ c)) (encode-drop (suc k) h) in
       let reach : (1 + suc k * w) + m ≡ 1 + n * w = omega (arith, spans (suc k) n w h) in
       let behind : drop (1 + n * w) cells ≡ drop m rest = sym (drop-drop m (1 + suc k * w) cells ∙ ap (λ (j : ℕ). drop j cells) reach) in
       let regroup : (before ++ (l .put new ++ take m rest)) ++ drop m rest ≡ before ++ (l .put new ++ (take m rest ++ drop m rest)) = simp append-assoc in
@@ -115,27 +114,26 @@ module _ {Row : Type 0} (l : Layout Row) (lawful : Lawful l) (cells : List ℤ) 
       ∙ ap (λ (c : List ℤ). c ++ (l .put new ++ rest)) (count-then cells (k * w) cell)
 
 module _ {Row : Type 0} (l : Layout Row) (lawful : Lawful l) (cells : List ℤ) (sound : countIsSound l cells ≡ true) where
-
   -- The same of a table whose count is sound, and its rows.
   pub insert-rows : (k : ℕ) (news : List Row) → k ≤ length (rowsOf l cells)
-    → write l cells (take k (rowsOf l cells) ++ (news ++ drop k (rowsOf l cells)))
+      → write l cells (take k (rowsOf l cells) ++ (news ++ drop k (rowsOf l cells)))
       ≡ pos (length (rowsOf l cells) + length news) ∷ (take (k * l .width) (drop 1 cells)
-        ++ (encode (l .put) news ++ (take ((length (rowsOf l cells) - k) * l .width) (drop (1 + k * l .width) cells)
-        ++ drop (1 + (length (rowsOf l cells) + length news) * l .width) cells)))
+      ++ (encode (l .put) news ++ (take ((length (rowsOf l cells) - k) * l .width) (drop (1 + k * l .width) cells)
+      ++ drop (1 + (length (rowsOf l cells) + length news) * l .width) cells)))
   insert-rows k news h =
       ap (λ (rows : List Row). write l cells (take k rows ++ (news ++ drop k rows))) (rowsOf-decode l lawful cells)
       ∙ insert-run-cells l lawful cells (length (rowsOf l cells)) (sound-rows-cells l lawful cells sound) k news h
 
   pub insert-row : (k : ℕ) (new : Row) → k ≤ length (rowsOf l cells)
-    → write l cells (take k (rowsOf l cells) ++ (new ∷ drop k (rowsOf l cells)))
+      → write l cells (take k (rowsOf l cells) ++ (new ∷ drop k (rowsOf l cells)))
       ≡ pos (suc (length (rowsOf l cells))) ∷ (take (k * l .width) (drop 1 cells)
-        ++ (l .put new ++ (take ((length (rowsOf l cells) - k) * l .width) (drop (1 + k * l .width) cells) ++ drop (1 + suc (length (rowsOf l cells)) * l .width) cells)))
+      ++ (l .put new ++ (take ((length (rowsOf l cells) - k) * l .width) (drop (1 + k * l .width) cells) ++ drop (1 + suc (length (rowsOf l cells)) * l .width) cells)))
   insert-row k new h =
       ap (λ (rows : List Row). write l cells (take k rows ++ (new ∷ drop k rows))) (rowsOf-decode l lawful cells)
       ∙ insert-cells l lawful cells (length (rowsOf l cells)) (sound-rows-cells l lawful cells sound) k new h
 
   pub replace-row : (k : ℕ) (new : Row) → k < length (rowsOf l cells)
-    → write l cells (take k (rowsOf l cells) ++ (new ∷ drop (suc k) (rowsOf l cells)))
+      → write l cells (take k (rowsOf l cells) ++ (new ∷ drop (suc k) (rowsOf l cells)))
       ≡ take (1 + k * l .width) cells ++ (l .put new ++ drop (1 + suc k * l .width) cells)
   replace-row k new h =
       ap (λ (rows : List Row). write l cells (take k rows ++ (new ∷ drop (suc k) rows))) (rowsOf-decode l lawful cells)

@@ -15,16 +15,14 @@ use Rattle.cells.proofs.Both.{both, first, second}
 use Rattle.cells.proofs.Write.{rows-write, write-sound-count}
 
 module _ {Row : Type 0} (l : Layout Row) (key : Row → Key) (soundRow : Row → Bool) (cells : List ℤ) where
-
   pub sound-table : countIsSound l cells ≡ true → rising key (rowsOf l cells) ≡ true → allOf (map soundRow (rowsOf l cells)) ≡ true
-    → soundTable l key soundRow cells ≡ true
+      → soundTable l key soundRow cells ≡ true
   unfolding soundTable
   sound-table c r a =
       both (countIsSound l cells && rising key (rowsOf l cells)) (allOf (map soundRow (rowsOf l cells)))
       (both (countIsSound l cells) (rising key (rowsOf l cells)) c r) a
 
   module _ (sound : soundTable l key soundRow cells ≡ true) where
-
     pub table-count : countIsSound l cells ≡ true
     unfolding soundTable
     table-count =
@@ -43,8 +41,8 @@ module _ {Row : Type 0} (l : Layout Row) (key : Row → Key) (soundRow : Row →
 
 -- Sound rows written where they fit.
 pub sound-write : {Row : Type 0} (l : Layout Row) (lawful : Lawful l) (key : Row → Key) (soundRow : Row → Bool) (cells : List ℤ) (rows : List Row)
-  → 1 ≤ length cells → length rows ≤ roomOf l cells → rising key rows ≡ true → allOf (map soundRow rows) ≡ true
-  → soundTable l key soundRow (write l cells rows) ≡ true
+    → 1 ≤ length cells → length rows ≤ roomOf l cells → rising key rows ≡ true → allOf (map soundRow rows) ≡ true
+    → soundTable l key soundRow (write l cells rows) ≡ true
 sound-write l lawful key soundRow cells rows h fit rises sound =
     sound-table l key soundRow (write l cells rows) (write-sound-count l lawful cells rows h fit)
     (rw (rows-write l lawful cells rows) rises)

@@ -14,7 +14,6 @@ use Rattle.cells.proofs.SoundCells.{records-known, positions-known, wri
 use Rattle.cells.proofs.BookCells.{records-within, positions-within, written-records, written-positions, write-own-books}
 
 module _ (t : Tables) where
-
   pub books-records-rise : soundRecords (t .records) ≡ true → rising recordKey (booksOf t .records) ≡ true
   unfolding booksOf
   books-records-rise sound = records-known (t .records) sound .rows-rise
@@ -40,17 +39,17 @@ module _ (t : Tables) where
   books-positions-fit sound = positions-known (t .positions) sound .rows-fit
 
   module _ (rs : soundRecords (t .records) ≡ true) (ps : soundPositions (t .positions) ≡ true) where
-
     -- Books of the same rooms, with rows within them, fit.
     pub fitting : (b : Books) → b .recordsRoom ≡ booksOf t .recordsRoom → b .positionsRoom ≡ booksOf t .positionsRoom
-      → length (b .records) ≤ b .recordsRoom → length (b .positions) ≤ b .positionsRoom → Fitting t b
+        → length (b .records) ≤ b .recordsRoom → length (b .positions) ≤ b .positionsRoom → Fitting t b
     fitting b er ep fr fp = record {
-        records-cell = records-known (t .records) rs .count-cell;
-        positions-cell = positions-known (t .positions) ps .count-cell;
-        records-room = er;
-        positions-room = ep;
-        records-fit = fr;
-        positions-fit = fp }
+      records-cell = records-known (t .records) rs .count-cell;
+      positions-cell = positions-known (t .positions) ps .count-cell;
+      records-room = er;
+      positions-room = ep;
+      records-fit = fr;
+      positions-fit = fp;
+    }
 
     pub fitting-own : Fitting t (booksOf t)
     fitting-own = fitting (booksOf t) refl refl (books-records-fit rs) (books-positions-fit ps)
@@ -60,7 +59,6 @@ module _ (t : Tables) where
     write-sound-own = write-own-books t (records-known (t .records) rs .count-sound) (positions-known (t .positions) ps .count-sound)
 
 module _ (t : Tables) (b : Books) (fits : Fitting t b) where
-
   pub sound-written-records : rising recordKey (b .records) ≡ true → allOf (map soundRecord (b .records)) ≡ true → soundRecords (writeBooks t b .records) ≡ true
   sound-written-records r a =
       rw (written-records t b) (write-sound-records (t .records) (b .records) (fits .records-cell) (records-within t b fits) r a)

@@ -19,7 +19,6 @@ use Rattle.cells.proofs.Sound.{sound-table, table-count, table-rises, t
 use Rattle.cells.proofs.RowCells.{records-lawful, positions-lawful}
 
 module _ {Row : Type 0} (l : Layout Row) (lawful : Lawful l) (key : Row → Key) (soundRow : Row → Bool) (cells : List ℤ) where
-
   pub table-known : soundTable l key soundRow cells ≡ true → SoundTable l key soundRow cells
   table-known sound =
       let c : countIsSound l cells ≡ true = table-count l key soundRow cells sound in
@@ -30,7 +29,8 @@ module _ {Row : Type 0} (l : Layout Row) (lawful : Lawful l) (key : Row → Key)
         rows-fit = sound-rows-fit l lawful cells c;
         rows-within = sound-rows-cells l lawful cells c;
         rows-rise = table-rises l key soundRow cells sound;
-        rows-sound = table-rows l key soundRow cells sound }
+        rows-sound = table-rows l key soundRow cells sound;
+      }
 
 pub records-known : (cells : List ℤ) → soundRecords cells ≡ true → SoundRecords cells
 unfolding soundRecords
@@ -41,22 +41,22 @@ unfolding soundPositions
 positions-known cells sound = table-known positionsLayout positions-lawful positionKey soundPosition cells sound
 
 pub sound-records : (cells : List ℤ) → countIsSound recordsLayout cells ≡ true → rising recordKey (rowsOf recordsLayout cells) ≡ true
-  → allOf (map soundRecord (rowsOf recordsLayout cells)) ≡ true → soundRecords cells ≡ true
+    → allOf (map soundRecord (rowsOf recordsLayout cells)) ≡ true → soundRecords cells ≡ true
 unfolding soundRecords
 sound-records cells c r a = sound-table recordsLayout recordKey soundRecord cells c r a
 
 pub sound-positions : (cells : List ℤ) → countIsSound positionsLayout cells ≡ true → rising positionKey (rowsOf positionsLayout cells) ≡ true
-  → allOf (map soundPosition (rowsOf positionsLayout cells)) ≡ true → soundPositions cells ≡ true
+    → allOf (map soundPosition (rowsOf positionsLayout cells)) ≡ true → soundPositions cells ≡ true
 unfolding soundPositions
 sound-positions cells c r a = sound-table positionsLayout positionKey soundPosition cells c r a
 
 -- Sound rows written where they fit.
 pub write-sound-records : (cells : List ℤ) (rows : List Record) → 1 ≤ length cells → length rows ≤ roomOf recordsLayout cells
-  → rising recordKey rows ≡ true → allOf (map soundRecord rows) ≡ true → soundRecords (write recordsLayout cells rows) ≡ true
+    → rising recordKey rows ≡ true → allOf (map soundRecord rows) ≡ true → soundRecords (write recordsLayout cells rows) ≡ true
 unfolding soundRecords
 write-sound-records cells rows h fit r a = sound-write recordsLayout records-lawful recordKey soundRecord cells rows h fit r a
 
 pub write-sound-positions : (cells : List ℤ) (rows : List Position) → 1 ≤ length cells → length rows ≤ roomOf positionsLayout cells
-  → rising positionKey rows ≡ true → allOf (map soundPosition rows) ≡ true → soundPositions (write positionsLayout cells rows) ≡ true
+    → rising positionKey rows ≡ true → allOf (map soundPosition rows) ≡ true → soundPositions (write positionsLayout cells rows) ≡ true
 unfolding soundPositions
 write-sound-positions cells rows h fit r a = sound-write positionsLayout positions-lawful positionKey soundPosition cells rows h fit r a

@@ -17,16 +17,14 @@ use Rattle.cells.proofs.Encode.{length-encode, encode-decode, decode-en
 use Rattle.cells.proofs.Count.{count-then, room-by-length, fits-cells, rowsOf-count, rowsOf-decode, count-sound, sound-count-cell, sound-count, sound-rows-cells}
 
 module _ {Row : Type 0} (l : Layout Row) where
-
   pub countOf-write : (cells : List ℤ) (rows : List Row) → countOf (write l cells rows) ≡ pos (length rows)
   unfolding write
   countOf-write cells rows = refl
 
 module _ {Row : Type 0} (l : Layout Row) (lawful : Lawful l) where
-
   -- The cells of a written table.
   pub write-cells : (cells : List ℤ) (rows : List Row)
-    → write l cells rows ≡ pos (length rows) ∷ (encode (l .put) rows ++ drop (1 + length rows * l .width) cells)
+      → write l cells rows ≡ pos (length rows) ∷ (encode (l .put) rows ++ drop (1 + length rows * l .width) cells)
   unfolding write
   write-cells cells rows = ap (λ (h : ℕ). pos (length rows) ∷ (encode (l .put) rows ++ drop (h + length rows * l .width) cells)) (lawful .header-one)
 
@@ -56,13 +54,13 @@ module _ {Row : Type 0} (l : Layout Row) (lawful : Lawful l) where
       let le : n * w ≤ m * w = mul-le-mul-right w h in
       let reach : (1 + n * w) + (m * w - n * w) ≡ 1 + m * w = omega arith in
       let past : drop (m * w) (encode (l .put) rows ++ drop (1 + n * w) cells) ≡ drop (1 + m * w) cells =
-            drop-past (encode (l .put) rows) (drop (1 + n * w) cells) (n * w) (m * w) (length-encode l lawful rows) le
-            ∙ drop-drop (m * w - n * w) (1 + n * w) cells
-            ∙ ap (λ (j : ℕ). drop j cells) reach in
+      drop-past (encode (l .put) rows) (drop (1 + n * w) cells) (n * w) (m * w) (length-encode l lawful rows) le
+      ∙ drop-drop (m * w - n * w) (1 + n * w) cells
+      ∙ ap (λ (j : ℕ). drop j cells) reach in
       let inner : drop (1 + m * w) (write l cells rows) ≡ drop (1 + m * w) cells =
-            ap (λ (c : List ℤ). drop (1 + m * w) c) (write-cells cells rows)
-            ∙ ap (λ (j : ℕ). drop j (pos n ∷ (encode (l .put) rows ++ drop (1 + n * w) cells))) (one-add (m * w))
-            ∙ past in
+      ap (λ (c : List ℤ). drop (1 + m * w) c) (write-cells cells rows)
+      ∙ ap (λ (j : ℕ). drop j (pos n ∷ (encode (l .put) rows ++ drop (1 + n * w) cells))) (one-add (m * w))
+      ∙ past in
       write-cells (write l cells rows) rows′
       ∙ ap (λ (c : List ℤ). pos m ∷ (encode (l .put) rows′ ++ c)) inner
       ∙ sym (write-cells cells rows′)
@@ -74,7 +72,7 @@ module _ {Row : Type 0} (l : Layout Row) (lawful : Lawful l) where
       let n : ℕ = length (rowsOf l cells) in
       let long : 1 + n * w ≤ length cells = sound-rows-cells l lawful cells sound in
       let own : encode (l .put) (rowsOf l cells) ≡ take (n * w) (drop 1 cells) =
-            ap (λ (rows : List Row). encode (l .put) rows) (rowsOf-decode l lawful cells) ∙ encode-decode l lawful n 1 cells long in
+      ap (λ (rows : List Row). encode (l .put) rows) (rowsOf-decode l lawful cells) ∙ encode-decode l lawful n 1 cells long in
       write-cells cells (rowsOf l cells)
       ∙ ap (λ (c : List ℤ). pos n ∷ (c ++ drop (1 + n * w) cells)) own
       ∙ ap (λ (z : ℤ). z ∷ (take (n * w) (drop 1 cells) ++ drop (1 + n * w) cells)) (sym (sound-count l lawful cells sound))

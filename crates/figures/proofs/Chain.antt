@@ -19,7 +19,6 @@ pub record Remaining (whole : Bool) (tests : List Bool) : Type 0 where
   pub is : whole ≡ allFrom true tests
 
 module _ {whole r t : Bool} {rest : List Bool} where
-
   -- the next test's answer is r: past the branch on `!r`
   pub goes-on : Remaining whole (t ∷ rest) → r ≡ t → not r ≡ false → Remaining whole rest
   goes-on m e h = record { is = rw (passed e h) at (m .is) }

@@ -24,7 +24,6 @@ pub record SoundTables (t : Tables) : Type 0 where
   pub positions : soundPositions (t .positions) ≡ true
 
 module _ (t : Tables) (r : Request) where
-
   abbrev pub planAt : Plan
   planAt = planOn (booksOf t) r
 
@@ -41,7 +40,7 @@ module _ (t : Tables) (r : Request) where
   unfolding isAccepted handle answer
   refused-tables h =
       let w : (x : Test) × (firstRefusal (refusals t planAt) ≡ some x) =
-          isSome-present (firstRefusal (refusals t planAt)) (not-false (isSome (firstRefusal (refusals t planAt))) h) in
+      isSome-present (firstRefusal (refusals t planAt)) (not-false (isSome (firstRefusal (refusals t planAt))) h) in
       ap (λ (o : Option Test). answer o t (record { reply = planReply planAt; tables = planTables planAt t }) .tables) (w .1)
 
   pub accepted-reply : isAccepted t r ≡ true → handle t r .reply ≡ planReply planAt
@@ -73,8 +72,9 @@ module _ (t : Tables) (r : Request) where
       go : (p : Plan) → planAt ≡ p → (SoundTables t) ⊎ (handle t r .tables ≡ t)
       go (booking tests e) q =
           let s : firstRefusal (soundnessTests t (booking tests e)) ≡ none =
-              ap (λ (p : Plan). firstRefusal (soundnessTests t p)) (sym q) ∙ left-passes (soundnessTests t planAt) (planTests (booksOf t) planAt) (accepted-none h) in
+          ap (λ (p : Plan). firstRefusal (soundnessTests t p)) (sym q) ∙ left-passes (soundnessTests t planAt) (planTests (booksOf t) planAt) (accepted-none h) in
           inl (record {
-              records = not-false (soundRecords (t .records)) (test-passes 1 _ _ s);
-              positions = not-false (soundPositions (t .positions)) (test-passes 2 _ _ (rest-passes _ _ s)) })
+            records = not-false (soundRecords (t .records)) (test-passes 1 _ _ s);
+            positions = not-false (soundPositions (t .positions)) (test-passes 2 _ _ (rest-passes _ _ s));
+          })
       go (question tests reply) q = inr (accepted-tables h ∙ ap (λ (p : Plan). planTables p t) q)

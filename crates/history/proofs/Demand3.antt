@@ -34,10 +34,13 @@ history-replays t (r ∷ rest) = go (history-replays (handle t r .tables) rest) 
   where
     more : List Entry
     more = acceptedEntries (handle t r .tables) rest
+
     this : Entry
     this = record { request = r; reply = handle t r .reply }
+
     end : Tables
     end = run (handle t r .tables) rest .tables
+
     go : Replays Does next (handle t r .tables) (acceptedEntries (handle t r .tables) rest) (run (handle t r .tables) rest .tables) →
         (isAccepted t r ≡ true) ⊎ (isAccepted t r ≡ false) → Replays Does next t (acceptedEntries t (r ∷ rest)) (run t (r ∷ rest) .tables)
     go again (inl ok) = subst (λ (l : List Entry). Replays Does next t l end) (sym (cond-true (this ∷ more) more ok)) ((ok, refl), again)
@@ -58,12 +61,13 @@ replayed (e ∷ rest) t end h =
 -- Every order is such a reordering of itself.
 pub own-order : {Item : Type 0} (touches : Item → Item → Bool) (items : List Item) → Reordering touches items items
 own-order touches items = record {
-    size = refl;
-    from = λ j. j;
-    within = λ j l. l;
-    once = λ i j k l e. e;
-    same = λ j l. refl;
-    kept = λ i j x y l f g t. l }
+  size = refl;
+  from = λ j. j;
+  within = λ j l. l;
+  once = λ i j k l e. e;
+  same = λ j l. refl;
+  kept = λ i j x y l f g t. l;
+}
 
 -- In the order of the first list itself, with the refused requests left out.
 pub without-refused : (t : Tables) (requests : List Request) →
@@ -76,7 +80,7 @@ entries-exchanged : (t : Tables) (x y : Entry) → entriesTouch y x ≡ false �
 unfolding entriesTouch
 entries-exchanged t x y free ok-x ok-y =
     let w : TablesExchanged t (x .request) (y .request) =
-        tables-exchanged t (x .request) (y .request) free (ok-x .0) (ok-y .0) in
+    tables-exchanged t (x .request) (y .request) free (ok-x .0) (ok-y .0) in
     ((w .second-accepted, w .second-reply ∙ ok-y .1), (w .first-accepted, w .first-reply ∙ ok-x .1), w .same-tables)
 
 pub demand-3 : (t : Tables) (requests : List Request) (new : List Entry) → Reordering entriesTouch (acceptedEntries t requests) new →

@@ -21,7 +21,8 @@ pub books-effects : (p : Plan) (b : Books) → planBooks p b ≡ booked (effects
 unfolding planBooks booked
 books-effects (booking tests effects) b = refl
 books-effects (question tests reply) b = λ i. record {
-    records = sym (upsertAll-nil recordKey (b .records)) i;
-    positions = sym (upsertAll-nil positionKey (b .positions)) i;
-    recordsRoom = b .recordsRoom;
-    positionsRoom = b .positionsRoom }
+  records = sym (upsertAll-nil recordKey (b .records)) i;
+  positions = sym (upsertAll-nil positionKey (b .positions)) i;
+  recordsRoom = b .recordsRoom;
+  positionsRoom = b .positionsRoom;
+}

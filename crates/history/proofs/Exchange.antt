@@ -60,19 +60,20 @@ room-either-way : (b : Books) (e f : Effects) → Grows b e → Grows b f →
     Room (booked e b) f → Room (booked f b) e
 unfolding booked
 room-either-way b e f ge gf unseen unseen′ room = record {
-    records = omega (arith, ge .records, gf .records, room .records);
-    positions = omega (arith, ge .positions, gf .positions, room .positions) }
+  records = omega (arith, ge .records, gf .records, room .records);
+  positions = omega (arith, ge .positions, gf .positions, room .positions);
+}
 
 -- The room that the second found after the first was there before it: tables never shrink.
 room-before : (b : Books) (e f : Effects) →
     absentFrom positionKey (booked e b .positions) (f .positions) ≡ absentFrom positionKey (b .positions) (f .positions) → Room (booked e b) f → Room b f
 unfolding booked
 room-before b e f unseen room = record {
-    records = omega (arith, room .records, upsertAll-longer recordKey (e .changed ++ e .added) (b .records));
-    positions = omega (arith, room .positions, upsertAll-longer positionKey (e .positions) (b .positions)) }
+  records = omega (arith, room .records, upsertAll-longer recordKey (e .changed ++ e .added) (b .records));
+  positions = omega (arith, room .positions, upsertAll-longer positionKey (e .positions) (b .positions));
+}
 
 module _ (b : Books) (sound : SoundBooks b) (x y : Request) (free : touch y x ≡ false) (ok-x : Accepts b x) (ok-y : Accepts (after b x) y) where
-
   pub exchange : Exchanged b x y
   exchange =
       let p : Plan = planOn b x in
@@ -86,7 +87,7 @@ module _ (b : Books) (sound : SoundBooks b) (x y : Request) (free : touch y x �
       let own-x : OwnKeys x e = own-keys (viewOf b) (view-true b) x (own-pass b p ok-x) in
       let plan-y : q ≡ planOn (booked e b) y = local (viewOf b) (viewOf (booked e b)) y (agree-after b x y apart e own-x) in
       let later-y : firstRefusal (planTests (booked e b) q) ≡ none =
-          subst (λ (r : Plan). firstRefusal (planTests (booked e b) r) ≡ none) (sym plan-y) (subst (λ (c : Books). Accepts c y) after-x ok-y) in
+      subst (λ (r : Plan). firstRefusal (planTests (booked e b) r) ≡ none) (sym plan-y) (subst (λ (c : Books). Accepts c y) after-x ok-y) in
       let own-y : OwnKeys y f = own-keys (viewOf b) (view-true b) y (own-pass (booked e b) q later-y) in
       let sound-later : SoundBooks (booked e b) = subst (λ (c : Books). SoundBooks c) after-x (kept b sound x ok-x) in
       let room : Room (booked e b) f = has-room (booked e b) sound-later q later-y in
@@ -95,16 +96,17 @@ module _ (b : Books) (sound : SoundBooks b) (x y : Request) (free : touch y x �
       let first-y : Accepts b y = accepted-with-room (booked e b) b q later-y (room-before b e f unseen room) in
       let plan-x : p ≡ planOn (booked f b) x = local (viewOf b) (viewOf (booked f b)) x (agree-after b y x turned f own-y) in
       let later-x : firstRefusal (planTests (booked f b) p) ≡ none =
-          accepted-with-room b (booked f b) p ok-x (room-either-way b e f (grows b sound x ok-x) (grows b sound y first-y) unseen unseen′ room) in
+      accepted-with-room b (booked f b) p ok-x (room-either-way b e f (grows b sound x ok-x) (grows b sound y first-y) unseen unseen′ room) in
       let plan-of-y : planOn (after b x) y ≡ q = ap (λ (c : Books). planOn c y) after-x ∙ sym plan-y in
       let plan-of-x : planOn (after b y) x ≡ p = ap (λ (c : Books). planOn c x) after-y ∙ sym plan-x in
       record {
-          plan-of-second = plan-of-y;
-          second-accepted = first-y;
-          plan-of-first = plan-of-x;
-          first-accepted =
-              subst (λ (c : Books). Accepts c x) (sym after-y) (subst (λ (r : Plan). firstRefusal (planTests (booked f b) r) ≡ none) plan-x later-x);
-          same-end =
-              ap (λ (r : Plan). planBooks r (after b y)) plan-of-x ∙ books-effects p (after b y) ∙ ap (λ (c : Books). booked e c) after-y
-              ∙ either-order b x y apart e own-x f own-y
-              ∙ sym (ap (λ (r : Plan). planBooks r (after b x)) plan-of-y ∙ books-effects q (after b x) ∙ ap (λ (c : Books). booked f c) after-x) }
+        plan-of-second = plan-of-y;
+        second-accepted = first-y;
+        plan-of-first = plan-of-x;
+        first-accepted =
+            subst (λ (c : Books). Accepts c x) (sym after-y) (subst (λ (r : Plan). firstRefusal (planTests (booked f b) r) ≡ none) plan-x later-x);
+        same-end =
+            ap (λ (r : Plan). planBooks r (after b y)) plan-of-x ∙ books-effects p (after b y) ∙ ap (λ (c : Books). booked e c) after-y
+            ∙ either-order b x y apart e own-x f own-y
+            ∙ sym (ap (λ (r : Plan). planBooks r (after b x)) plan-of-y ∙ books-effects q (after b x) ∙ ap (λ (c : Books). booked f c) after-x);
+      }

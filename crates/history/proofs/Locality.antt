@@ -31,11 +31,11 @@ pub record Agree (v w : View) (r : Request) : Type 0 where
   pub at-positions : (account series : ℤ) → isAmong (keyOf account series) (positionsOf r) ≡ true → v .positionAt account series ≡ w .positionAt account series
 
 module _ (v w : View) where
-
   fewer : (id : ℤ) (ids : List ℤ) → AgreeAtIds v w (id ∷ ids) → AgreeAtIds v w ids
   fewer id ids a = record {
-      record-at = λ x n. a .record-at x (named-later x id ids n);
-      greatest-at = λ x n. a .greatest-at x (named-later x id ids n) }
+    record-at = λ x n. a .record-at x (named-later x id ids n);
+    greatest-at = λ x n. a .greatest-at x (named-later x id ids n);
+  }
 
   same-sources : (ks : List Key) → AgreeAtIds v w (map (λ (k : Key). k .major) ks) → sourcesOf v ks ≡ sourcesOf w ks
   unfolding sourcesOf
@@ -45,8 +45,8 @@ module _ (v w : View) where
       let f : v .recordAt (k .major) (k .minor) ≡ w .recordAt (k .major) (k .minor) = a .record-at (k .major) (named-here (k .major) ids) (k .minor) in
       let g : v .greatestSuffix (k .major) ≡ w .greatestSuffix (k .major) = a .greatest-at (k .major) (named-here (k .major) ids) in
       let first : _≡_ {A = Source} (record { pair = k; found = v .recordAt (k .major) (k .minor); greatest = v .greatestSuffix (k .major) })
-            (record { pair = k; found = w .recordAt (k .major) (k .minor); greatest = w .greatestSuffix (k .major) }) =
-          λ i. record { pair = k; found = f i; greatest = g i } in
+      (record { pair = k; found = w .recordAt (k .major) (k .minor); greatest = w .greatestSuffix (k .major) }) =
+      λ i. record { pair = k; found = f i; greatest = g i } in
       ap₂ (λ (s : Source) (l : List Source). s ∷ l) first (same-sources rest (fewer (k .major) ids a))
 
   pub local : (r : Request) → Agree v w r → planOf v r ≡ planOf w r
@@ -61,13 +61,13 @@ module _ (v w : View) where
       ap₂ (λ (f : Option Record) (g : Option ℤ). transferPlan id suffix from to series f g (v .positionAt from series) (v .positionAt to series))
       (a .at-ids .record-at id (named-here id []) suffix) (a .at-ids .greatest-at id (named-here id []))
       ∙ ap₂ (λ (o n : Position). transferPlan id suffix from to series (w .recordAt id suffix) (w .greatestSuffix id) o n)
-        (a .at-positions from series (among-here (keyOf from series) (keyOf to series ∷ [])))
-        (a .at-positions to series (among-later (keyOf to series) (keyOf from series) (keyOf to series ∷ []) (among-here (keyOf to series) [])))
+      (a .at-positions from series (among-here (keyOf from series) (keyOf to series ∷ [])))
+      (a .at-positions to series (among-later (keyOf to series) (keyOf from series) (keyOf to series ∷ []) (among-here (keyOf to series) [])))
   local (merge id account series pairs) a =
       let ids : List ℤ = map (λ (k : Key). k .major) (pairsOf pairs) in
       ap₂ (λ (g : Option ℤ) (s : List Source). mergePlan id account series pairs g s (v .positionAt account series))
       (a .at-ids .greatest-at id (named-here id ids)) (same-sources (pairsOf pairs) (fewer id ids (a .at-ids)))
       ∙ ap (λ (p : Position). mergePlan id account series pairs (w .greatestSuffix id) (sourcesOf w (pairsOf pairs)) p)
-        (a .at-positions account series (among-here (keyOf account series) []))
+      (a .at-positions account series (among-here (keyOf account series) []))
   local (lineage id suffix) a =
       ap (λ (f : ℤ → Option Record). lineagePlan id suffix f) (fun-ext (a .at-ids .record-at id (named-here id [])))

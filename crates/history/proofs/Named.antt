@@ -56,13 +56,15 @@ pub record Apart (a b : Request) : Type 0 where
 pub untouched-apart : (a b : Request) → touch a b ≡ false → Apart a b
 unfolding touch
 untouched-apart a b h = record {
-    ids = no-id-shared (idsOf a) (idsOf b) (or-false-left (shareId (idsOf a) (idsOf b)) (sharePosition (positionsOf a) (positionsOf b)) h);
-    positions = no-position-shared (positionsOf a) (positionsOf b) (or-false-right (shareId (idsOf a) (idsOf b)) (sharePosition (positionsOf a) (positionsOf b)) h) }
+  ids = no-id-shared (idsOf a) (idsOf b) (or-false-left (shareId (idsOf a) (idsOf b)) (sharePosition (positionsOf a) (positionsOf b)) h);
+  positions = no-position-shared (positionsOf a) (positionsOf b) (or-false-right (shareId (idsOf a) (idsOf b)) (sharePosition (positionsOf a) (positionsOf b)) h);
+}
 
 pub apart-turned : (a b : Request) → Apart a b → Apart b a
 apart-turned a b d = record {
-    ids = λ id n. is-false (isNamedIn id (idsOf a)) (λ t. clash n (d .ids id t));
-    positions = λ k n. is-false (isAmong k (positionsOf a)) (λ t. clash n (d .positions k t)) }
+  ids = λ id n. is-false (isNamedIn id (idsOf a)) (λ t. clash n (d .ids id t));
+  positions = λ k n. is-false (isAmong k (positionsOf a)) (λ t. clash n (d .positions k t));
+}
 
 -- Requests that have nothing in common don't touch.
 ids-unshared : (xs ys : List ℤ) → ((id : ℤ) → isNamedIn id xs ≡ true → isNamedIn id ys ≡ false) → shareId xs ys ≡ false

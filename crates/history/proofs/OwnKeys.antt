@@ -49,9 +49,10 @@ zeros-key account series (some p) h = h p refl
 pub view-true : (b : Books) → TrueToKeys (viewOf b)
 unfolding viewOf
 view-true b = record {
-    record-id = λ id suffix x h. ap (λ (k : Key). k .major) (find-key recordKey (keyOf id suffix) (b .records) x h);
-    position-key = λ account series.
-        zeros-key account series (find positionKey (keyOf account series) (b .positions)) (λ p h. find-key positionKey (keyOf account series) (b .positions) p h) }
+  record-id = λ id suffix x h. ap (λ (k : Key). k .major) (find-key recordKey (keyOf id suffix) (b .records) x h);
+  position-key = λ account series.
+      zeros-key account series (find positionKey (keyOf account series) (b .positions)) (λ p h. find-key positionKey (keyOf account series) (b .positions) p h);
+}
 
 -- The rows of these effects have ids and positions that the request names.
 pub record OwnKeys (r : Request) (e : Effects) : Type 0 where
@@ -106,7 +107,6 @@ inverses-own ids into earlier no-source = done
 inverses-own ids into earlier (source {s = s} h k) = row h (inverses-own ids into (s .pair .major ∷ earlier) k)
 
 module _ (v : View) (true-to : TrueToKeys v) where
-
   named-sources : (ids : List ℤ) (ks : List Key) → ((id : ℤ) → isNamedIn id (map (λ (k : Key). k .major) ks) ≡ true → isNamedIn id ids ≡ true) →
       anyOf (map isMissing (sourcesOf v ks)) ≡ false → NamedSources ids (sourcesOf v ks)
   unfolding sourcesOf isMissing
@@ -114,8 +114,8 @@ module _ (v : View) (true-to : TrueToKeys v) where
   named-sources ids (k ∷ rest) n h =
       source
       (subst (λ (id : ℤ). isNamedIn id ids ≡ true)
-        (sym (named-id (k .major) (v .recordAt (k .major) (k .minor)) (true-to .record-id (k .major) (k .minor)) (anyOf-head _ _ h)))
-        (n (k .major) (named-here (k .major) (map (λ (x : Key). x .major) rest))))
+      (sym (named-id (k .major) (v .recordAt (k .major) (k .minor)) (true-to .record-id (k .major) (k .minor)) (anyOf-head _ _ h)))
+      (n (k .major) (named-here (k .major) (map (λ (x : Key). x .major) rest))))
       (named-sources ids rest (λ id w. n id (named-later id (k .major) (map (λ (x : Key). x .major) rest) w)) (anyOf-tail _ _ h))
 
   -- The position of a key that is among these.
@@ -130,36 +130,41 @@ module _ (v : View) (true-to : TrueToKeys v) where
   own-rows : (r : Request) → firstRefusal (ownTests (planOf v r)) ≡ none → OwnRows r (effectsOf (planOf v r))
   unfolding planOf idsOf positionsOf tradePlan separationPlan transferPlan mergePlan lineagePlan newRecord adjustedRecord inverseRecord adjustableRecord mergedRecord moved
   own-rows (trade id account series side quantity price) h = record {
-      records = row (named-here id []) done;
-      positions = row (among-seen account series (keyOf account series ∷ []) (among-here (keyOf account series) [])) done }
+    records = row (named-here id []) done;
+    positions = row (among-seen account series (keyOf account series ∷ []) (among-here (keyOf account series) [])) done;
+  }
   own-rows (separate id suffix account series parts) h =
       let n : isNamedIn (theRecord (v .recordAt id suffix) .id) (id ∷ []) ≡ true = named-seen id suffix (test-passes 5 _ _ (rest-passes _ _ h)) in
       record {
-          records = row n (row n (parts-own (id ∷ []) (theRecord (v .recordAt id suffix)) (nextSuffix (v .greatestSuffix id) +ℤ pos 1) parts n));
-          positions = done }
+        records = row n (row n (parts-own (id ∷ []) (theRecord (v .recordAt id suffix)) (nextSuffix (v .greatestSuffix id) +ℤ pos 1) parts n));
+        positions = done;
+      }
   own-rows (transfer id suffix from to series) h =
       let n : isNamedIn (theRecord (v .recordAt id suffix) .id) (id ∷ []) ≡ true = named-seen id suffix (test-passes 5 _ _ (rest-passes _ _ h)) in
       let ks : List Key = keyOf from series ∷ keyOf to series ∷ [] in
       record {
-          records = row n (row n (row n done));
-          positions =
-              row (among-seen from series ks (among-here (keyOf from series) (keyOf to series ∷ [])))
-              (row (among-seen to series ks (among-later (keyOf to series) (keyOf from series) (keyOf to series ∷ []) (among-here (keyOf to series) []))) done) }
+        records = row n (row n (row n done));
+        positions =
+            row (among-seen from series ks (among-here (keyOf from series) (keyOf to series ∷ [])))
+            (row (among-seen to series ks (among-later (keyOf to series) (keyOf from series) (keyOf to series ∷ []) (among-here (keyOf to series) []))) done);
+      }
   own-rows (merge id account series pairs) h =
       let ids : List ℤ = id ∷ map (λ (k : Key). k .major) (pairsOf pairs) in
       let sources : List Source = sourcesOf v (pairsOf pairs) in
       let p : Key → Bool = λ (k : Key). isNamedIn (k .major) ids in
       let n : NamedSources ids sources =
-          named-sources ids (pairsOf pairs) (λ x w. named-later x id (map (λ (k : Key). k .major) (pairsOf pairs)) w)
-          (each-passes 5 _ _ (rest-passes _ _ (rest-passes _ _ h))) in
+      named-sources ids (pairsOf pairs) (λ x w. named-later x id (map (λ (k : Key). k .major) (pairsOf pairs)) w)
+      (each-passes 5 _ _ (rest-passes _ _ (rest-passes _ _ h))) in
       record {
-          records =
-              each-append recordKey p (changed-own ids n)
-              (each-append recordKey p (inverses-own ids id [] n) (row (named-here id (map (λ (k : Key). k .major) (pairsOf pairs))) done));
-          positions = row (among-seen account series (keyOf account series ∷ []) (among-here (keyOf account series) [])) done }
+        records =
+            each-append recordKey p (changed-own ids n)
+            (each-append recordKey p (inverses-own ids id [] n) (row (named-here id (map (λ (k : Key). k .major) (pairsOf pairs))) done));
+        positions = row (among-seen account series (keyOf account series ∷ []) (among-here (keyOf account series) [])) done;
+      }
   own-rows (lineage id suffix) h = record { records = done; positions = done }
 
   pub own-keys : (r : Request) → firstRefusal (ownTests (planOf v r)) ≡ none → OwnKeys r (effectsOf (planOf v r))
   own-keys r h = record {
-      records = each-only recordKey (λ (k : Key). isNamedIn (k .major) (idsOf r)) (own-rows r h .records);
-      positions = each-only positionKey (λ (k : Key). isAmong k (positionsOf r)) (own-rows r h .positions) }
+    records = each-only recordKey (λ (k : Key). isNamedIn (k .major) (idsOf r)) (own-rows r h .records);
+    positions = each-only positionKey (λ (k : Key). isAmong k (positionsOf r)) (own-rows r h .positions);
+  }

@@ -62,14 +62,18 @@ reached (suc n) f w o q h = go (reached n g inside apart) (split (eqb (f 0) q))
   where
     other : (j : ℕ) → j < n → f (suc j) ≡ f 0 → ⊥
     other j l e = let z : suc j ≡ 0 = o (suc j) 0 (omega arith) (omega arith) e in omega arith
+
     g : ℕ → ℕ
     g j = closer (f 0) (f (suc j))
+
     inside : (j : ℕ) → j < n → g j < n
     inside j l = closer-within (f 0) (f (suc j)) n (other j l) (w (suc j) (omega arith)) (w 0 (omega arith))
+
     apart : (i j : ℕ) → i < n → j < n → g i ≡ g j → i ≡ j
     apart i j k l e =
         let z : suc i ≡ suc j = o (suc i) (suc j) (omega arith) (omega arith) (closer-once (f 0) (f (suc i)) (f (suc j)) (other i k) (other j l) e) in
         omega arith
+
     go : ((k : ℕ) → k < n → (j : ℕ) × (j < n) × (g j ≡ k)) → (eqb (f 0) q ≡ true) ⊎ (eqb (f 0) q ≡ false) → (j : ℕ) × (j < suc n) × (f j ≡ q)
     go again (inl e) = (0, omega arith, eqb-true (f 0) q e)
     go again (inr e) =
@@ -78,7 +82,6 @@ reached (suc n) f w o q h = go (reached n g inside apart) (split (eqb (f 0) q))
         (suc (r .0), omega (arith, r .1), closer-once (f 0) (f (suc (r .0))) q (other (r .0) (r .1)) d (r .2))
 
 module _ {Item : Type 0} where
-
   -- A list with the item at a place taken out.
   unfoldable pub without : ℕ → List Item → List Item
   without p [] = []

@@ -13,7 +13,6 @@ use Rattle.history.specs.History.{Reordering}
 use Rattle.history.proofs.Places.{closer, closer-within, closer-once, closer-order, reached, without, length-without, at-without, within-list}
 
 module _ {State Item : Type 0} (does : State → Item → Type 0) (next : State → Item → State) where
-
   -- Each item in turn does what it says, from the first state to the last.
   abbrev pub Replays : State → List Item → State → Type 0
   Replays s [] end = s ≡ end
@@ -21,8 +20,7 @@ module _ {State Item : Type 0} (does : State → Item → Type 0) (next : State 
 
   module _ (touches : Item → Item → Bool)
       (exchange : (s : State) (x y : Item) → touches y x ≡ false → does s x → does (next s x) y →
-        (does s y) × (does (next s y) x) × (next (next s y) x ≡ next (next s x) y)) where
-
+      (does s y) × (does (next s y) x) × (next (next s y) x ≡ next (next s x) y)) where
     exchanged : (s end : State) (x y : Item) (rest : List Item) → touches y x ≡ false → Replays s (x ∷ y ∷ rest) end → Replays s (y ∷ x ∷ rest) end
     exchanged s end x y rest d r =
         let e : (does s y) × (does (next s y) x) × (next (next s y) x ≡ next (next s x) y) = exchange s x y d (r .0) (r .1 .0) in
@@ -45,18 +43,19 @@ module _ {State Item : Type 0} (does : State → Item → Type 0) (next : State 
         let inside : p < length old = o .within 0 (omega arith) in
         let shorter : suc (length (without p old)) ≡ length old = length-without p old inside in
         record {
-            size = let z : suc (length rest) ≡ length old = o .size in omega arith;
-            from = λ j. closer p (o .from (suc j));
-            within = λ j l.
-                let w : o .from (suc j) < length old = o .within (suc j) (omega arith) in
-                closer-within p (o .from (suc j)) (length (without p old)) (other j l) (omega arith) (omega arith);
-            once = λ i j k l e.
-                let z : suc i ≡ suc j = o .once (suc i) (suc j) (omega arith) (omega arith) (closer-once p (o .from (suc i)) (o .from (suc j)) (other i k) (other j l) e) in
-                omega arith;
-            same = λ j l. o .same (suc j) (omega arith) ∙ sym (at-without p (o .from (suc j)) old (other j l));
-            kept = λ i j x z h f g t.
-                closer-order p (o .from (suc i)) (o .from (suc j)) (other i (within-list rest i x f)) (other j (within-list rest j z g))
-                (o .kept (suc i) (suc j) x z (omega arith) f g t) }
+          size = let z : suc (length rest) ≡ length old = o .size in omega arith;
+          from = λ j. closer p (o .from (suc j));
+          within = λ j l.
+              let w : o .from (suc j) < length old = o .within (suc j) (omega arith) in
+              closer-within p (o .from (suc j)) (length (without p old)) (other j l) (omega arith) (omega arith);
+          once = λ i j k l e.
+              let z : suc i ≡ suc j = o .once (suc i) (suc j) (omega arith) (omega arith) (closer-once p (o .from (suc i)) (o .from (suc j)) (other i k) (other j l) e) in
+              omega arith;
+          same = λ j l. o .same (suc j) (omega arith) ∙ sym (at-without p (o .from (suc j)) old (other j l));
+          kept = λ i j x z h f g t.
+              closer-order p (o .from (suc i)) (o .from (suc j)) (other i (within-list rest i x f)) (other j (within-list rest j z g))
+              (o .kept (suc i) (suc j) x z (omega arith) f g t);
+        }
       where
         other : (j : ℕ) → j < length rest → o .from (suc j) ≡ o .from 0 → ⊥
         other j l e = let z : suc j ≡ 0 = o .once (suc j) 0 (omega arith) (omega arith) e in omega arith
@@ -67,14 +66,14 @@ module _ {State Item : Type 0} (does : State → Item → Type 0) (next : State 
         let n : suc (length rest) ≡ length old = o .size in
         let inside : o .from 0 < length old = o .within 0 (omega arith) in
         let r : (j : ℕ) × (j < suc (length rest)) × (o .from j ≡ q) =
-            reached (suc (length rest)) (o .from) (λ j k. let w : o .from j < length old = o .within j k in omega arith) (o .once) q (omega arith) in
+        reached (suc (length rest)) (o .from) (λ j k. let w : o .from j < length old = o .within j k in omega arith) (o .once) q (omega arith) in
         is-false (touches y x) (λ t. go (r .0) (r .1) (r .2) t)
       where
         go : (j : ℕ) → j < suc (length rest) → o .from j ≡ q → touches y x ≡ true → ⊥
         go zero k e t = omega arith
         go (suc j) k e t =
             let z : o .from 0 < o .from (suc j) =
-                o .kept 0 (suc j) y x (omega arith) refl (o .same (suc j) k ∙ ap (λ (i : ℕ). getElem? old i) e ∙ h) t in
+            o .kept 0 (suc j) y x (omega arith) refl (o .same (suc j) k ∙ ap (λ (i : ℕ). getElem? old i) e ∙ h) t in
             omega arith
 
     empty : (old : List Item) → 0 ≡ length old → old ≡ []

@@ -36,8 +36,9 @@ has-room b sound (booking tests e) h =
     let w : BookingPassed b e = booking-passed b tests e h in
     record { records = w .records-room; positions = w .positions-room }
 has-room b sound (question tests reply) h = record {
-    records = omega (arith, sound .records-fit);
-    positions = omega (arith, sound .positions-fit, absentFrom-nil positionKey (b .positions)) }
+  records = omega (arith, sound .records-fit);
+  positions = omega (arith, sound .positions-fit, absentFrom-nil positionKey (b .positions));
+}
 
 pub accepted-with-room : (b c : Books) (p : Plan) → firstRefusal (planTests b p) ≡ none → Room c (effectsOf p) → firstRefusal (planTests c p) ≡ none
 unfolding planTests bookingTests

@@ -23,12 +23,13 @@ use Rattle.history.proofs.Accepted.{SoundTables, planAt, accepted-table
 
 pub sound-books : (t : Tables) → SoundTables t → SoundBooks (booksOf t)
 sound-books t sound = record {
-    records-rise = books-records-rise t (sound .records);
-    records-sound = books-records-sound t (sound .records);
-    records-fit = books-records-fit t (sound .records);
-    positions-rise = books-positions-rise t (sound .positions);
-    positions-sound = books-positions-sound t (sound .positions);
-    positions-fit = books-positions-fit t (sound .positions) }
+  records-rise = books-records-rise t (sound .records);
+  records-sound = books-records-sound t (sound .records);
+  records-fit = books-records-fit t (sound .records);
+  positions-rise = books-positions-rise t (sound .positions);
+  positions-sound = books-positions-sound t (sound .positions);
+  positions-fit = books-positions-fit t (sound .positions);
+}
 
 -- A plan keeps the rooms and never makes a table shorter.
 pub record Later (b c : Books) : Type 0 where
@@ -40,10 +41,11 @@ pub record Later (b c : Books) : Type 0 where
 pub later : (b : Books) (p : Plan) → Later b (planBooks p b)
 unfolding planBooks booked
 later b (booking tests e) = record {
-    records-room = refl;
-    positions-room = refl;
-    more-records = upsertAll-longer recordKey (e .changed ++ e .added) (b .records);
-    more-positions = upsertAll-longer positionKey (e .positions) (b .positions) }
+  records-room = refl;
+  positions-room = refl;
+  more-records = upsertAll-longer recordKey (e .changed ++ e .added) (b .records);
+  more-positions = upsertAll-longer positionKey (e .positions) (b .positions);
+}
 later b (question tests reply) = record { records-room = refl; positions-room = refl; more-records = omega arith; more-positions = omega arith }
 
 -- The tables of a plan, as books written: a question's are the tables' own.
@@ -53,7 +55,6 @@ plan-written t sound (booking tests e) = refl
 plan-written t sound (question tests reply) = sym (write-sound-own t (sound .records) (sound .positions))
 
 module _ (t : Tables) (sound : SoundTables t) (r : Request) (ok : isAccepted t r ≡ true) where
-
   new-books-sound : SoundBooks (after (booksOf t) r)
   new-books-sound = kept (booksOf t) (sound-books t sound) r (accepted-rows t r ok)
 
@@ -70,5 +71,6 @@ module _ (t : Tables) (sound : SoundTables t) (r : Request) (ok : isAccepted t r
 
   pub step-sound : SoundTables (handle t r .tables)
   step-sound = subst (λ (u : Tables). SoundTables u) (sym step-tables) (record {
-      records = sound-written-records t (after (booksOf t) r) new-books-fit (new-books-sound .records-rise) (new-books-sound .records-sound);
-      positions = sound-written-positions t (after (booksOf t) r) new-books-fit (new-books-sound .positions-rise) (new-books-sound .positions-sound) })
+    records = sound-written-records t (after (booksOf t) r) new-books-fit (new-books-sound .records-rise) (new-books-sound .records-sound);
+    positions = sound-written-positions t (after (booksOf t) r) new-books-fit (new-books-sound .positions-rise) (new-books-sound .positions-sound);
+  })

@@ -41,33 +41,35 @@ on-sound t sound x y free ok-x ok-y =
     let b : Books = booksOf t in
     let books-x : booksOf (handle t x .tables) ≡ after b x = step-books t sound x ok-x in
     let swapped : Exchanged b x y =
-        exchange b (sound-books t sound) x y free (accepted-rows t x ok-x)
-        (subst (λ (c : Books). Accepts c y) books-x (accepted-rows (handle t x .tables) y ok-y)) in
+    exchange b (sound-books t sound) x y free (accepted-rows t x ok-x)
+    (subst (λ (c : Books). Accepts c y) books-x (accepted-rows (handle t x .tables) y ok-y)) in
     let first-y : isAccepted t y ≡ true = rows-accepted t y sound (swapped .second-accepted) in
     let books-y : booksOf (handle t y .tables) ≡ after b y = step-books t sound y first-y in
     let later-x : isAccepted (handle t y .tables) x ≡ true =
-        rows-accepted (handle t y .tables) x (step-sound t sound y first-y) (subst (λ (c : Books). Accepts c x) (sym books-y) (swapped .first-accepted)) in
+    rows-accepted (handle t y .tables) x (step-sound t sound y first-y) (subst (λ (c : Books). Accepts c x) (sym books-y) (swapped .first-accepted)) in
     record {
-        second-accepted = first-y;
-        second-reply =
-            accepted-reply t y first-y ∙ ap planReply (sym (swapped .plan-of-second)) ∙ ap (λ (c : Books). planReply (planOn c y)) (sym books-x)
-            ∙ sym (accepted-reply (handle t x .tables) y ok-y);
-        first-accepted = later-x;
-        first-reply =
-            accepted-reply (handle t y .tables) x later-x ∙ ap (λ (c : Books). planReply (planOn c x)) books-y ∙ ap planReply (swapped .plan-of-first)
-            ∙ sym (accepted-reply t x ok-x);
-        same-tables =
-            two-steps t sound y x first-y later-x ∙ ap (λ (c : Books). writeBooks t c) (swapped .same-end) ∙ sym (two-steps t sound x y ok-x ok-y) }
+      second-accepted = first-y;
+      second-reply =
+          accepted-reply t y first-y ∙ ap planReply (sym (swapped .plan-of-second)) ∙ ap (λ (c : Books). planReply (planOn c y)) (sym books-x)
+          ∙ sym (accepted-reply (handle t x .tables) y ok-y);
+      first-accepted = later-x;
+      first-reply =
+          accepted-reply (handle t y .tables) x later-x ∙ ap (λ (c : Books). planReply (planOn c x)) books-y ∙ ap planReply (swapped .plan-of-first)
+          ∙ sym (accepted-reply t x ok-x);
+      same-tables =
+          two-steps t sound y x first-y later-x ∙ ap (λ (c : Books). writeBooks t c) (swapped .same-end) ∙ sym (two-steps t sound x y ok-x ok-y);
+    }
 
 -- Two requests that leave the tables as they are.
 both-same : (t : Tables) (x y : Request) → isAccepted t x ≡ true → isAccepted t y ≡ true → handle t x .tables ≡ t → handle t y .tables ≡ t → TablesExchanged t x y
 both-same t x y ok-x ok-y same-x same-y = record {
-    second-accepted = ok-y;
-    second-reply = ap (λ (u : Tables). handle u y .reply) (sym same-x);
-    first-accepted = ap (λ (u : Tables). isAccepted u x) same-y ∙ ok-x;
-    first-reply = ap (λ (u : Tables). handle u x .reply) same-y;
-    same-tables =
-        ap (λ (u : Tables). handle u x .tables) same-y ∙ same-x ∙ sym (ap (λ (u : Tables). handle u y .tables) same-x ∙ same-y) }
+  second-accepted = ok-y;
+  second-reply = ap (λ (u : Tables). handle u y .reply) (sym same-x);
+  first-accepted = ap (λ (u : Tables). isAccepted u x) same-y ∙ ok-x;
+  first-reply = ap (λ (u : Tables). handle u x .reply) same-y;
+  same-tables =
+      ap (λ (u : Tables). handle u x .tables) same-y ∙ same-x ∙ sym (ap (λ (u : Tables). handle u y .tables) same-x ∙ same-y);
+}
 
 pub tables-exchanged : (t : Tables) (x y : Request) → touch y x ≡ false → isAccepted t x ≡ true → isAccepted (handle t x .tables) y ≡ true → TablesExchanged t x y
 tables-exchanged t x y free ok-x ok-y = go (sound-or-same t x ok-x)
@@ -75,6 +77,7 @@ tables-exchanged t x y free ok-x ok-y = go (sound-or-same t x ok-x)
     rest : (at-once : isAccepted t y ≡ true) → handle t x .tables ≡ t → (SoundTables t) ⊎ (handle t y .tables ≡ t) → TablesExchanged t x y
     rest at-once same-x (inl sound) = on-sound t sound x y free ok-x ok-y
     rest at-once same-x (inr same-y) = both-same t x y ok-x at-once same-x same-y
+
     go : (SoundTables t) ⊎ (handle t x .tables ≡ t) → TablesExchanged t x y
     go (inl sound) = on-sound t sound x y free ok-x ok-y
     go (inr same-x) =

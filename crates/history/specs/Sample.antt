@@ -61,27 +61,28 @@ position account series long short cash = account ∷ series ∷ long ∷ short 
 
 abbrev pub finish : Tables
 finish = record {
-    records =
-        pos 11
-        ∷ row (pos 1) (pos 0) (pos 0) (pos 0) (pos 1) (pos 10) (pos 5) (pos 1) (pos 100) (pos 7) (pos 100) (pos 0) (pos 0)
-        ++ row (pos 1) (pos 1) (pos 0) (pos 6) (pos 2) (pos 10) (pos 5) (pos 1) (negℤ (pos 100)) (pos 7) (pos 0) (pos 0) (pos 0)
-        ++ row (pos 1) (pos 2) (pos 0) (pos 6) (pos 1) (pos 10) (pos 5) (pos 1) (pos 40) (pos 7) (pos 0) (pos 0) (pos 0)
-        ++ row (pos 1) (pos 3) (pos 0) (pos 6) (pos 1) (pos 10) (pos 5) (pos 1) (pos 60) (pos 7) (pos 0) (pos 0) (pos 0)
-        ++ row (pos 1) (pos 4) (pos 2) (pos 901) (pos 2) (pos 10) (pos 5) (pos 1) (negℤ (pos 40)) (pos 7) (pos 0) (pos 0) (pos 5)
-        ++ row (pos 1) (pos 5) (pos 3) (pos 901) (pos 2) (pos 10) (pos 5) (pos 1) (negℤ (pos 60)) (pos 7) (pos 0) (pos 0) (pos 5)
-        ++ row (pos 2) (pos 0) (pos 0) (pos 0) (pos 0) (pos 20) (pos 5) (pos 2) (pos 50) (pos 9) (pos 0) (pos 50) (pos 0)
-        ++ row (pos 3) (pos 0) (pos 0) (pos 0) (pos 1) (pos 30) (pos 6) (pos 1) (pos 5) (negℤ (pos 4)) (pos 5) (pos 0) (pos 0)
-        ++ row (pos 3) (pos 1) (pos 0) (pos 4) (pos 2) (pos 30) (pos 6) (pos 1) (negℤ (pos 5)) (negℤ (pos 4)) (negℤ (pos 5)) (pos 0) (pos 0)
-        ++ row (pos 3) (pos 2) (pos 0) (pos 4) (pos 0) (pos 31) (pos 6) (pos 1) (pos 5) (negℤ (pos 4)) (pos 5) (pos 0) (pos 0)
-        ++ row (pos 5) (pos 0) (pos 0) (pos 901) (pos 0) (pos 10) (pos 5) (pos 1) (pos 100) (pos 7) (pos 0) (pos 0) (pos 0)
-        ++ replicate 17 (negℤ (pos 1));
-    positions =
-        pos 4
-        ∷ position (pos 10) (pos 5) (pos 100) (pos 0) (pos 0)
-        ++ position (pos 20) (pos 5) (pos 0) (pos 50) (pos 0)
-        ++ position (pos 30) (pos 6) (pos 0) (pos 0) (pos 0)
-        ++ position (pos 31) (pos 6) (pos 5) (pos 0) (pos 0)
-        ++ replicate 7 (negℤ (pos 1)) }
+  records =
+      pos 11
+      ∷ row (pos 1) (pos 0) (pos 0) (pos 0) (pos 1) (pos 10) (pos 5) (pos 1) (pos 100) (pos 7) (pos 100) (pos 0) (pos 0)
+      ++ row (pos 1) (pos 1) (pos 0) (pos 6) (pos 2) (pos 10) (pos 5) (pos 1) (negℤ (pos 100)) (pos 7) (pos 0) (pos 0) (pos 0)
+      ++ row (pos 1) (pos 2) (pos 0) (pos 6) (pos 1) (pos 10) (pos 5) (pos 1) (pos 40) (pos 7) (pos 0) (pos 0) (pos 0)
+      ++ row (pos 1) (pos 3) (pos 0) (pos 6) (pos 1) (pos 10) (pos 5) (pos 1) (pos 60) (pos 7) (pos 0) (pos 0) (pos 0)
+      ++ row (pos 1) (pos 4) (pos 2) (pos 901) (pos 2) (pos 10) (pos 5) (pos 1) (negℤ (pos 40)) (pos 7) (pos 0) (pos 0) (pos 5)
+      ++ row (pos 1) (pos 5) (pos 3) (pos 901) (pos 2) (pos 10) (pos 5) (pos 1) (negℤ (pos 60)) (pos 7) (pos 0) (pos 0) (pos 5)
+      ++ row (pos 2) (pos 0) (pos 0) (pos 0) (pos 0) (pos 20) (pos 5) (pos 2) (pos 50) (pos 9) (pos 0) (pos 50) (pos 0)
+      ++ row (pos 3) (pos 0) (pos 0) (pos 0) (pos 1) (pos 30) (pos 6) (pos 1) (pos 5) (negℤ (pos 4)) (pos 5) (pos 0) (pos 0)
+      ++ row (pos 3) (pos 1) (pos 0) (pos 4) (pos 2) (pos 30) (pos 6) (pos 1) (negℤ (pos 5)) (negℤ (pos 4)) (negℤ (pos 5)) (pos 0) (pos 0)
+      ++ row (pos 3) (pos 2) (pos 0) (pos 4) (pos 0) (pos 31) (pos 6) (pos 1) (pos 5) (negℤ (pos 4)) (pos 5) (pos 0) (pos 0)
+      ++ row (pos 5) (pos 0) (pos 0) (pos 901) (pos 0) (pos 10) (pos 5) (pos 1) (pos 100) (pos 7) (pos 0) (pos 0) (pos 0)
+      ++ replicate 17 (negℤ (pos 1));
+  positions =
+      pos 4
+      ∷ position (pos 10) (pos 5) (pos 100) (pos 0) (pos 0)
+      ++ position (pos 20) (pos 5) (pos 0) (pos 50) (pos 0)
+      ++ position (pos 30) (pos 6) (pos 0) (pos 0) (pos 0)
+      ++ position (pos 31) (pos 6) (pos 5) (pos 0) (pos 0)
+      ++ replicate 7 (negℤ (pos 1));
+}
 
 -- A buy to open, and a sell to close that closes part of it.
 abbrev pub buy : Request

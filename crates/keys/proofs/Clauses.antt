@@ -39,7 +39,6 @@ unfolding isSome
 isSome-some a = refl
 
 module _ {Row : Type 0} (key : Row → Key) where
-
   pub find-nil : (k : Key) → find key k [] ≡ none
   unfolding find
   find-nil k = refl

@@ -9,7 +9,6 @@ use Rattle.keys.proofs.KeyOrder.{eq-same, below-trans, below-asym, belo
 use Rattle.keys.proofs.Clauses.{upsert-nil, upsert-lower, upsert-level, upsert-upper}
 
 module _ {Row : Type 0} (key : Row → Key) where
-
   -- A row put above the first row of a table, by a key that is above.
   pub upsert-past : (new r : Row) (rest : List Row) → below (key r) (key new) ≡ true → upsert key new (r ∷ rest) ≡ r ∷ upsert key new rest
   upsert-past new r rest h = upsert-upper key new r rest (below-asym (key r) (key new) h) (above-not-same (key new) (key r) h)

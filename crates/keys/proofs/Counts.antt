@@ -30,7 +30,6 @@ isSome-present none h = clash refl (sym h)
 isSome-present (some a) h = (a, refl)
 
 module _ {Row : Type 0} (key : Row → Key) where
-
   -- No two of these rows have the same key.
   unfoldable pub distinct : List Row → Bool
   distinct [] = true
@@ -105,8 +104,8 @@ module _ {Row : Type 0} (key : Row → Key) where
   apart new x (r ∷ rest) t f h =
       allOf-intro (not (same (key new) (key r))) (map (λ (s : Row). not (same (key new) (key s))) rest)
       (ap not (is-false (same (key new) (key r)) (λ s. clash
-        (ap (λ (o : Option Row). isSome o) (ap (λ (k : Key). find key k t) (sym (same-eq (key new) (key r) s)) ∙ f) ∙ isSome-some x)
-        (ap (λ (o : Option Row). isSome o) (lacksAll-head t r rest h) ∙ isSome-none Row))))
+      (ap (λ (o : Option Row). isSome o) (ap (λ (k : Key). find key k t) (sym (same-eq (key new) (key r) s)) ∙ f) ∙ isSome-some x)
+      (ap (λ (o : Option Row). isSome o) (lacksAll-head t r rest h) ∙ isSome-none Row))))
       (apart new x rest t f (only-tail key (λ (k : Key). not (isSome (find key k t))) r rest h))
 
   pub lacksAll-upsertAll : (rs qs t : List Row) → hasAll t rs ≡ true → lacksAll t qs ≡ true → lacksAll (upsertAll key rs t) qs ≡ true
@@ -114,7 +113,7 @@ module _ {Row : Type 0} (key : Row → Key) where
   lacksAll-upsertAll (r ∷ rest) qs t h l =
       ap (λ (x : List Row). lacksAll x qs) (upsertAll-cons key r rest t)
       ∙ lacksAll-upsertAll rest qs (upsert key r t) (hasAll-upsert r rest t (only-tail key (λ (k : Key). isSome (find key k t)) r rest h))
-        (lacksAll-upsert r qs t (apart r (hasAll-head t r rest h .0) qs t (hasAll-head t r rest h .1) l) l)
+      (lacksAll-upsert r qs t (apart r (hasAll-head t r rest h .0) qs t (hasAll-head t r rest h .1) l) l)
 
   -- Rows whose keys are there, put into a rising table, add none.
   pub upsertAll-replaces : (rs t : List Row) → rising key t ≡ true → hasAll t rs ≡ true → length (upsertAll key rs t) ≡ length t
@@ -130,8 +129,8 @@ module _ {Row : Type 0} (key : Row → Key) where
   upsertAll-adds (r ∷ rest) t d a =
       let one : length (upsert key r t) ≡ suc (length t) = upsert-adds key r t (lacksAll-head t r rest a) in
       let more : length (upsertAll key rest (upsert key r t)) ≡ length (upsert key r t) + length rest =
-          upsertAll-adds rest (upsert key r t) (distinct-tail r rest d)
-          (lacksAll-upsert r rest t (distinct-head r rest d) (only-tail key (λ (k : Key). not (isSome (find key k t))) r rest a)) in
+      upsertAll-adds rest (upsert key r t) (distinct-tail r rest d)
+      (lacksAll-upsert r rest t (distinct-head r rest d) (only-tail key (λ (k : Key). not (isSome (find key k t))) r rest a)) in
       rw (upsertAll-cons key r rest t) (omega arith)
 
   -- First rows that are there, then rows of different keys that are not.
@@ -149,6 +148,7 @@ module _ {Row : Type 0} (key : Row → Key) where
     where
       other : find key (key r) (upsert key new t) ≡ find key (key r) t
       other = find-upsert-other key (key r) new t (not-true (same (key new) (key r)) (only-head key (λ (k : Key). not (same (key new) k)) r rest o))
+
       go : absentFrom key (upsert key new t) rest ≡ absentFrom key t rest → Found (find key (key r) t) → absentFrom key (upsert key new t) (r ∷ rest) ≡ absentFrom key t (r ∷ rest)
       go again (absent f) = absentFrom-new key (upsert key new t) r rest (other ∙ f) ∙ ap (λ (n : ℕ). 1 + n) again ∙ sym (absentFrom-new key t r rest f)
       go again (present x f) = absentFrom-old key (upsert key new t) r x rest (other ∙ f) ∙ ap (λ (n : ℕ). 0 + n) again ∙ sym (absentFrom-old key t r x rest f)
@@ -162,6 +162,7 @@ module _ {Row : Type 0} (key : Row → Key) where
     where
       other : find key (key r) (upsertAll key rs t) ≡ find key (key r) t
       other = find-upsertAll-other key p (key r) rs t o (not-true (p (key r)) (only-head key (λ (k : Key). not (p k)) r rest w))
+
       go : absentFrom key (upsertAll key rs t) rest ≡ absentFrom key t rest → Found (find key (key r) t) → absentFrom key (upsertAll key rs t) (r ∷ rest) ≡ absentFrom key t (r ∷ rest)
       go again (absent f) = absentFrom-new key (upsertAll key rs t) r rest (other ∙ f) ∙ ap (λ (n : ℕ). 1 + n) again ∙ sym (absentFrom-new key t r rest f)
       go again (present x f) = absentFrom-old key (upsertAll key rs t) r x rest (other ∙ f) ∙ ap (λ (n : ℕ). 0 + n) again ∙ sym (absentFrom-old key t r x rest f)

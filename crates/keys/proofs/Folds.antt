@@ -19,7 +19,6 @@ use Rattle.keys.proofs.Commute.{upsert-commute}
 use Rattle.keys.proofs.Rising.{upsert-rises, upsert-longer}
 
 module _ {Row : Type 0} (key : Row → Key) where
-
   -- Every row's key has the property.
   abbrev pub Only : (Key → Bool) → List Row → Type 0
   Only p rs = allOf (map (λ (r : Row). p (key r)) rs) ≡ true
@@ -52,7 +51,7 @@ module _ {Row : Type 0} (key : Row → Key) where
       ap (λ (x : List Row). find key k x) (upsertAll-cons key r rest t)
       ∙ find-upsertAll-other p k rest (upsert key r t) (only-tail p r rest o) h
       ∙ find-upsert-other key k r t
-        (is-false (same (key r) k) (λ s. clash (only-head p r rest o) (subst (λ (x : Key). p x ≡ false) (sym (same-eq (key r) k s)) h)))
+      (is-false (same (key r) k) (λ s. clash (only-head p r rest o) (subst (λ (x : Key). p x ≡ false) (sym (same-eq (key r) k s)) h)))
 
   pub greatest-upsertAll-other : (p : Key → Bool) (m : ℤ) (rs t : List Row) → Only p rs → ((k : Key) → p k ≡ true → eqZ (k .major) m ≡ false) →
       greatest key m (upsertAll key rs t) ≡ greatest key m t
@@ -69,8 +68,8 @@ module _ {Row : Type 0} (key : Row → Key) where
       ap (λ (x : List Row). upsert key r x) (upsertAll-cons key s rest t)
       ∙ upsert-upsertAll p r rest (upsert key s t) (only-tail p s rest o) h
       ∙ ap (λ (x : List Row). upsertAll key rest x)
-        (upsert-commute key r s t
-          (is-false (same (key r) (key s)) (λ w. clash (only-head p s rest o) (subst (λ (x : Key). p x ≡ false) (same-eq (key r) (key s) w) h))))
+      (upsert-commute key r s t
+      (is-false (same (key r) (key s)) (λ w. clash (only-head p s rest o) (subst (λ (x : Key). p x ≡ false) (same-eq (key r) (key s) w) h))))
       ∙ sym (upsertAll-cons key s rest (upsert key r t))
 
   pub upsertAll-commute : (p q : Key → Bool) (rs qs t : List Row) → Only p rs → Only q qs → ((k : Key) → p k ≡ true → q k ≡ false) →

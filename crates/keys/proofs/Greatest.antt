@@ -45,7 +45,6 @@ atLeast-right a b = go (split (leZ a b))
     go (inr h) = ap (λ (x : ℤ). leZ b x) (cond-false b a h) ∙ leZ-of-ltZ b a (ltZ-of-not-leZ a b h)
 
 module _ {Row : Type 0} (key : Row → Key) where
-
   -- A row of that first figure has this key.
   row-key : (m g : ℤ) (r : Row) → eqZ (key r .major) m ≡ true → key r .minor ≡ g → same (key r) (keyOf m g) ≡ true
   row-key m g r e p =
@@ -60,24 +59,29 @@ module _ {Row : Type 0} (key : Row → Key) where
     where
       here : eqZ (key r .major) m ≡ true → key r .minor ≡ g → (x : Row) × (find key (keyOf m g) (r ∷ rest) ≡ some x)
       here e p = (r, find-here key (keyOf m g) r rest (row-key m g r e p))
+
       there : ((x : Row) × (find key (keyOf m g) rest ≡ some x)) → (x : Row) × (find key (keyOf m g) (r ∷ rest) ≡ some x)
       there f = pick (split (same (key r) (keyOf m g)))
         where
           pick : (same (key r) (keyOf m g) ≡ true) ⊎ (same (key r) (keyOf m g) ≡ false) → (x : Row) × (find key (keyOf m g) (r ∷ rest) ≡ some x)
           pick (inl s) = (r, find-here key (keyOf m g) r rest s)
           pick (inr s) = (f .0, find-there key (keyOf m g) r rest s ∙ f .1)
+
       first : eqZ (key r .major) m ≡ true → g ≡ atLeast (key r .minor) (greatest key m rest)
       first e = some-inj h (greatest-here key m r rest e)
+
       either : eqZ (key r .major) m ≡ true → (greatest key m rest ≡ some g → (x : Row) × (find key (keyOf m g) rest ≡ some x)) →
           (b : ℤ) → greatest key m rest ≡ some b → (atLeast (key r .minor) (some b) ≡ key r .minor) ⊎ (atLeast (key r .minor) (some b) ≡ b) →
           (x : Row) × (find key (keyOf m g) (r ∷ rest) ≡ some x)
       either e again b q (inl w) = here e (sym (first e ∙ ap (λ (o : Option ℤ). atLeast (key r .minor) o) q ∙ w))
       either e again b q (inr w) =
           there (again (q ∙ ap {B = Option ℤ} some (sym (first e ∙ ap (λ (o : Option ℤ). atLeast (key r .minor) o) q ∙ w))))
+
       rows : eqZ (key r .major) m ≡ true → (greatest key m rest ≡ some g → (x : Row) × (find key (keyOf m g) rest ≡ some x)) →
           Found (greatest key m rest) → (x : Row) × (find key (keyOf m g) (r ∷ rest) ≡ some x)
       rows e again (absent q) = here e (sym (first e ∙ ap (λ (o : Option ℤ). atLeast (key r .minor) o) q ∙ atLeast-none (key r .minor)))
       rows e again (present b q) = either e again b q (atLeast-either (key r .minor) b)
+
       go : (greatest key m rest ≡ some g → (x : Row) × (find key (keyOf m g) rest ≡ some x)) → (eqZ (key r .major) m ≡ true) ⊎ (eqZ (key r .major) m ≡ false) →
           (x : Row) × (find key (keyOf m g) (r ∷ rest) ≡ some x)
       go again (inl e) = rows e again (found (greatest key m rest))
@@ -90,17 +94,20 @@ module _ {Row : Type 0} (key : Row → Key) where
     where
       wider : eqZ (key r .major) m ≡ true → ((g : ℤ) × (greatest key m rest ≡ some g) × (leZ s g ≡ true)) →
           (g : ℤ) × (greatest key m (r ∷ rest) ≡ some g) × (leZ s g ≡ true)
-      wider e w =
-          (atLeast (key r .minor) (some (w .0)),
-          greatest-here key m r rest e ∙ ap (λ (o : Option ℤ). some (atLeast (key r .minor) o)) (w .1),
-          leZ-trans s (w .0) (atLeast (key r .minor) (some (w .0))) (w .2) (atLeast-right (key r .minor) (w .0)))
+      wider e w = (
+        atLeast (key r .minor) (some (w .0)),
+        greatest-here key m r rest e ∙ ap (λ (o : Option ℤ). some (atLeast (key r .minor) o)) (w .1),
+        leZ-trans s (w .0) (atLeast (key r .minor) (some (w .0))) (w .2) (atLeast-right (key r .minor) (w .0)),
+      )
+
       go : (find key (keyOf m s) rest ≡ some x → (g : ℤ) × (greatest key m rest ≡ some g) × (leZ s g ≡ true)) →
           (eqZ (key r .major) m ≡ true) ⊎ (eqZ (key r .major) m ≡ false) → (same (key r) (keyOf m s) ≡ true) ⊎ (same (key r) (keyOf m s) ≡ false) →
           (g : ℤ) × (greatest key m (r ∷ rest) ≡ some g) × (leZ s g ≡ true)
-      go again (inl e) (inl k) =
-          (atLeast (key r .minor) (greatest key m rest),
-          greatest-here key m r rest e,
-          subst (λ (y : ℤ). leZ y (atLeast (key r .minor) (greatest key m rest)) ≡ true) (ap (λ (w : Key). w .minor) (same-eq (key r) (keyOf m s) k)) (atLeast-left (key r .minor) (greatest key m rest)))
+      go again (inl e) (inl k) = (
+        atLeast (key r .minor) (greatest key m rest),
+        greatest-here key m r rest e,
+        subst (λ (y : ℤ). leZ y (atLeast (key r .minor) (greatest key m rest)) ≡ true) (ap (λ (w : Key). w .minor) (same-eq (key r) (keyOf m s) k)) (atLeast-left (key r .minor) (greatest key m rest)),
+      )
       go again (inl e) (inr k) = wider e (again (sym (find-there key (keyOf m s) r rest k) ∙ f))
       go again (inr e) (inl k) = clash k (major-differs (key r) (keyOf m s) e)
       go again (inr e) (inr k) =

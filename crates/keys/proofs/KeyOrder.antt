@@ -101,6 +101,7 @@ way a b = go (split (below a b)) (split (below b a))
         let p : a .major ≡ b .major = ltZ-level (a .major) (b .major) (is-false (ltZ (a .major) (b .major)) (λ t. clash (below-major a b t) h)) (is-false (ltZ (b .major) (a .major)) (λ t. clash (below-major b a t) k)) in
         let q : a .minor ≡ b .minor = ltZ-level (a .minor) (b .minor) (is-false (ltZ (a .minor) (b .minor)) (λ t. clash (below-minor a b p t) h)) (is-false (ltZ (b .minor) (a .minor)) (λ t. clash (below-minor b a (sym p) t) k)) in
         λ i. record { major = p i; minor = q i }
+
     go : (below a b ≡ true) ⊎ (below a b ≡ false) → (below b a ≡ true) ⊎ (below b a ≡ false) → Way a b
     go (inl p) q = lower p (below-not-same a b p) (below-asym a b p)
     go (inr p) (inl q) = upper q (above-not-same a b q) p

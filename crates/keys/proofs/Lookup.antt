@@ -14,7 +14,6 @@ use Rattle.keys.proofs.KeyOrder.{same-refl, same-eq, same-sym, Way, low
 use Rattle.keys.proofs.Clauses.{find-nil, find-here, find-there, greatest-here, greatest-there, upsert-nil, upsert-lower, upsert-level, upsert-upper, allOf-intro, allOf-head, allOf-tail}
 
 module _ {Row : Type 0} (key : Row → Key) where
-
   pub find-key : (k : Key) (t : List Row) (x : Row) → find key k t ≡ some x → key x ≡ k
   find-key k [] x h = none-some (find-nil key k) h
   find-key k (r ∷ rest) x h = go (find-key k rest x) (split (same (key r) k))

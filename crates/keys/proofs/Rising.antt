@@ -14,7 +14,6 @@ use Rattle.keys.proofs.Clauses.{belowAll, allOf-nil, allOf-intro, allOf
 use Rattle.keys.proofs.Lookup.{all-upsert}
 
 module _ {Row : Type 0} (key : Row → Key) where
-
   pub belowAll-head : (k : Key) (r : Row) (rest : List Row) → belowAll key k (r ∷ rest) ≡ true → below k (key r) ≡ true
   belowAll-head k r rest h = allOf-head (below k (key r)) (map (λ (s : Row). below k (key s)) rest) h
 

@@ -10,7 +10,6 @@ use Rattle.keys.proofs.Clauses.{belowAll, allOf-nil, allOf-intro, allOf
 use Rattle.keys.proofs.Rising.{belowAll-head, belowAll-tail, rising-tail, rising-head}
 
 module _ {Row : Type 0} (key : Row → Key) where
-
   -- Every row of a list lies below a key.
   abbrev pub allBelow : Key → List Row → Bool
   allBelow k rows = allOf (map (λ (r : Row). below (key r) k) rows)
@@ -35,7 +34,7 @@ module _ {Row : Type 0} (key : Row → Key) where
   allBelow-last k (s ∷ rest) r h b = allBelow-intro k s (rest ++ (r ∷ [])) (allBelow-head k s rest h) (allBelow-last k rest r (allBelow-tail k s rest h) b)
 
   pub upsert-between : (new : Row) (pre post : List Row) → allBelow (key new) pre ≡ true → belowAll key (key new) post ≡ true
-    → upsert key new (pre ++ post) ≡ pre ++ (new ∷ post)
+      → upsert key new (pre ++ post) ≡ pre ++ (new ∷ post)
   upsert-between new [] [] b a = upsert-nil key new
   upsert-between new [] (r ∷ rest) b a = upsert-lower key new r rest (belowAll-head key (key new) r rest a)
   upsert-between new (r ∷ pre) post b a =

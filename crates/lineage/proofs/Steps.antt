@@ -36,7 +36,6 @@ to-from (some o) price links h =
     λ i. some (record { price = p i; links = l i })
 
 module _ (rs : List ℤ) (id suffix : ℤ) where
-
   pub found-missing : originFound rs id suffix ≡ Missing → originIn rs id suffix ≡ none
   unfolding originFound
   found-missing h = to-missing (originIn rs id suffix) h
@@ -52,13 +51,11 @@ module _ (rs : List ℤ) (id suffix : ℤ) where
   step-missing e = sym (ap tracedTo (origin-missing (recordsOfId rs id) (natAbs suffix) suffix e))
 
   module _ (r : Record) (named : recordsOfId rs id suffix ≡ some r) where
-
     pub step-first : eqZ suffix (pos 0) ≡ true → From (r .price) (pos 0) ≡ originFound rs id suffix
     unfolding originFound tracedTo
     step-first z = sym (ap tracedTo (origin-first (recordsOfId rs id) (natAbs suffix) suffix r named z))
 
     module _ (sound : soundRecords rs ≡ true) (z : eqZ suffix (pos 0) ≡ false) where
-
       onward : originFound rs id suffix ≡ tracedTo (oneMoreLink (originIn rs id (r .parent)))
       unfolding originFound
       onward = ap tracedTo (origin-parent (recordsOfId rs id) (descending rs sound id) suffix r named z)
@@ -80,7 +77,7 @@ module _ (rs : List ℤ) (id suffix : ℤ) where
 -- ---- how many links
 
 pub links-few : (rs : List ℤ) → soundRecords rs ≡ true → (id suffix price links : ℤ) → validSuffix suffix ≡ true → originFound rs id suffix ≡ From price links
-  → (pos 0 ≤ℤ links) × (links ≤ℤ greatestOfSuffixes)
+    → (pos 0 ≤ℤ links) × (links ≤ℤ greatestOfSuffixes)
 links-few rs sound id suffix price links v e =
     let range : (pos 0 ≤ℤ links) × (links ≤ℤ suffix) = links-range rs sound id suffix (record { price = price; links = links }) v (found-from rs id suffix price links e) in
     (range .0, omega (zarith, range .1, suffix-range suffix v .1))

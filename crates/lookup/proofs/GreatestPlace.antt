@@ -25,8 +25,7 @@ use Rattle.lookup.proofs.RowFound.{find-found}
 use Rattle.lookup.proofs.RisingKeys.{earlier-below, place-in, before-place, at-place, find-there}
 
 module _ (keys : List Key) (rises : rising (λ e. e) keys ≡ true) (m top : ℤ)
-  (bound : placeFrom 0 (keyOf m top) keys < length keys → ltZ top (getD keys (placeFrom 0 (keyOf m top) keys) (keyOf m top) .minor) ≡ false) where
-
+    (bound : placeFrom 0 (keyOf m top) keys < length keys → ltZ top (getD keys (placeFrom 0 (keyOf m top) keys) (keyOf m top) .minor) ≡ false) where
   abbrev last : Key
   last = keyOf m top
 
@@ -38,7 +37,7 @@ module _ (keys : List Key) (rises : rising (λ e. e) keys ≡ true) (m top : ℤ
   greater-at h = go (below-cases last (getD keys place last) (at-place last keys last h))
     where
       go : (ltZ m (getD keys place last .major) ≡ true) ⊎ ((m ≡ getD keys place last .major) × (ltZ top (getD keys place last .minor) ≡ true))
-        → ltZ m (getD keys place last .major) ≡ true
+          → ltZ m (getD keys place last .major) ≡ true
       go (inl l) = l
       go (inr w) = clash (w .1) (bound h)
 
@@ -47,11 +46,13 @@ module _ (keys : List Key) (rises : rising (λ e. e) keys ≡ true) (m top : ℤ
     where
       here : ltZ m (getD keys place last .major) ≡ true
       here = greater-at (omega arith)
+
       later : (ltZ (getD keys place last .major) (getD keys i last .major) ≡ true)
           ⊎ ((getD keys place last .major ≡ getD keys i last .major) × (ltZ (getD keys place last .minor) (getD keys i last .minor) ≡ true))
-        → ltZ m (getD keys i last .major) ≡ true
+          → ltZ m (getD keys i last .major) ≡ true
       later (inl l) = ltZ-trans m (getD keys place last .major) (getD keys i last .major) here l
       later (inr w) = subst (λ (x : ℤ). ltZ m x ≡ true) (w .0) here
+
       go : (place ≡ i) ⊎ (place < i) → ltZ m (getD keys i last .major) ≡ true
       go (inl e) = subst (λ (n : ℕ). ltZ m (getD keys n last .major) ≡ true) e here
       go (inr l) = later (below-cases (getD keys place last) (getD keys i last) (earlier-below keys place i last rises l b))
@@ -65,9 +66,10 @@ module _ (keys : List Key) (rises : rising (λ e. e) keys ≡ true) (m top : ℤ
     where
       not-greater : ltZ m (getD keys j last .major) ≡ false
       not-greater = is-false (ltZ m (getD keys j last .major)) (λ t. clash (below-major last (getD keys j last) t) (before-place last keys j last p))
+
       go : (ltZ (getD keys i last .major) (getD keys j last .major) ≡ true)
           ⊎ ((getD keys i last .major ≡ getD keys j last .major) × (ltZ (getD keys i last .minor) (getD keys j last .minor) ≡ true))
-        → (getD keys j last .major ≡ m) × (ltZ (getD keys i last .minor) (getD keys j last .minor) ≡ true)
+          → (getD keys j last .major ≡ m) × (ltZ (getD keys i last .minor) (getD keys j last .minor) ≡ true)
       go (inl l) = clash (subst (λ (x : ℤ). ltZ x (getD keys j last .major) ≡ true) e l) not-greater
       go (inr w) = (sym (w .0) ∙ e, w .1)
 
@@ -80,23 +82,23 @@ module _ (keys : List Key) (rises : rising (λ e. e) keys ≡ true) (m top : ℤ
   greatest-place g h =
       let x : (x : Key) × (find (λ e. e) (keyOf m g) keys ≡ some x) = greatest-found (λ e. e) m g keys h in
       let w : (i : ℕ) × (foundFrom 0 (keyOf m g) (map (λ e. e) keys) ≡ Row i) × (i < length keys) × ((other : Key) → getD keys i other ≡ x .0)
-          = find-found (λ e. e) (keyOf m g) keys (x .0) (x .1) in
+      = find-found (λ e. e) (keyOf m g) keys (x .0) (x .1) in
       let e : getD keys (w .0) last ≡ keyOf m g = w .3 last ∙ find-key (λ e. e) (keyOf m g) keys (x .0) (x .1) in
       let past : w .0 < place = of-figure (w .0) (w .2) (ap (λ (k : Key). k .major) e) in
       let none-after : suc (w .0) < place → ⊥
-          = λ l.
-            let b : suc (w .0) < length keys = omega (arith, place-in last keys) in
-            let n : (getD keys (suc (w .0)) last .major ≡ m) × (ltZ (getD keys (w .0) last .minor) (getD keys (suc (w .0)) last .minor) ≡ true)
-                = between (w .0) (suc (w .0)) (omega arith) l (ap (λ (k : Key). k .major) e) in
-            clash (ap (λ (k : Key). ltZ (k .minor) (getD keys (suc (w .0)) last .minor)) (sym e) ∙ n .1)
-            (not-ltZ-of-leZ (getD keys (suc (w .0)) last .minor) g
-            (greatest-bounds (λ e. e) m (getD keys (suc (w .0)) last .minor) g keys (getD keys (suc (w .0)) last) h (find-figure (suc (w .0)) b (n .0)))) in
+      = λ l.
+      let b : suc (w .0) < length keys = omega (arith, place-in last keys) in
+      let n : (getD keys (suc (w .0)) last .major ≡ m) × (ltZ (getD keys (w .0) last .minor) (getD keys (suc (w .0)) last .minor) ≡ true)
+      = between (w .0) (suc (w .0)) (omega arith) l (ap (λ (k : Key). k .major) e) in
+      clash (ap (λ (k : Key). ltZ (k .minor) (getD keys (suc (w .0)) last .minor)) (sym e) ∙ n .1)
+      (not-ltZ-of-leZ (getD keys (suc (w .0)) last .minor) g
+      (greatest-bounds (λ e. e) m (getD keys (suc (w .0)) last .minor) g keys (getD keys (suc (w .0)) last) h (find-figure (suc (w .0)) b (n .0)))) in
       (w .0, omega (arith, past, lt-of-not-le none-after), e)
 
   pub greatest-there : (i : ℕ) → place ≡ suc i → getD keys i last .major ≡ m → greatest (λ e. e) m keys ≡ some (getD keys i last .minor)
   greatest-there i p e =
       let g : (g : ℤ) × (greatest (λ e. e) m keys ≡ some g) × (leZ (getD keys i last .minor) g ≡ true)
-          = found-greatest (λ e. e) m (getD keys i last .minor) keys (getD keys i last) (find-figure i (omega (arith, place-in last keys)) e) in
+      = found-greatest (λ e. e) m (getD keys i last .minor) keys (getD keys i last) (find-figure i (omega (arith, place-in last keys)) e) in
       let w : (j : ℕ) × (place ≡ suc j) × (getD keys j last ≡ keyOf m (g .0)) = greatest-place (g .0) (g .1) in
       let s : w .0 ≡ i = omega (arith, w .1) in
       g .1 ∙ ap some (sym (ap (λ (k : Key). k .minor) (ap (λ (n : ℕ). getD keys n last) (sym s) ∙ w .2)))

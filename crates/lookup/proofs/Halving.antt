@@ -19,7 +19,6 @@ pub row-within : (row count width cells : ℕ) → row < count → 2 ≤ width �
 row-within row count width cells h w fit = omega (arith, mul-le-mul-right width h)
 
 module _ (cells : List ℤ) (width count : ℕ) where
-
   pub keys-count : length (decode keyAt width count 1 cells) ≡ count
   keys-count = length-decode keyAt width count 1 cells
 
@@ -30,7 +29,6 @@ module _ (cells : List ℤ) (width count : ℕ) where
   place-at-most k = omega (arith, place-in k (decode keyAt width count 1 cells), keys-count)
 
   module _ (k : Key) (row : ℕ) (h : row < count) where
-
     -- The row's key, as the place's laws read it.
     tested : below k (getD (decode keyAt width count 1 cells) row k) ≡ below k (keyAt cells (1 + row * width))
     tested = ap (below k) (row-key row k h)

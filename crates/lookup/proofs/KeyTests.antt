@@ -11,7 +11,6 @@ use Rattle.rules.specs.Rows.{keyOf}
 use Rattle.keys.proofs.Equal.{ltZ-irrefl}
 
 module _ (a b c d : ℤ) where
-
   pub below-by-major : ltZ a c ≡ true → below (keyOf a b) (keyOf c d) ≡ true
   unfolding below
   below-by-major h = rw h

@@ -34,7 +34,7 @@ below-each k (e ∷ rest) (suc i) other b h = below-each k rest i other (belowAl
 
 -- Of two keys that rise the earlier is below.
 pub earlier-below : (keys : List Key) (i j : ℕ) (other : Key) → rising (λ e. e) keys ≡ true → i < j → j < length keys
-  → below (getD keys i other) (getD keys j other) ≡ true
+    → below (getD keys i other) (getD keys j other) ≡ true
 earlier-below [] i j other rises h b = absurd (omega arith)
 earlier-below (e ∷ rest) i zero other rises h b = absurd (omega arith)
 earlier-below (e ∷ rest) zero (suc j) other rises h b = below-each e rest j other (rising-head (λ e. e) e rest rises) (omega arith)
@@ -57,7 +57,7 @@ before-place k [] i other h = absurd (omega (arith, placeFrom-nil 0 k))
 before-place k (e ∷ rest) i other h = go i h (λ j. before-place k rest j other) (split (below k e))
   where
     go : (i : ℕ) → i < placeFrom 0 k (e ∷ rest) → ((j : ℕ) → j < placeFrom 0 k rest → below k (getD rest j other) ≡ false)
-      → (below k e ≡ true) ⊎ (below k e ≡ false) → below k (getD (e ∷ rest) i other) ≡ false
+        → (below k e ≡ true) ⊎ (below k e ≡ false) → below k (getD (e ∷ rest) i other) ≡ false
     go i h ih (inl s) = absurd (omega (arith, place-first k e rest s))
     go zero h ih (inr s) = s
     go (suc j) h ih (inr s) = ih j (omega (arith, place-later k e rest s))
@@ -68,7 +68,7 @@ at-place k [] other h = absurd (omega arith)
 at-place k (e ∷ rest) other h = go (at-place k rest other) (split (below k e))
   where
     go : (placeFrom 0 k rest < length rest → below k (getD rest (placeFrom 0 k rest) other) ≡ true)
-      → (below k e ≡ true) ⊎ (below k e ≡ false) → below k (getD (e ∷ rest) (placeFrom 0 k (e ∷ rest)) other) ≡ true
+        → (below k e ≡ true) ⊎ (below k e ≡ false) → below k (getD (e ∷ rest) (placeFrom 0 k (e ∷ rest)) other) ≡ true
     go ih (inl s) = ap (λ (p : ℕ). below k (getD (e ∷ rest) p other)) (place-first k e rest s) ∙ s
     go ih (inr s) = ap (λ (p : ℕ). below k (getD (e ∷ rest) p other)) (place-later k e rest s) ∙ ih (omega (arith, place-later k e rest s))
 
@@ -77,13 +77,13 @@ pub above-from-place : (k : Key) (keys : List Key) (i : ℕ) (other : Key) → b
 above-from-place k keys i other s = omega (arith, lt-of-not-le (λ (h : suc i ≤ placeFrom 0 k keys). clash s (before-place k keys i other h)))
 
 module _ (keys : List Key) (rises : rising (λ e. e) keys ≡ true) (k : Key) (i : ℕ) (other : Key) where
-
   -- Where keys rise, every key from the place on is above,
   pub from-place-above : placeFrom 0 k keys ≤ i → i < length keys → below k (getD keys i other) ≡ true
   from-place-above h b = go (eq-or-lt-of-le h)
     where
       here : below k (getD keys (placeFrom 0 k keys) other) ≡ true
       here = at-place k keys other (omega arith)
+
       go : (placeFrom 0 k keys ≡ i) ⊎ (placeFrom 0 k keys < i) → below k (getD keys i other) ≡ true
       go (inl e) = subst (λ (p : ℕ). below k (getD keys p other) ≡ true) e here
       go (inr l) = below-trans k (getD keys (placeFrom 0 k keys) other) (getD keys i other) here (earlier-below keys (placeFrom 0 k keys) i other rises l b)
@@ -97,8 +97,8 @@ module _ (keys : List Key) (rises : rising (λ e. e) keys ≡ true) (k : Key) (i
   just-before b e =
       let past : i < placeFrom 0 k keys = not-above-before b (ap (λ (x : Key). below k x) e ∙ below-irrefl k) in
       let last : suc i < placeFrom 0 k keys → ⊥
-          = λ h. clash (ap (λ (x : Key). below x (getD keys (suc i) other)) (sym e) ∙ earlier-below keys i (suc i) other rises (omega arith) (omega (arith, place-in k keys)))
-            (before-place k keys (suc i) other h) in
+      = λ h. clash (ap (λ (x : Key). below x (getD keys (suc i) other)) (sym e) ∙ earlier-below keys i (suc i) other rises (omega arith) (omega (arith, place-in k keys)))
+      (before-place k keys (suc i) other h) in
       omega (arith, past, lt-of-not-le last)
 
 -- ---- the row with a key
@@ -115,13 +115,13 @@ found-there (e ∷ rest) (suc i) other rises h =
     ∙ ap next (found-there rest i other (rising-tail (λ e. e) e rest rises) (omega arith))
 
 pub find-there : (keys : List Key) (i : ℕ) (other : Key) → rising (λ e. e) keys ≡ true → i < length keys
-  → find (λ e. e) (getD keys i other) keys ≡ some (getD keys i other)
+    → find (λ e. e) (getD keys i other) keys ≡ some (getD keys i other)
 find-there keys i other rises h =
     found-find (λ e. e) (getD keys i other) keys i (ap (foundFrom 0 (getD keys i other)) (map-id keys) ∙ found-there keys i other rises h) .1 other
 
 -- The row answered is the one before the place.
 pub found-place : (keys : List Key) (k : Key) (i : ℕ) → rising (λ e. e) keys ≡ true → foundFrom 0 k keys ≡ Row i
-  → (placeFrom 0 k keys ≡ suc i) × (i < length keys) × (getD keys i k ≡ k)
+    → (placeFrom 0 k keys ≡ suc i) × (i < length keys) × (getD keys i k ≡ k)
 found-place keys k i rises h =
     let f : foundFrom 0 k (map (λ e. e) keys) ≡ Row i = ap (foundFrom 0 k) (map-id keys) ∙ h in
     let b : i < length keys = found-find (λ e. e) k keys i f .0 in

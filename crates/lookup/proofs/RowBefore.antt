@@ -34,14 +34,12 @@ abbrev pub lastKey : ℤ → Key
 lastKey m = keyOf m topFigure
 
 module _ (cells : List ℤ) (width count : ℕ) (rises : keysRise width count cells ≡ true) where
-
   abbrev keys : List Key
   keys = decode keyAt width count 1 cells
 
   -- ---- the row with a key
 
   module _ (k : Key) where
-
     pub found-before : (row : ℕ) → rowPlace width k count cells ≡ suc row → same (keyAt cells (1 + row * width)) k ≡ true → rowFound width k count cells ≡ Row row
     found-before row p s =
         let e : getD keys row k ≡ k = row-key cells width count row k (omega (arith, place-at-most cells width count k)) ∙ same-eq (keyAt cells (1 + row * width)) k s in
@@ -66,8 +64,7 @@ module _ (cells : List ℤ) (width count : ℕ) (rises : keysRise width count ce
   -- ---- the greatest second figure
 
   module _ (m : ℤ)
-    (fits : rowPlace width (lastKey m) count cells < count → SFits w64 (getD cells (1 + rowPlace width (lastKey m) count cells * width + 1) (pos 0))) where
-
+      (fits : rowPlace width (lastKey m) count cells < count → SFits w64 (getD cells (1 + rowPlace width (lastKey m) count cells * width + 1) (pos 0))) where
     abbrev place : ℕ
     place = rowPlace width (lastKey m) count cells
 
@@ -85,7 +82,7 @@ module _ (cells : List ℤ) (width count : ℕ) (rises : keysRise width count ce
     key-before row p = row-key cells width count row (lastKey m) (omega (arith, place-at-most cells width count (lastKey m)))
 
     pub suffix-before : (row : ℕ) → place ≡ suc row → getD cells (1 + row * width) (pos 0) ≡ m
-      → rowGreatest width m count cells ≡ Suffix (getD cells (1 + row * width + 1) (pos 0))
+        → rowGreatest width m count cells ≡ Suffix (getD cells (1 + row * width + 1) (pos 0))
     suffix-before row p e =
         some-suffix (greatest (λ e. e) m keys) (getD cells (1 + row * width + 1) (pos 0))
         (greatest-there keys rises m topFigure bound row p (ap (λ (k : Key). k .major) (key-before row p) ∙ e) ∙ ap (λ (k : Key). some (k .minor)) (key-before row p))

@@ -33,8 +33,9 @@ found-next row k (e ∷ rest) = go (found-next (row + 1) k rest) (split (same e 
   where
     up : row + 1 ≡ suc row
     up = omega arith
+
     go : foundFrom (row + 1 + 1) k rest ≡ next (foundFrom (row + 1) k rest) → (same e k ≡ true) ⊎ (same e k ≡ false)
-      → foundFrom (row + 1) k (e ∷ rest) ≡ next (foundFrom row k (e ∷ rest))
+        → foundFrom (row + 1) k (e ∷ rest) ≡ next (foundFrom row k (e ∷ rest))
     go ih (inl s) = foundFrom-here (row + 1) k e rest s ∙ ap Row up ∙ ap next (sym (foundFrom-here row k e rest s))
     go ih (inr s) = foundFrom-there (row + 1) k e rest s ∙ ih ∙ ap next (sym (foundFrom-there row k e rest s))
 
@@ -52,7 +53,6 @@ next-absent Absent e = refl
 -- ---- over rows with a key
 
 module _ {A : Type 0} (key : A → Key) where
-
   pub found-same : (k : Key) (r : A) (rest : List A) → same (key r) k ≡ true → foundFrom 0 k (map key (r ∷ rest)) ≡ Row 0
   found-same k r rest s = foundFrom-here 0 k (key r) (map key rest) s
 
@@ -61,13 +61,13 @@ module _ {A : Type 0} (key : A → Key) where
 
   -- A row that is answered is one of the rows, and it is the row that the rules find.
   pub found-find : (k : Key) (rows : List A) (i : ℕ) → foundFrom 0 k (map key rows) ≡ Row i
-    → (i < length rows) × ((other : A) → find key k rows ≡ some (getD rows i other))
+      → (i < length rows) × ((other : A) → find key k rows ≡ some (getD rows i other))
   found-find k [] i h = let z : _≡_ {A = ℕ} 0 1 = cc (foundFrom-nil 0 k) in absurd (omega arith)
   found-find k (r ∷ rest) i h = go (λ j. found-find k rest j) (split (same (key r) k))
     where
       go : ((j : ℕ) → foundFrom 0 k (map key rest) ≡ Row j → (j < length rest) × ((other : A) → find key k rest ≡ some (getD rest j other)))
-        → (same (key r) k ≡ true) ⊎ (same (key r) k ≡ false)
-        → (i < length (r ∷ rest)) × ((other : A) → find key k (r ∷ rest) ≡ some (getD (r ∷ rest) i other))
+          → (same (key r) k ≡ true) ⊎ (same (key r) k ≡ false)
+          → (i < length (r ∷ rest)) × ((other : A) → find key k (r ∷ rest) ≡ some (getD (r ∷ rest) i other))
       go ih (inl s) =
           let z : Row 0 ≡ Row i = sym (found-same k r rest s) ∙ h in
           let e : i ≡ 0 = cc in
@@ -95,17 +95,17 @@ module _ {A : Type 0} (key : A → Key) where
   find-absent k (r ∷ rest) h = go (find-absent k rest) (split (same (key r) k))
     where
       go : (find key k rest ≡ none → foundFrom 0 k (map key rest) ≡ Absent) → (same (key r) k ≡ true) ⊎ (same (key r) k ≡ false)
-        → foundFrom 0 k (map key (r ∷ rest)) ≡ Absent
+          → foundFrom 0 k (map key (r ∷ rest)) ≡ Absent
       go ih (inl s) = none-some h (find-here key k r rest s)
       go ih (inr s) = found-other k r rest s ∙ ap next (ih (sym (find-there key k r rest s) ∙ h))
 
   -- The row that the rules find is answered.
   pub find-found : (k : Key) (rows : List A) (x : A) → find key k rows ≡ some x
-    → (i : ℕ) × (foundFrom 0 k (map key rows) ≡ Row i) × (i < length rows) × ((other : A) → getD rows i other ≡ x)
+      → (i : ℕ) × (foundFrom 0 k (map key rows) ≡ Row i) × (i < length rows) × ((other : A) → getD rows i other ≡ x)
   find-found k rows x h = go (foundFrom 0 k (map key rows)) refl
     where
       go : (f : Found) → foundFrom 0 k (map key rows) ≡ f
-        → (i : ℕ) × (foundFrom 0 k (map key rows) ≡ Row i) × (i < length rows) × ((other : A) → getD rows i other ≡ x)
+          → (i : ℕ) × (foundFrom 0 k (map key rows) ≡ Row i) × (i < length rows) × ((other : A) → getD rows i other ≡ x)
       go (Row i) e = (i, e, found-find k rows i e .0, λ other. some-inj (found-find k rows i e .1 other) h)
       go Absent e = none-some (absent-find k rows e) h
 
@@ -116,7 +116,7 @@ module _ {A : Type 0} (key : A → Key) where
   greatest-map m (r ∷ rest) = go (greatest-map m rest) (split (eqZ (key r .major) m))
     where
       go : greatest (λ k. k) m (map key rest) ≡ greatest key m rest → (eqZ (key r .major) m ≡ true) ⊎ (eqZ (key r .major) m ≡ false)
-        → greatest (λ k. k) m (map key (r ∷ rest)) ≡ greatest key m (r ∷ rest)
+          → greatest (λ k. k) m (map key (r ∷ rest)) ≡ greatest key m (r ∷ rest)
       go ih (inl s) =
           greatest-here (λ k. k) m (key r) (map key rest) s ∙ ap (λ (o : Option ℤ). some (atLeast (key r .minor) o)) ih ∙ sym (greatest-here key m r rest s)
       go ih (inr s) = greatest-there (λ k. k) m (key r) (map key rest) s ∙ ih ∙ sym (greatest-there key m r rest s)

@@ -25,13 +25,13 @@ place-next row k (e ∷ rest) = go (place-next (row + 1) k rest) (split (below k
   where
     up : row + 1 ≡ suc row
     up = omega arith
+
     go : placeFrom (row + 1 + 1) k rest ≡ suc (placeFrom (row + 1) k rest) → (below k e ≡ true) ⊎ (below k e ≡ false)
-      → placeFrom (row + 1) k (e ∷ rest) ≡ suc (placeFrom row k (e ∷ rest))
+        → placeFrom (row + 1) k (e ∷ rest) ≡ suc (placeFrom row k (e ∷ rest))
     go ih (inl s) = placeFrom-here (row + 1) k e rest s ∙ up ∙ ap suc (sym (placeFrom-here row k e rest s))
     go ih (inr s) = placeFrom-there (row + 1) k e rest s ∙ ih ∙ ap suc (sym (placeFrom-there row k e rest s))
 
 module _ {A : Type 0} (key : A → Key) where
-
   pub place-lower : (k : Key) (r : A) (rest : List A) → below k (key r) ≡ true → placeFrom 0 k (map key (r ∷ rest)) ≡ 0
   place-lower k r rest s = placeFrom-here 0 k (key r) (map key rest) s
 
@@ -48,14 +48,14 @@ module _ {A : Type 0} (key : A → Key) where
 
   -- A row whose key is absent goes in at its place.
   pub upsert-placed : (new : A) (rows : List A) → find key (key new) rows ≡ none
-    → upsert key new rows ≡ take (placeFrom 0 (key new) (map key rows)) rows ++ (new ∷ drop (placeFrom 0 (key new) (map key rows)) rows)
+      → upsert key new rows ≡ take (placeFrom 0 (key new) (map key rows)) rows ++ (new ∷ drop (placeFrom 0 (key new) (map key rows)) rows)
   upsert-placed new [] h = upsert-nil key new ∙ ap (λ (p : ℕ). take p [] ++ (new ∷ drop p [])) (sym (placeFrom-nil 0 (key new)))
   upsert-placed new (r ∷ rest) h = go (upsert-placed new rest) (way (key new) (key r))
     where
       go : (find key (key new) rest ≡ none
-            → upsert key new rest ≡ take (placeFrom 0 (key new) (map key rest)) rest ++ (new ∷ drop (placeFrom 0 (key new) (map key rest)) rest))
-        → Way (key new) (key r)
-        → upsert key new (r ∷ rest)
+          → upsert key new rest ≡ take (placeFrom 0 (key new) (map key rest)) rest ++ (new ∷ drop (placeFrom 0 (key new) (map key rest)) rest))
+          → Way (key new) (key r)
+          → upsert key new (r ∷ rest)
           ≡ take (placeFrom 0 (key new) (map key (r ∷ rest))) (r ∷ rest) ++ (new ∷ drop (placeFrom 0 (key new) (map key (r ∷ rest))) (r ∷ rest))
       go ih (lower b s a) =
           upsert-lower key new r rest b ∙ ap (λ (p : ℕ). take p (r ∷ rest) ++ (new ∷ drop p (r ∷ rest))) (sym (place-lower (key new) r rest b))
@@ -67,24 +67,24 @@ module _ {A : Type 0} (key : A → Key) where
 
   -- A row whose key is there takes the place of the row with its key.
   pub upsert-replaced : (new : A) (rows : List A) (i : ℕ) → rising key rows ≡ true → foundFrom 0 (key new) (map key rows) ≡ Row i
-    → upsert key new rows ≡ take i rows ++ (new ∷ drop (suc i) rows)
+      → upsert key new rows ≡ take i rows ++ (new ∷ drop (suc i) rows)
   upsert-replaced new [] i h f = let z : _≡_ {A = ℕ} 0 1 = cc (foundFrom-nil 0 (key new)) in absurd (omega arith)
   upsert-replaced new (r ∷ rest) i h f = go (λ j. upsert-replaced new rest j (rising-tail key r rest h)) (split (same (key r) (key new)))
     where
       go : ((j : ℕ) → foundFrom 0 (key new) (map key rest) ≡ Row j → upsert key new rest ≡ take j rest ++ (new ∷ drop (suc j) rest))
-        → (same (key r) (key new) ≡ true) ⊎ (same (key r) (key new) ≡ false)
-        → upsert key new (r ∷ rest) ≡ take i (r ∷ rest) ++ (new ∷ drop (suc i) (r ∷ rest))
+          → (same (key r) (key new) ≡ true) ⊎ (same (key r) (key new) ≡ false)
+          → upsert key new (r ∷ rest) ≡ take i (r ∷ rest) ++ (new ∷ drop (suc i) (r ∷ rest))
       go ih (inl s) =
           let z : Row 0 ≡ Row i = sym (found-same key (key new) r rest s) ∙ f in
           let e : 0 ≡ i = cc in
           upsert-level key new r rest (same-sym (key new) (key r) ∙ s) ∙ ap (λ (n : ℕ). take n (r ∷ rest) ++ (new ∷ drop (suc n) (r ∷ rest))) e
       go ih (inr s) =
           let w : (j : ℕ) × (i ≡ suc j) × (foundFrom 0 (key new) (map key rest) ≡ Row j)
-              = next-row-is (foundFrom 0 (key new) (map key rest)) i (sym (found-other key (key new) r rest s) ∙ f) in
+          = next-row-is (foundFrom 0 (key new) (map key rest)) i (sym (found-other key (key new) r rest s) ∙ f) in
           let x : find key (key new) rest ≡ some (getD rest (w .0) new) = found-find key (key new) rest (w .0) (w .2) .1 new in
           let a : below (key r) (key new) ≡ true
-              = subst (λ (k : Key). below (key r) k ≡ true) (find-key key (key new) rest (getD rest (w .0) new) x)
-                (find-all key (λ t. below (key r) (key t)) (key new) rest (getD rest (w .0) new) (rising-head key r rest h) x) in
+          = subst (λ (k : Key). below (key r) k ≡ true) (find-key key (key new) rest (getD rest (w .0) new) x)
+          (find-all key (λ t. below (key r) (key t)) (key new) rest (getD rest (w .0) new) (rising-head key r rest h) x) in
           upsert-upper key new r rest (below-asym (key r) (key new) a) (same-sym (key new) (key r) ∙ s)
           ∙ ap (λ (rows : List A). r ∷ rows) (ih (w .0) (w .2))
           ∙ ap (λ (n : ℕ). take n (r ∷ rest) ++ (new ∷ drop (suc n) (r ∷ rest))) (sym (w .1))

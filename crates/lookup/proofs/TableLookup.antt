@@ -24,7 +24,7 @@ use Rattle.lookup.proofs.RisingKeys.{rising-map}
 
 -- The keys read from the cells are the keys of the rows read from them.
 pub decode-keys : {A : Type 0} (get : List ℤ → ℕ → A) (key : A → Key) → ((cells : List ℤ) (at : ℕ) → key (get cells at) ≡ keyAt cells at)
-  → (width n at : ℕ) (cells : List ℤ) → decode keyAt width n at cells ≡ map key (decode get width n at cells)
+    → (width n at : ℕ) (cells : List ℤ) → decode keyAt width n at cells ≡ map key (decode get width n at cells)
 decode-keys get key first width zero at cells = refl
 decode-keys get key first width (suc n) at cells = ap₂ _∷_ (sym (first cells at)) (decode-keys get key first width n (at + width) cells)
 
@@ -34,7 +34,6 @@ pub record KeyFirst {A : Type 0} (l : Layout A) (key : A → Key) : Type 0 where
   pub key-first : (cells : List ℤ) (at : ℕ) → key (l .get cells at) ≡ keyAt cells at
 
 module _ {A : Type 0} (l : Layout A) (key : A → Key) (lawful : KeyFirst l key) (cells : List ℤ) where
-
   rows-decode : rowsOf l cells ≡ decode (l .get) (l .width) (natAbs (countOf cells)) 1 cells
   unfolding rowsOf
   rows-decode = ap (λ (at : ℕ). decode (l .get) (l .width) (natAbs (countOf cells)) at cells) (lawful .header-one)
@@ -63,14 +62,15 @@ module _ {A : Type 0} (l : Layout A) (key : A → Key) (lawful : KeyFirst l key)
   as-found k f h = ap (foundFrom 0 k) (sym table-keys) ∙ h
 
   pub table-found : (k : Key) (i : ℕ) → rowFound (l .width) k (natAbs (countOf cells)) cells ≡ Row i
-    → (i < length (rowsOf l cells)) × (find key k (rowsOf l cells) ≡ some (l .get cells (1 + i * l .width))) × (key (l .get cells (1 + i * l .width)) ≡ k)
+      → (i < length (rowsOf l cells)) × (find key k (rowsOf l cells) ≡ some (l .get cells (1 + i * l .width))) × (key (l .get cells (1 + i * l .width)) ≡ k)
   table-found k i h =
       let f : foundFrom 0 k (map key (rowsOf l cells)) ≡ Row i = as-found k (Row i) h in
       let b : i < length (rowsOf l cells) = found-find key k (rowsOf l cells) i f .0 in
-      let e : getD (rowsOf l cells) i (l .get cells (1 + i * l .width)) ≡ l .get cells (1 + i * l .width) = table-row i (l .get cells (1 + i * l .width)) b in
-      (b,
+      let e : getD (rowsOf l cells) i (l .get cells (1 + i * l .width)) ≡ l .get cells (1 + i * l .width) = table-row i (l .get cells (1 + i * l .width)) b in (
+        b,
         found-find key k (rowsOf l cells) i f .1 (l .get cells (1 + i * l .width)) ∙ ap some e,
-        sym (ap key e) ∙ found-key key k (rowsOf l cells) i (l .get cells (1 + i * l .width)) f)
+        sym (ap key e) ∙ found-key key k (rowsOf l cells) i (l .get cells (1 + i * l .width)) f,
+      )
 
   pub table-absent : (k : Key) → rowFound (l .width) k (natAbs (countOf cells)) cells ≡ Absent → find key k (rowsOf l cells) ≡ none
   table-absent k h = absent-find key k (rowsOf l cells) (as-found k Absent h)
@@ -79,10 +79,10 @@ module _ {A : Type 0} (l : Layout A) (key : A → Key) (lawful : KeyFirst l key)
   absent-table k h = ap (foundFrom 0 k) table-keys ∙ find-absent key k (rowsOf l cells) h
 
   pub found-table : (k : Key) (x : A) → find key k (rowsOf l cells) ≡ some x
-    → (i : ℕ) × (rowFound (l .width) k (natAbs (countOf cells)) cells ≡ Row i) × (i < length (rowsOf l cells)) × (l .get cells (1 + i * l .width) ≡ x)
+      → (i : ℕ) × (rowFound (l .width) k (natAbs (countOf cells)) cells ≡ Row i) × (i < length (rowsOf l cells)) × (l .get cells (1 + i * l .width) ≡ x)
   found-table k x h =
       let w : (i : ℕ) × (foundFrom 0 k (map key (rowsOf l cells)) ≡ Row i) × (i < length (rowsOf l cells)) × ((other : A) → getD (rowsOf l cells) i other ≡ x)
-          = find-found key k (rowsOf l cells) x h in
+      = find-found key k (rowsOf l cells) x h in
       (w .0, ap (foundFrom 0 k) table-keys ∙ w .1, w .2, sym (table-row (w .0) x (w .2)) ∙ w .3 x)
 
   -- A new row at its place, and a row in place of the one with its key.
@@ -90,13 +90,13 @@ module _ {A : Type 0} (l : Layout A) (key : A → Key) (lawful : KeyFirst l key)
   table-place k = rw table-keys (place-within key k (rowsOf l cells))
 
   pub table-inserted : (new : A) → find key (key new) (rowsOf l cells) ≡ none
-    → upsert key new (rowsOf l cells)
+      → upsert key new (rowsOf l cells)
       ≡ take (rowPlace (l .width) (key new) (natAbs (countOf cells)) cells) (rowsOf l cells)
-        ++ (new ∷ drop (rowPlace (l .width) (key new) (natAbs (countOf cells)) cells) (rowsOf l cells))
+      ++ (new ∷ drop (rowPlace (l .width) (key new) (natAbs (countOf cells)) cells) (rowsOf l cells))
   table-inserted new h = rw table-keys (upsert-placed key new (rowsOf l cells) h)
 
   pub table-replaced : (new : A) (i : ℕ) → rising key (rowsOf l cells) ≡ true → rowFound (l .width) (key new) (natAbs (countOf cells)) cells ≡ Row i
-    → upsert key new (rowsOf l cells) ≡ take i (rowsOf l cells) ++ (new ∷ drop (suc i) (rowsOf l cells))
+      → upsert key new (rowsOf l cells) ≡ take i (rowsOf l cells) ++ (new ∷ drop (suc i) (rowsOf l cells))
   table-replaced new i r h = upsert-replaced key new (rowsOf l cells) i r (as-found (key new) (Row i) h)
 
   -- The greatest second figure.
@@ -112,9 +112,8 @@ pub positions-first : KeyFirst positionsLayout positionKey
 positions-first = record { header-one = refl; key-first = λ cells at. refl }
 
 module _ (cells : List ℤ) (id : ℤ) where
-
   pub record-found : (suffix : ℤ) (row : ℕ) → recordFound cells id suffix ≡ Row row
-    → (row < length (rowsOf recordsLayout cells))
+      → (row < length (rowsOf recordsLayout cells))
       × (find recordKey (keyOf id suffix) (rowsOf recordsLayout cells) ≡ some (recordAt cells (1 + row * 13)))
       × (recordKey (recordAt cells (1 + row * 13)) ≡ keyOf id suffix)
   record-found suffix row h = table-found recordsLayout recordKey records-first cells (keyOf id suffix) row h
@@ -123,7 +122,7 @@ module _ (cells : List ℤ) (id : ℤ) where
   record-absent suffix h = table-absent recordsLayout recordKey records-first cells (keyOf id suffix) h
 
   pub found-record : (suffix : ℤ) (r : Record) → find recordKey (keyOf id suffix) (rowsOf recordsLayout cells) ≡ some r
-    → (row : ℕ) × (recordFound cells id suffix ≡ Row row) × (row < length (rowsOf recordsLayout cells)) × (recordAt cells (1 + row * 13) ≡ r)
+      → (row : ℕ) × (recordFound cells id suffix ≡ Row row) × (row < length (rowsOf recordsLayout cells)) × (recordAt cells (1 + row * 13) ≡ r)
   found-record suffix r h = found-table recordsLayout recordKey records-first cells (keyOf id suffix) r h
 
   pub absent-record : (suffix : ℤ) → find recordKey (keyOf id suffix) (rowsOf recordsLayout cells) ≡ none → recordFound cells id suffix ≡ Absent
@@ -145,9 +144,8 @@ module _ (cells : List ℤ) (id : ℤ) where
   nothing-suffix h = suffix-is ∙ none-nothing (greatest recordKey id (rowsOf recordsLayout cells)) h
 
 module _ (cells : List ℤ) (account series : ℤ) where
-
   pub position-found : (row : ℕ) → positionFound cells account series ≡ Row row
-    → (row < length (rowsOf positionsLayout cells))
+      → (row < length (rowsOf positionsLayout cells))
       × (find positionKey (keyOf account series) (rowsOf positionsLayout cells) ≡ some (positionAt cells (1 + row * 5)))
       × (positionKey (positionAt cells (1 + row * 5)) ≡ keyOf account series)
   position-found row h = table-found positionsLayout positionKey positions-first cells (keyOf account series) row h
@@ -156,7 +154,7 @@ module _ (cells : List ℤ) (account series : ℤ) where
   position-absent h = table-absent positionsLayout positionKey positions-first cells (keyOf account series) h
 
   pub found-position : (p : Position) → find positionKey (keyOf account series) (rowsOf positionsLayout cells) ≡ some p
-    → (row : ℕ) × (positionFound cells account series ≡ Row row) × (row < length (rowsOf positionsLayout cells)) × (positionAt cells (1 + row * 5) ≡ p)
+      → (row : ℕ) × (positionFound cells account series ≡ Row row) × (row < length (rowsOf positionsLayout cells)) × (positionAt cells (1 + row * 5) ≡ p)
   found-position p h = found-table positionsLayout positionKey positions-first cells (keyOf account series) p h
 
   pub absent-position : find positionKey (keyOf account series) (rowsOf positionsLayout cells) ≡ none → positionFound cells account series ≡ Absent
@@ -164,11 +162,11 @@ module _ (cells : List ℤ) (account series : ℤ) where
 
   -- "an absent row reads as zeros"
   pub position-read : (row : ℕ) → positionFound cells account series ≡ Row row
-    → orZeros account series (find positionKey (keyOf account series) (rowsOf positionsLayout cells)) ≡ positionAt cells (1 + row * 5)
+      → orZeros account series (find positionKey (keyOf account series) (rowsOf positionsLayout cells)) ≡ positionAt cells (1 + row * 5)
   unfolding orZeros
   position-read row h = ap (orZeros account series) (position-found row h .1)
 
   pub position-zeros : positionFound cells account series ≡ Absent
-    → orZeros account series (find positionKey (keyOf account series) (rowsOf positionsLayout cells)) ≡ zeroPosition account series
+      → orZeros account series (find positionKey (keyOf account series) (rowsOf positionsLayout cells)) ≡ zeroPosition account series
   unfolding orZeros
   position-zeros h = ap (orZeros account series) (position-absent h)

@@ -92,7 +92,11 @@ pub fn find_row(cells: &[i64], count: usize, width: usize, major: i64, minor: i6
     }
     let row = place - 1;
     let at = 1 + row * width;
-    if key_same(cells[at], cells[at + 1], major, minor) { Found::Row(row) } else { Found::Absent }
+    if key_same(cells[at], cells[at + 1], major, minor) {
+        Found::Row(row)
+    } else {
+        Found::Absent
+    }
 }
 
 // The greatest second figure of the keys with that first figure.
@@ -109,5 +113,9 @@ pub fn greatest_of(cells: &[i64], count: usize, width: usize, major: i64) -> Gre
         return Greatest::Nothing;
     }
     let at = 1 + (place - 1) * width;
-    if cells[at] == major { Greatest::Suffix(cells[at + 1]) } else { Greatest::Nothing }
+    if cells[at] == major {
+        Greatest::Suffix(cells[at + 1])
+    } else {
+        Greatest::Nothing
+    }
 }

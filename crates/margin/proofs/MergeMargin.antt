@@ -37,8 +37,10 @@ same-margin s id rs h = go (split (isBuy (firstOf rs .side)))
   where
     q : ℤ
     q = sumOfQuantities rs
+
     v : ℤ
     v = sumOfValues rs
+
     go : (isBuy (firstOf rs .side) ≡ true) ⊎ (isBuy (firstOf rs .side) ≡ false) → marginOfAll s rs ≡ marginOf s (mergedRecord id rs) +ℤ mergeResidual rs
     go (inl e) =
         margin-of-buys s (firstOf rs) rs e h ∙ sym (margin-kept-buy s v q)
@@ -67,10 +69,11 @@ merge-keeps-margin b id account series pairs accepted =
     let rs : List Record = recordsOf sources in
     let old : Position = readAt account series (b .positions) in
     record {
-    merged = mergedRecord id rs;
-    rows = pos (length sources) +ℤ pos 1;
-    residual = mergeResidual rs;
-    stands = found-last (map adjustedRecord rs) (mergeInverses id [] sources) (b .records) (mergedRecord id rs);
-    answered = refl;
-    grown = ap (λ (p : Position). p .cash) (read-put account series (moved old (pos 0) (pos 0) (mergeResidual rs)) (b .positions) (read-key account series (b .positions)));
-    kept = λ s. same-margin s id rs (merge-passed b id account series pairs accepted .sources-on-one-side) }
+      merged = mergedRecord id rs;
+      rows = pos (length sources) +ℤ pos 1;
+      residual = mergeResidual rs;
+      stands = found-last (map adjustedRecord rs) (mergeInverses id [] sources) (b .records) (mergedRecord id rs);
+      answered = refl;
+      grown = ap (λ (p : Position). p .cash) (read-put account series (moved old (pos 0) (pos 0) (mergeResidual rs)) (b .positions) (read-key account series (b .positions)));
+      kept = λ s. same-margin s id rs (merge-passed b id account series pairs accepted .sources-on-one-side);
+    }

@@ -16,7 +16,6 @@ use Rattle.merge_sources.proofs.Places.{place-within}
 use Rattle.merge_sources.proofs.SourceList.{source-count, record-count}
 
 module _ (cells pairs : List ℤ) (few : length pairs ≤ 2000) (i : ℕ) where
-
   small : (fails : List Bool) → length fails ≡ length pairs / 2 → placeOf fails ≡ At i → i < 1000
   small fails count e = let h : i < length fails = place-within fails i e in omega arith
 

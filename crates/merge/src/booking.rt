@@ -97,7 +97,15 @@ fn merged_row(first: Record, id: i64, quantity: i64, price: i64) -> Record
     }
 }
 
-pub fn book(records: &mut [i64], positions: &mut [i64], id: i64, account: i64, series: i64, pairs: &[i64], rows: &[u16]) -> Reply
+pub fn book(
+    records: &mut [i64],
+    positions: &mut [i64],
+    id: i64,
+    account: i64,
+    series: i64,
+    pairs: &[i64],
+    rows: &[u16],
+) -> Reply
     requires { ⌜ (soundRecords (now records) ≡ true) × (soundPositions (now positions) ≡ true) × (verdictOn (now records) (now positions) (Request.merge id account series (now pairs)) ≡ Accepted) × rowsKnown (now records) (now pairs) (now rows) ⌝ }
     ensures { λ r. ⌜ answered r (now (records .exit)) (now (positions .exit)) ≡ acceptedOn (now (records .entry)) (now (positions .entry)) (Request.merge id account series (now (pairs .entry))) ⌝ }
 {
@@ -114,5 +122,8 @@ pub fn book(records: &mut [i64], positions: &mut [i64], id: i64, account: i64, s
     records::insert_record(records, merged);
     positions::put_position(positions, left);
     let added = (pairs.len() / 2) as i64 + 1;
-    Reply::Booked { rows: added, residual }
+    Reply::Booked {
+        rows: added,
+        residual,
+    }
 }

@@ -1,12 +1,12 @@
 // The verdict on a merge, and the public call.
-use merge_sources::Place;
 use super::booking;
-use merge_sources::pairs;
 use super::sources;
-use verdict::Verdict;
+use merge_sources::Place;
+use merge_sources::pairs;
 use rules::Reply;
 use tables::positions;
 use tables::records;
+use verdict::Verdict;
 ghost use mathlib.Core.Path.{_≡_};
 ghost use mathlib.Core.Bool.{true, false};
 ghost use mathlib.Core.List.{[], map};
@@ -38,7 +38,15 @@ fn refused_at(number: i64, place: usize) -> Verdict
 }
 
 // Tests 3 to 5, which find the row of each source; then those of the sources.
-fn verdict(records: &[i64], positions: &[i64], id: i64, account: i64, series: i64, pairs: &[i64], rows: &mut [u16]) -> Verdict
+fn verdict(
+    records: &[i64],
+    positions: &[i64],
+    id: i64,
+    account: i64,
+    series: i64,
+    pairs: &[i64],
+    rows: &mut [u16],
+) -> Verdict
     requires { ⌜ (soundRecords (now records) ≡ true) × (soundPositions (now positions) ≡ true) × (1000 ≤ length (now rows)) ⌝ }
     ensures { λ r. ⌜ (r ≡ verdictOn (now (records .entry)) (now (positions .entry)) (Request.merge id account series (now (pairs .entry)))) × (r ≡ Accepted → rowsKnown (now (records .entry)) (now (pairs .entry)) (now (rows .exit))) ⌝ }
 {
@@ -55,7 +63,15 @@ fn verdict(records: &[i64], positions: &[i64], id: i64, account: i64, series: i6
 }
 
 // Tests 6 to 10, of sources that have records; then those of their sums.
-fn verdict_on_sources(records: &[i64], positions: &[i64], id: i64, account: i64, series: i64, pairs: &[i64], rows: &[u16]) -> Verdict
+fn verdict_on_sources(
+    records: &[i64],
+    positions: &[i64],
+    id: i64,
+    account: i64,
+    series: i64,
+    pairs: &[i64],
+    rows: &[u16],
+) -> Verdict
     requires { ⌜ (soundRecords (now records) ≡ true) × (soundPositions (now positions) ≡ true) × rowsKnown (now records) (now pairs) (now rows) ⌝ }
     requires { ⌜ (mergeFigures id account series (now pairs) ≡ true) × (greatest recordKey id (rowsOf recordsLayout (now records)) ≡ none) × (allFound (now records) (now pairs) ≡ true) ⌝ }
     ensures { λ r. ⌜ r ≡ verdictOn (now (records .entry)) (now (positions .entry)) (Request.merge id account series (now (pairs .entry))) ⌝ }
@@ -73,14 +89,40 @@ fn verdict_on_sources(records: &[i64], positions: &[i64], id: i64, account: i64,
         return refused_at(9, i);
     }
     let first = sources::source_record(records, pairs, rows, 0);
-    if let Place::At(i) = sources::first_failing(records, pairs, rows, 10, account, series, figures::is_buy(first.side)) {
+    if let Place::At(i) = sources::first_failing(
+        records,
+        pairs,
+        rows,
+        10,
+        account,
+        series,
+        figures::is_buy(first.side),
+    ) {
         return refused_at(10, i);
     }
-    verdict_on_sums(records, positions, id, account, series, pairs, rows, figures::is_buy(first.side))
+    verdict_on_sums(
+        records,
+        positions,
+        id,
+        account,
+        series,
+        pairs,
+        rows,
+        figures::is_buy(first.side),
+    )
 }
 
 // Tests 11 and 13 to 16, of sources that pass 5 to 10.
-fn verdict_on_sums(records: &[i64], positions: &[i64], id: i64, account: i64, series: i64, pairs: &[i64], rows: &[u16], buy: bool) -> Verdict
+fn verdict_on_sums(
+    records: &[i64],
+    positions: &[i64],
+    id: i64,
+    account: i64,
+    series: i64,
+    pairs: &[i64],
+    rows: &[u16],
+    buy: bool,
+) -> Verdict
     requires { ⌜ (soundRecords (now records) ≡ true) × (soundPositions (now positions) ≡ true) × rowsKnown (now records) (now pairs) (now rows) ⌝ }
     requires { ⌜ (mergeFigures id account series (now pairs) ≡ true) × (greatest recordKey id (rowsOf recordsLayout (now records)) ≡ none) × (allFound (now records) (now pairs) ≡ true) ⌝ }
     requires { ⌜ (anyOf (map (isElsewhere account series) (sourceRecords (now records) (now pairs))) ≡ false) × (anyOf (map isNotAdjustable (sourceRecords (now records) (now pairs))) ≡ false) × (anyOf (map closes (sourceRecords (now records) (now pairs))) ≡ false) ⌝ }
@@ -110,7 +152,14 @@ fn verdict_on_sums(records: &[i64], positions: &[i64], id: i64, account: i64, se
     Verdict::Accepted
 }
 
-pub fn merge(records: &mut [i64], positions: &mut [i64], id: i64, account: i64, series: i64, pairs: &[i64]) -> Reply
+pub fn merge(
+    records: &mut [i64],
+    positions: &mut [i64],
+    id: i64,
+    account: i64,
+    series: i64,
+    pairs: &[i64],
+) -> Reply
     ensures { λ r. ⌜ answered r (now (records .exit)) (now (positions .exit)) ≡ handle (tablesOf (now (records .entry)) (now (positions .entry))) (Request.merge id account series (now (pairs .entry))) ⌝ }
 {
     if !scan::soundness::records_sound(records) {

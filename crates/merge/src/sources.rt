@@ -1,7 +1,7 @@
 // The sources of a merge in the records table, which is sound.
+use lookup::Found;
 use merge_sources::Place;
 use merge_sources::pairs;
-use lookup::Found;
 use rules::Record;
 use tables::records;
 ghost use mathlib.Core.Path.{_≡_};
@@ -71,14 +71,28 @@ fn source_fails(number: i64, account: i64, series: i64, buy: bool, r: Record) ->
 }
 
 // The first source that fails one of these tests.
-pub fn first_failing(records: &[i64], pairs: &[i64], rows: &[u16], number: i64, account: i64, series: i64, buy: bool) -> Place
+pub fn first_failing(
+    records: &[i64],
+    pairs: &[i64],
+    rows: &[u16],
+    number: i64,
+    account: i64,
+    series: i64,
+    buy: bool,
+) -> Place
     requires { ⌜ (soundRecords (now records) ≡ true) × rowsKnown (now records) (now pairs) (now rows) ⌝ }
     ensures { λ r. ⌜ r ≡ placeOf (map (failsTest number account series buy) (sourceRecords (now (records .entry)) (now (pairs .entry)))) ⌝ }
 {
     let count = pairs.len() / 2;
     let mut i = 0;
     while i < count {
-        if source_fails(number, account, series, buy, source_record(records, pairs, rows, i)) {
+        if source_fails(
+            number,
+            account,
+            series,
+            buy,
+            source_record(records, pairs, rows, i),
+        ) {
             return Place::At(i);
         }
         i += 1;

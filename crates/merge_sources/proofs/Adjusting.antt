@@ -45,7 +45,6 @@ unfolding adjustedRecord
 adjusted-twice r = refl
 
 module _ (cells pairs : List ℤ) where
-
   abbrev rows : List Record
   rows = rowsOf recordsLayout cells
 
@@ -74,7 +73,6 @@ module _ (cells pairs : List ℤ) where
       eqZ-true (r .status) adjustable (not-false (eqZ (r .status) adjustable) e)
 
   module _ (all : allFound cells pairs ≡ true) where
-
     pub source-key : (i : ℕ) → i < length pairs / 2 → recordKey (recordOf rows (pairAt pairs i)) ≡ pairAt pairs i
     source-key i h = find-key recordKey (pairAt pairs i) rows (recordOf rows (pairAt pairs i)) (source-found cells pairs i h all)
 

@@ -35,13 +35,13 @@ pub record AdjustedSoFar (cells pairs now : List ℤ) (i : ℕ) : Type 0 where
   pub sound : soundRecords now ≡ true
 
 module _ (cells pairs : List ℤ) where
-
   pub adjusted-start : soundRecords cells ≡ true → AdjustedSoFar cells pairs cells 0
   adjusted-start sound = record {
-      within = omega arith;
-      same-size = refl;
-      put = cells-at-first recordKey recordsLayout records-lawful cells (adjustedSources cells pairs) (records-known cells sound .count-sound);
-      sound = sound }
+    within = omega arith;
+    same-size = refl;
+    put = cells-at-first recordKey recordsLayout records-lawful cells (adjustedSources cells pairs) (records-known cells sound .count-sound);
+    sound = sound;
+  }
 
   pub adjusted-end : (now : List ℤ) (i : ℕ) → length pairs / 2 ≤ i → AdjustedSoFar cells pairs now i →
       (now ≡ write recordsLayout cells (upsertAll recordKey (map adjustedRecord (sourceRecords cells pairs)) (rowsOf recordsLayout cells))) × (soundRecords now ≡ true)
@@ -52,7 +52,6 @@ module _ (cells pairs : List ℤ) where
 
   module _ (all : allFound cells pairs ≡ true) (free : anyOf (map isNotAdjustable (sourceRecords cells pairs)) ≡ false) (differ : anyOf (repeatsFrom [] (pairsOf pairs)) ≡ false)
       (now : List ℤ) (i : ℕ) (a : AdjustedSoFar cells pairs now i) (h : i < length pairs / 2) where
-
     found-now : find recordKey (pairAt pairs i) (rowsOf recordsLayout now) ≡ some (recordOf (rowsOf recordsLayout cells) (pairAt pairs i))
     found-now =
         ap (λ (xs : List ℤ). find recordKey (pairAt pairs i) (rowsOf recordsLayout xs)) (a .put)
@@ -71,10 +70,11 @@ module _ (cells pairs : List ℤ) where
     pub adjust-next : (next : List ℤ) → next ≡ write recordsLayout now (upsert recordKey (adjustedRecord (recordNamed now (pairAt pairs i))) (rowsOf recordsLayout now)) →
         soundRecords next ≡ true → length next ≡ length now → AdjustedSoFar cells pairs next (i + 1)
     adjust-next next e sound size = record {
-        within = omega arith;
-        same-size = size ∙ a .same-size;
-        put =
-            e ∙ ap (λ (r : Record). write recordsLayout now (upsert recordKey r (rowsOf recordsLayout now)))
-            (ap adjustedRecord same-record ∙ sym (adjusted-at cells pairs i noRecord h))
-            ∙ cells-next recordKey recordsLayout records-lawful cells (adjustedSources cells pairs) i noRecord now (omega (arith, adjusted-count cells pairs)) (a .put);
-        sound = sound }
+      within = omega arith;
+      same-size = size ∙ a .same-size;
+      put =
+          e ∙ ap (λ (r : Record). write recordsLayout now (upsert recordKey r (rowsOf recordsLayout now)))
+          (ap adjustedRecord same-record ∙ sym (adjusted-at cells pairs i noRecord h))
+          ∙ cells-next recordKey recordsLayout records-lawful cells (adjustedSources cells pairs) i noRecord now (omega (arith, adjusted-count cells pairs)) (a .put);
+      sound = sound;
+    }

@@ -27,7 +27,6 @@ use Rattle.merge_sources.proofs.Settled.{settled, stands-alike, next-al
 -- Cells whose rows agree with these but for the status.
 module _ (cells after pairs : List ℤ)
     (alike : (k : Key) → settled (find recordKey k (rowsOf recordsLayout after)) ≡ settled (find recordKey k (rowsOf recordsLayout cells))) where
-
   abbrev t : List Record
   t = rowsOf recordsLayout cells
 

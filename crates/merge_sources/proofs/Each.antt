@@ -9,7 +9,6 @@ Each P [] = Unit {0}
 Each P (x ∷ rest) = P x × Each P rest
 
 module _ {A : Type 0} (P : A → Type 0) where
-
   pub each-take : (xs : List A) (i : ℕ) → Each P xs → Each P (take i xs)
   each-take [] zero e = tt
   each-take [] (suc i) e = tt

@@ -19,7 +19,6 @@ use Rattle.keys.proofs.Folds.{Only, only-intro, only-append, upsertAll-append}
 use Rattle.keys.proofs.Rising.{upsert-longer}
 
 module _ {Row : Type 0} (key : Row → Key) where
-
   -- ---- the rows
 
   pub put-none : (new t : List Row) → upsertAll key (take 0 new) t ≡ t
@@ -46,7 +45,6 @@ module _ {Row : Type 0} (key : Row → Key) where
   -- ---- the cells
 
   module _ (l : Layout Row) (lawful : Lawful l) (cells : List ℤ) where
-
     pub cells-at-first : (new : List Row) → countIsSound l cells ≡ true → cells ≡ write l cells (upsertAll key (take 0 new) (rowsOf l cells))
     cells-at-first new sound = sym (ap (λ (rows : List Row). write l cells rows) (put-none new (rowsOf l cells)) ∙ write-own l lawful cells sound)
 

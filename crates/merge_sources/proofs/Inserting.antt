@@ -42,8 +42,10 @@ next-with t r id m i e = go (split (eqZ id m))
   where
     n : ℤ
     n = nextOf t m
+
     raised : id ≡ m → nextOf (upsert recordKey r t) m ≡ n +ℤ pos 1
     raised p = subst (λ (x : ℤ). nextOf (upsert recordKey r t) x ≡ nextOf t x +ℤ pos 1) (i ∙ p) (next-raised t r (e ∙ ap (λ (x : ℤ). nextOf t x) (sym i)))
+
     go : (eqZ id m ≡ true) ⊎ (eqZ id m ≡ false) → nextOf (upsert recordKey r t) m ≡ n +ℤ cond (eqZ id m) (pos 1) (pos 0)
     go (inl h) = raised (eqZ-true id m h) ∙ ap (λ (z : ℤ). n +ℤ z) (sym (cond-true (pos 1) (pos 0) h))
     go (inr h) =
@@ -55,7 +57,6 @@ abbrev pub rowsInverted : ℤ → List ℤ → List ℤ → ℕ → List Record
 rowsInverted into cells pairs i = upsertAll recordKey (take i (mergeInverses into [] (sourcesIn cells pairs))) (rowsOf recordsLayout cells)
 
 module _ (into : ℤ) (cells pairs : List ℤ) (all : allFound cells pairs ≡ true) where
-
   abbrev rows : List Record
   rows = rowsOf recordsLayout cells
 
@@ -117,7 +118,6 @@ module _ (into : ℤ) (cells pairs : List ℤ) (all : allFound cells pairs ≡ t
       ∙ ap (λ (z : ℤ). n +ℤ z) (sym (times-more pairs i m))
 
   module _ (i : ℕ) (h : i < length pairs / 2) where
-
     pub next-by-now : nextOf (soFar i) (pairAt pairs i .major) ≡ nextOf rows (pairAt pairs i .major) +ℤ timesEarlier pairs i
     next-by-now = next-so-far i (pairAt pairs i .major) (omega arith) ∙ ap (λ (z : ℤ). nextOf rows (pairAt pairs i .major) +ℤ z) (sym (times-earlier pairs i))
 

@@ -40,16 +40,16 @@ pub record InvertedSoFar (into : ℤ) (cells pairs now : List ℤ) (i : ℕ) : T
   pub sound : soundRecords now ≡ true
 
 module _ (into : ℤ) (cells pairs : List ℤ) (all : allFound cells pairs ≡ true) where
-
   abbrev inverses : List Record
   inverses = mergeInverses into [] (sourcesIn cells pairs)
 
   pub inverted-start : soundRecords cells ≡ true → InvertedSoFar into cells pairs cells 0
   inverted-start sound = record {
-      within = omega arith;
-      same-size = refl;
-      put = cells-at-first recordKey recordsLayout records-lawful cells inverses (records-known cells sound .count-sound);
-      sound = sound }
+    within = omega arith;
+    same-size = refl;
+    put = cells-at-first recordKey recordsLayout records-lawful cells inverses (records-known cells sound .count-sound);
+    sound = sound;
+  }
 
   pub inverted-end : (now : List ℤ) (i : ℕ) → length pairs / 2 ≤ i → InvertedSoFar into cells pairs now i →
       (now ≡ write recordsLayout cells (upsertAll recordKey (mergeInverses into [] (sourcesIn cells pairs)) (rowsOf recordsLayout cells))) × (soundRecords now ≡ true)
@@ -61,7 +61,6 @@ module _ (into : ℤ) (cells pairs : List ℤ) (all : allFound cells pairs ≡ t
   module _ (right : allOf (map soundRecord (mergeInverses into [] (sourcesIn cells pairs))) ≡ true)
       (room : length (rowsOf recordsLayout cells) + length (pairsOf pairs) ≤ roomOf recordsLayout cells)
       (now : List ℤ) (i : ℕ) (a : InvertedSoFar into cells pairs now i) (h : i < length pairs / 2) where
-
     rows-now : rowsOf recordsLayout now ≡ rowsInverted into cells pairs i
     rows-now = ap (λ (xs : List ℤ). rowsOf recordsLayout xs) (a .put) ∙ rows-write recordsLayout records-lawful cells (rowsInverted into cells pairs i)
 
@@ -94,9 +93,10 @@ module _ (into : ℤ) (cells pairs : List ℤ) (all : allFound cells pairs ≡ t
     pub insert-next : (next : List ℤ) → next ≡ write recordsLayout now (upsert recordKey (inverseNamed now (pairAt pairs i) into) (rowsOf recordsLayout now)) →
         soundRecords next ≡ true → length next ≡ length now → InvertedSoFar into cells pairs next (i + 1)
     insert-next next e sound size = record {
-        within = omega arith;
-        same-size = size ∙ a .same-size;
-        put =
-            e ∙ ap (λ (r : Record). write recordsLayout now (upsert recordKey r (rowsOf recordsLayout now))) same-inverse
-            ∙ cells-next recordKey recordsLayout records-lawful cells inverses i noRecord now (omega (arith, inverses-count into cells pairs all)) (a .put);
-        sound = sound }
+      within = omega arith;
+      same-size = size ∙ a .same-size;
+      put =
+          e ∙ ap (λ (r : Record). write recordsLayout now (upsert recordKey r (rowsOf recordsLayout now))) same-inverse
+          ∙ cells-next recordKey recordsLayout records-lawful cells inverses i noRecord now (omega (arith, inverses-count into cells pairs all)) (a .put);
+      sound = sound;
+    }

@@ -49,7 +49,6 @@ inverseAt into rows pairs i =
     inverseRecord (recordOf rows (pairAt pairs i)) (nextOf rows (pairAt pairs i .major) +ℤ timesEarlier pairs i) mergeKind (pos 0) (pos 0) into
 
 module _ (into : ℤ) (cells pairs : List ℤ) where
-
   pub inverse-at : (i : ℕ) (other : Record) → i < length pairs / 2 →
       getD (mergeInverses into [] (sourcesIn cells pairs)) i other ≡ inverseAt into (rowsOf recordsLayout cells) pairs i
   unfolding earlierIds timesEarlier inverseOf

@@ -69,7 +69,6 @@ last-all (x ∷ rest) ys h = last-all rest ys (allOf-tail (soundRecord x) (map s
 -- ---- the tables after each step
 
 module _ (rs : List ℤ) (id : ℤ) (pairs : List ℤ) where
-
   abbrev rows : List Record
   rows = rowsOf recordsLayout rs
 
@@ -100,7 +99,6 @@ module _ (rs : List ℤ) (id : ℤ) (pairs : List ℤ) where
 
 module _ (rs ps : List ℤ) (id account series : ℤ) (pairs : List ℤ) (sound : soundRecords rs ≡ true)
     (facts : MergeFacts rs ps id account series pairs (sourcesIn rs pairs)) where
-
   pub all-found : allFound rs pairs ≡ true
   all-found = ap not (facts .passed .sources-found)
 
@@ -137,9 +135,15 @@ module _ (rs ps : List ℤ) (id account series : ℤ) (pairs : List ℤ) (sound 
   pub inverses-room : length (rowsOf recordsLayout (sourcesAdjusted rs id pairs)) + length (pairsOf pairs) ≤ roomOf recordsLayout (sourcesAdjusted rs id pairs)
   inverses-room =
       let room : length (rowsOf recordsLayout rs) + length (rowsAdded id (sourcesIn rs pairs)) ≤ roomOf recordsLayout rs = facts .records-room in
-      omega
-      (arith, once-length, once-room, ap (λ (t : List Record). length t) (rows-once rs id pairs), pair-count pairs, many,
-      length-append (mergeInverses id [] (sourcesIn rs pairs)) (merged rs id pairs ∷ []))
+      omega (
+        arith,
+        once-length,
+        once-room,
+        ap (λ (t : List Record). length t) (rows-once rs id pairs),
+        pair-count pairs,
+        many,
+        length-append (mergeInverses id [] (sourcesIn rs pairs)) (merged rs id pairs ∷ []),
+      )
 
   -- ---- the inverses inserted
 
@@ -224,7 +228,7 @@ module _ (rs ps : List ℤ) (id account series : ℤ) (pairs : List ℤ) (sound 
   ruled-accepted = refl
 
   pub merge-booked : acceptedOn rs ps (merge id account series pairs)
-    ≡ answered (Booked (pos (length pairs / 2) +ℤ pos 1) (mergeResidual (sourceRecords rs pairs))) (recordsMerged rs id pairs)
+      ≡ answered (Booked (pos (length pairs / 2) +ℤ pos 1) (mergeResidual (sourceRecords rs pairs))) (recordsMerged rs id pairs)
       (write positionsLayout ps (upsert positionKey (mergePosition ps account series (sourceRecords rs pairs)) (rowsOf positionsLayout ps)))
   merge-booked =
       let p : Position = mergePosition ps account series (sourceRecords rs pairs) in

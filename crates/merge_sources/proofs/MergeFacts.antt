@@ -72,7 +72,6 @@ pub record MergeFacts (rs ps : List ℤ) (id account series : ℤ) (pairs : List
   pub position-sound : soundPosition (mergePosition ps account series (recordsOf sources)) ≡ true
 
 module _ (rs ps : List ℤ) (id account series : ℤ) (pairs : List ℤ) where
-
   abbrev books : Books
   books = booksOf (tablesOf rs ps)
 
@@ -82,14 +81,15 @@ module _ (rs ps : List ℤ) (id account series : ℤ) (pairs : List ℤ) where
       let facts : PlanFacts books (planOn books (merge id account series pairs)) = merge-facts books sound id account series pairs accepts in
       let room = booking-passed books _ _ accepts in
       record {
-      passed = merge-passed books id account series pairs accepts;
-      changed-present = facts .changed-present;
-      added-absent = facts .added-absent;
-      added-distinct = facts .added-distinct;
-      added-sound = facts .added-sound;
-      records-room = room .records-room;
-      positions-room = room .positions-room;
-      position-sound = allOf-head (soundPosition (mergePosition ps account series (recordsOf (sourcesOf (viewOf books) (pairsOf pairs))))) [] (room .positions-sound) }
+        passed = merge-passed books id account series pairs accepts;
+        changed-present = facts .changed-present;
+        added-absent = facts .added-absent;
+        added-distinct = facts .added-distinct;
+        added-sound = facts .added-sound;
+        records-room = room .records-room;
+        positions-room = room .positions-room;
+        position-sound = allOf-head (soundPosition (mergePosition ps account series (recordsOf (sourcesOf (viewOf books) (pairsOf pairs))))) [] (room .positions-sound);
+      }
 
   pub merge-accepted-facts : soundRecords rs ≡ true → soundPositions ps ≡ true → verdictOn rs ps (merge id account series pairs) ≡ Accepted →
       MergeFacts rs ps id account series pairs (sourcesIn rs pairs)

@@ -40,7 +40,6 @@ use Rattle.merge_sources.proofs.Inverses.{inverse-count, suffixes-above
 
 -- A test of each source in turn, by the place of the first that fails.
 module _ (n : ℕ) (fails : List Bool) (rest : List Test) where
-
   refuses-at : (i : ℕ) → placeOf fails ≡ At i → verdictBy (testEach n fails ∷ rest) ≡ Refused (pos n) (pos i)
   unfolding firstRefusal verdictOf testEach
   refuses-at i e = rw (place-tells fails i e .0, place-tells fails i e .1)
@@ -58,7 +57,6 @@ and-true true = refl
 and-true false = refl
 
 module _ (rs ps : List ℤ) (id account series : ℤ) (pairs : List ℤ) where
-
   abbrev theVerdict : Verdict
   theVerdict = verdictOn rs ps (merge id account series pairs)
 
@@ -117,7 +115,6 @@ module _ (rs ps : List ℤ) (id account series : ℤ) (pairs : List ℤ) where
   merge-refused-3 e = merge-verdict ∙ refuses 3 _ _ (ap not e)
 
   module _ (figures : mergeFigures id account series pairs ≡ true) where
-
     past-3 : theVerdict ≡ verdictBy (drop 1 mergeTests)
     past-3 = merge-verdict ∙ passes 3 _ _ (ap not figures)
 
@@ -126,7 +123,6 @@ module _ (rs ps : List ℤ) (id account series : ℤ) (pairs : List ℤ) where
     merge-refused-4 g e = past-3 ∙ refuses 4 _ _ (ap isSome e)
 
     module _ (new-id : greatest recordKey id (rowsOf recordsLayout rs) ≡ none) where
-
       past-4 : theVerdict ≡ verdictBy (drop 2 mergeTests)
       unfolding isSome
       past-4 = past-3 ∙ passes 4 _ _ (ap isSome new-id)
@@ -135,7 +131,6 @@ module _ (rs ps : List ℤ) (id account series : ℤ) (pairs : List ℤ) where
       merge-refused-5 i e = past-4 ∙ refuses-at 5 _ _ i e
 
       module _ (found : anyOf (map isMissing (sourcesIn rs pairs)) ≡ false) where
-
         past-5 : theVerdict ≡ verdictBy (drop 3 mergeTests)
         past-5 = past-4 ∙ passes-each 5 _ _ found
 
@@ -143,7 +138,6 @@ module _ (rs ps : List ℤ) (id account series : ℤ) (pairs : List ℤ) where
         merge-refused-6 i e = past-5 ∙ refuses-at 6 _ _ i e
 
         module _ (here : anyOf (map (isElsewhere account series) theRecords) ≡ false) where
-
           past-6 : theVerdict ≡ verdictBy (drop 4 mergeTests)
           past-6 = past-5 ∙ passes-each 6 _ _ here
 
@@ -151,7 +145,6 @@ module _ (rs ps : List ℤ) (id account series : ℤ) (pairs : List ℤ) where
           merge-refused-7 i e = past-6 ∙ refuses-at 7 _ _ i e
 
           module _ (adjustable : anyOf (map isNotAdjustable theRecords) ≡ false) where
-
             past-7 : theVerdict ≡ verdictBy (drop 5 mergeTests)
             past-7 = past-6 ∙ passes-each 7 _ _ adjustable
 
@@ -159,7 +152,6 @@ module _ (rs ps : List ℤ) (id account series : ℤ) (pairs : List ℤ) where
             merge-refused-8 i e = past-7 ∙ refuses-at 8 _ _ i e
 
             module _ (to-open : anyOf (map closes theRecords) ≡ false) where
-
               past-8 : theVerdict ≡ verdictBy (drop 6 mergeTests)
               past-8 = past-7 ∙ passes-each 8 _ _ to-open
 
@@ -167,7 +159,6 @@ module _ (rs ps : List ℤ) (id account series : ℤ) (pairs : List ℤ) where
               merge-refused-9 i e = past-8 ∙ refuses-at 9 _ _ i e
 
               module _ (differ : anyOf (repeatsFrom [] (pairsOf pairs)) ≡ false) where
-
                 past-9 : theVerdict ≡ verdictBy (drop 7 mergeTests)
                 past-9 = past-8 ∙ passes-each 9 _ _ differ
 
@@ -175,7 +166,6 @@ module _ (rs ps : List ℤ) (id account series : ℤ) (pairs : List ℤ) where
                 merge-refused-10 i e = past-9 ∙ refuses-at 10 _ _ i e
 
                 module _ (one-side : anyOf (map (sideDiffers (firstOf theRecords)) theRecords) ≡ false) where
-
                   past-10 : theVerdict ≡ verdictBy (drop 8 mergeTests)
                   past-10 = past-9 ∙ passes-each 10 _ _ one-side
 
@@ -183,7 +173,6 @@ module _ (rs ps : List ℤ) (id account series : ℤ) (pairs : List ℤ) where
                   merge-refused-11 e = past-10 ∙ refuses 11 _ _ e
 
                   module _ (sum : ltZ (pos mostQuantity) (sumOfQuantities theRecords) ≡ false) where
-
                     past-11 : theVerdict ≡ verdictBy (drop 9 mergeTests)
                     past-11 = past-10 ∙ passes 11 _ _ sum
 
@@ -191,7 +180,6 @@ module _ (rs ps : List ℤ) (id account series : ℤ) (pairs : List ℤ) where
                     merge-refused-13 e = past-11 ∙ refuses 13 _ _ e
 
                     module _ (suffixes : anyOf (map suffixIsAbove (mergeInverses (pos 0) [] (sourcesIn rs pairs))) ≡ false) where
-
                       past-13 : theVerdict ≡ verdictBy (drop 10 mergeTests)
                       past-13 = past-11 ∙ passes 13 _ _ suffixes
 
@@ -199,7 +187,6 @@ module _ (rs ps : List ℤ) (id account series : ℤ) (pairs : List ℤ) where
                       merge-refused-14 e = past-13 ∙ refuses 14 _ _ e
 
                       module _ (records-room : ltb (roomOf recordsLayout rs) (length (rowsOf recordsLayout rs) + (length pairs / 2 + 1)) ≡ false) where
-
                         past-14 : theVerdict ≡ verdictBy (drop 11 mergeTests)
                         past-14 = past-13 ∙ passes 14 _ _ records-room
 
@@ -207,7 +194,6 @@ module _ (rs ps : List ℤ) (id account series : ℤ) (pairs : List ℤ) where
                         merge-refused-15 e = past-14 ∙ refuses 15 _ _ e
 
                         module _ (positions-room : ltb (roomOf positionsLayout ps) (length (rowsOf positionsLayout ps) + absentPosition ps account series) ≡ false) where
-
                           past-15 : theVerdict ≡ verdictBy (drop 12 mergeTests)
                           past-15 = past-14 ∙ passes 15 _ _ positions-room
 

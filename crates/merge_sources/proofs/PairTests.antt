@@ -23,7 +23,6 @@ abbrev pub validPairs : List ℤ → List Bool
 validPairs pairs = map validPair (pairsOf pairs)
 
 module _ (pairs : List ℤ) (i : ℕ) where
-
   count : length (validPairs pairs) ≡ length pairs / 2
   count = length-map (pairsOf pairs) validPair ∙ pair-count pairs
 
@@ -31,7 +30,6 @@ module _ (pairs : List ℤ) (i : ℕ) where
   pairs-in-range h all = all-at-last (validPairs pairs) i (omega (arith, count)) all
 
   module _ (h : i < length pairs / 2) where
-
     valid-at : getD (validPairs pairs) i true ≡ (validId (getD pairs (2 * i) (pos 0)) && validSuffix (getD pairs (2 * i + 1) (pos 0)))
     unfolding validPair pairAt
     valid-at = map-at validPair (pairsOf pairs) i (pairAt pairs i) true (omega (arith, pair-count pairs)) ∙ ap validPair (pair-at pairs i (pairAt pairs i) h)
@@ -50,7 +48,6 @@ module _ (pairs : List ℤ) (i : ℕ) where
 -- ---- 2 to 1,000 sources
 
 module _ (pairs : List ℤ) where
-
   pub too-few : length pairs < 4 → validCount (length (pairsOf pairs)) ≡ false
   unfolding validCount
   too-few h = ap (λ (b : Bool). b && leb (length (pairsOf pairs)) 1000) (lt-leb 2 (length (pairsOf pairs)) (omega (arith, pair-count pairs)))

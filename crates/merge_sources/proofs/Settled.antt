@@ -29,14 +29,17 @@ greatest-alike m t u same-keys = go (found (greatest recordKey m t)) (found (gre
     there : (s : ℤ) (x : Record) (a b : List Record) → find recordKey (keyOf m s) a ≡ some x → isSome (find recordKey (keyOf m s) a) ≡ isSome (find recordKey (keyOf m s) b) →
         isSome (find recordKey (keyOf m s) b) ≡ true
     there s x a b f e = sym e ∙ ap (λ (o : Option Record). isSome o) f ∙ isSome-some x
+
     missing : (s : ℤ) (b : List Record) → greatest recordKey m b ≡ none → isSome (find recordKey (keyOf m s) b) ≡ false
     missing s b e = ap (λ (o : Option Record). isSome o) (greatest-none recordKey m s b e) ∙ isSome-none Record
+
     bound : (g h : ℤ) (b : List Record) → greatest recordKey m b ≡ some h → isSome (find recordKey (keyOf m g) b) ≡ true → leZ g h ≡ true
     bound g h b e i = at (found (find recordKey (keyOf m g) b))
       where
         at : Found (find recordKey (keyOf m g) b) → leZ g h ≡ true
         at (absent f) = clash i (ap (λ (o : Option Record). isSome o) f ∙ isSome-none Record)
         at (present x f) = greatest-bounds recordKey m g h b x e f
+
     go : Found (greatest recordKey m t) → Found (greatest recordKey m u) → greatest recordKey m t ≡ greatest recordKey m u
     go (absent e) (absent f) = e ∙ sym f
     go (absent e) (present h f) =
@@ -119,7 +122,6 @@ settles-all (r ∷ rest) t s k =
 
 -- What tables that agree but for the status have in common.
 module _ (t u : List Record) (alike : (k : Key) → settled (find recordKey k u) ≡ settled (find recordKey k t)) where
-
   pub stands-alike : (k : Key) → isSome (find recordKey k u) ≡ isSome (find recordKey k t)
   stands-alike k = settled-same (find recordKey k u) (find recordKey k t) (alike k)
 

@@ -61,7 +61,6 @@ first-is [] = refl
 first-is (r ∷ rest) = refl
 
 module _ (cells pairs : List ℤ) where
-
   abbrev rows : List Record
   rows = rowsOf recordsLayout cells
 
@@ -92,7 +91,6 @@ module _ (cells pairs : List ℤ) where
   -- ---- at a place
 
   module _ (i : ℕ) (h : i < length pairs / 2) where
-
     there : i < length (pairsOf pairs)
     there = omega (arith, pair-count pairs)
 

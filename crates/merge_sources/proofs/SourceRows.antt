@@ -35,12 +35,11 @@ before : (i n : ℕ) → i < n → i ≡ n → ⊥
 before i n lt e = omega arith
 
 module _ (cells pairs : List ℤ) where
-
   pub known-none : (rows : List ℕ) → knownTo cells pairs rows 0
   known-none rows = below-none (λ (i : ℕ). rowOfPair cells pairs i ≡ Row (getD rows i 0))
 
   pub known-next : (rows : List ℕ) (n row : ℕ) → n < length rows → knownTo cells pairs rows n → rowOfPair cells pairs n ≡ Row row
-    → knownTo cells pairs (set rows n row) (n + 1)
+      → knownTo cells pairs (set rows n row) (n + 1)
   known-next rows n row h known e =
       below-more (λ (i : ℕ). rowOfPair cells pairs i ≡ Row (getD (set rows n row) i 0)) n
       (λ i lt. known i lt ∙ ap Row (sym (getD-set-other rows n i row 0 (before i n lt))))
@@ -52,7 +51,6 @@ module _ (cells pairs : List ℤ) where
 
   -- A row that was found is a row of the table, with the record of its pair.
   module _ (place row : ℕ) (e : rowOfPair cells pairs place ≡ Row row) where
-
     pub row-within : row < length (rowsOf recordsLayout cells)
     row-within = table-found recordsLayout recordKey records-first cells (pairAt pairs place) row e .0
 
@@ -64,7 +62,6 @@ module _ (cells pairs : List ℤ) where
 
   -- Where the rows are known.
   module _ (rows : List ℕ) (known : rowsKnown cells pairs rows) (place : ℕ) (h : 2 * place + 2 ≤ length pairs) where
-
     pub place-kept : place < length rows
     unfolding rowsKnown
     place-kept = omega (arith, known .0)

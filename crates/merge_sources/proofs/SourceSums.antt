@@ -37,7 +37,6 @@ all-of-each [] e = allOf-nil
 all-of-each (r ∷ rest) e = allOf-intro (soundRecord r) (map soundRecord rest) (e .0) (all-of-each rest (e .1))
 
 module _ (cells pairs : List ℤ) (sound : soundRecords cells ≡ true) (all : allFound cells pairs ≡ true) where
-
   abbrev rs : List Record
   rs = sourceRecords cells pairs
 
@@ -65,7 +64,6 @@ module _ (cells pairs : List ℤ) (sound : soundRecords cells ≡ true) (all : a
   -- ---- V, where every source is adjustable and Q at most 1,000,000
 
   module _ (free : anyOf (map isNotAdjustable (sourceRecords cells pairs)) ≡ false) where
-
     priced-sources : Each Priced (sourceRecords cells pairs)
     priced-sources = each-priced rs sources-sound free
 
@@ -79,7 +77,6 @@ module _ (cells pairs : List ℤ) (sound : soundRecords cells ≡ true) (all : a
         mul-sfits (r .quantity) (r .price) {A = 1000000} {B = 1000000000000} (omega (zarith, abs-lin (r .quantity))) (p .price) (omega arith)
 
     module _ (small : sumOfQuantities (sourceRecords cells pairs) ≤ℤ pos mostQuantity) where
-
       pub value-sum-fits : (i : ℕ) → SFits w64 (sumOver valueOf (take i (sourceRecords cells pairs)))
       value-sum-fits i =
           sfits-of-bound (sumOver valueOf (take i rs)) {B = 1000000000000000000}

@@ -20,25 +20,21 @@ beq-false true = refl
 beq-false false = refl
 
 module _ (number account series : ℤ) (buy : Bool) (r : Record) where
-
   pub is-test-6 : eqZ number (pos 6) ≡ true → failsTest number account series buy r ≡ isElsewhere account series r
   unfolding failsTest
   is-test-6 e = rw e
 
   module _ (not-6 : eqZ number (pos 6) ≡ false) where
-
     pub is-test-7 : eqZ number (pos 7) ≡ true → failsTest number account series buy r ≡ isNotAdjustable r
     unfolding failsTest
     is-test-7 e = rw (not-6, e)
 
     module _ (not-7 : eqZ number (pos 7) ≡ false) where
-
       pub is-test-8 : eqZ number (pos 8) ≡ true → failsTest number account series buy r ≡ isToClose (r .side)
       unfolding failsTest closes
       is-test-8 e = rw (not-6, not-7, e)
 
       module _ (not-8 : eqZ number (pos 8) ≡ false) where
-
         pub is-test-of-sells : buy ≡ true → failsTest number account series buy r ≡ not (isBuy (r .side))
         unfolding failsTest
         is-test-of-sells e = rw (not-6, not-7, not-8, e) (ap not (beq-true (isBuy (r .side))))
@@ -50,7 +46,6 @@ module _ (number account series : ℤ) (buy : Bool) (r : Record) where
 -- ---- by the number that the verdict gives
 
 module _ (account series : ℤ) (buy : Bool) where
-
   pub fails-6 : failsTest (pos 6) account series buy ≡ isElsewhere account series
   unfolding failsTest eqZ
   fails-6 = refl

@@ -60,9 +60,10 @@ priced r s n =
     let sound : SoundRecord r = record-sound r s in
     let status : r .status ≡ adjustable = eqZ-true (r .status) adjustable (not-false (eqZ (r .status) adjustable) n) in
     record {
-    positive = quantity-of r sound status .0;
-    small = quantity-of r sound status .1;
-    price = price-range (r .price) (sound .price) }
+      positive = quantity-of r sound status .0;
+      small = quantity-of r sound status .1;
+      price = price-range (r .price) (sound .price);
+    }
 
 pub each-sized : (rs : List Record) → allOf (map soundRecord rs) ≡ true → Each Sized rs
 each-sized [] a = tt
@@ -71,9 +72,10 @@ each-sized (r ∷ rest) a =
 
 pub each-priced : (rs : List Record) → allOf (map soundRecord rs) ≡ true → anyOf (map isNotAdjustable rs) ≡ false → Each Priced rs
 each-priced [] a n = tt
-each-priced (r ∷ rest) a n =
-    (priced r (allOf-head (soundRecord r) (map soundRecord rest) a) (anyOf-head (isNotAdjustable r) (map isNotAdjustable rest) n),
-    each-priced rest (allOf-tail (soundRecord r) (map soundRecord rest) a) (anyOf-tail (isNotAdjustable r) (map isNotAdjustable rest) n))
+each-priced (r ∷ rest) a n = (
+  priced r (allOf-head (soundRecord r) (map soundRecord rest) a) (anyOf-head (isNotAdjustable r) (map isNotAdjustable rest) n),
+  each-priced rest (allOf-tail (soundRecord r) (map soundRecord rest) a) (anyOf-tail (isNotAdjustable r) (map isNotAdjustable rest) n),
+)
 
 -- ---- sums
 
@@ -134,9 +136,10 @@ pub averageable : (rs : List Record) → Each Priced rs → 0 < length rs → su
 averageable rs e h most =
     let least : pos (length rs) ≤ℤ sumOver quantityOf rs = quantities-least rs e in
     record {
-    positive = rw (quantities-sum rs) (omega zarith);
-    most = most;
-    bounded = rw (values-sum rs, quantities-sum rs) (values-range rs e) }
+      positive = rw (quantities-sum rs) (omega zarith);
+      most = most;
+      bounded = rw (values-sum rs, quantities-sum rs) (values-range rs e);
+    }
 
 pub residual-small : (buy : Bool) (v q : ℤ) → Averageable v q → magnitudeAtMost 1000000 (residualOf buy v q) ≡ true
 residual-small buy v q a =

@@ -13,7 +13,6 @@ use Rattle.rules.specs.Merge.{sumOfQuantities, sumOfValues}
 use Rattle.rules.specs.declared.Record.{Record}
 
 module _ {A : Type 0} (f : A → ℤ) where
-
   unfoldable pub sumOver : List A → ℤ
   sumOver [] = pos 0
   sumOver (x ∷ rest) = f x +ℤ sumOver rest

@@ -7,7 +7,6 @@ use mathlib.Core.List.{List, [], _∷_}
 use lib.ListN.{length, getD}
 
 module _ {A B E : Type 0} (make : List E → A → B) (kept : A → E) where
-
   abbrev pub threaded : List E → List A → List B
   threaded earlier [] = []
   threaded earlier (x ∷ rest) = make earlier x ∷ threaded (kept x ∷ earlier) rest

@@ -13,7 +13,6 @@ ghost use lib.ListN.{length};
 ghost use Rattle.rules.specs.Figures.{magnitudeAtMost};
 ghost use Rattle.rules.specs.Keyed.{greatest};
 ghost use Rattle.rules.specs.NamedRecord.{nextSuffix, isElsewhere};
-
 ghost use Rattle.rules.specs.Rows as Rows;
 ghost use Rattle.rules.specs.Rows.{recordKey, soundPosition, validBooked};
 ghost use Rattle.rules.specs.Layout.{roomOf, rowsOf};
@@ -105,7 +104,15 @@ pub fn inverse_record(r: Record, suffix: i64, kind: i64, long: i64, short: i64, 
 }
 
 // An adjustable row that comes out of a record.
-pub fn adjustable_record(r: Record, suffix: i64, kind: i64, account: i64, quantity: i64, long: i64, short: i64) -> Record
+pub fn adjustable_record(
+    r: Record,
+    suffix: i64,
+    kind: i64,
+    account: i64,
+    quantity: i64,
+    long: i64,
+    short: i64,
+) -> Record
     ensures { λ s. ⌜ s ≡ Rows.adjustableRecord r suffix kind account quantity long short ⌝ }
 {
     Record {

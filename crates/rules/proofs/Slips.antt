@@ -62,11 +62,11 @@ separation-books-nothing = refl
 -- "Numbering merge inverses from a count taken once, when two sources share an id." Each takes a suffix of its own.
 pub inverses-take-successive-suffixes :
     map (λ (r : Record). r .suffix)
-        (recordsAfter (empty 91 5)
-            (buy (pos 7) (pos 1)
-            ∷ separate (pos 7) (pos 0) (pos 1) (pos 1) (pos 60 ∷ pos 40 ∷ [])
-            ∷ merge (pos 8) (pos 1) (pos 1) (pos 7 ∷ pos 2 ∷ pos 7 ∷ pos 3 ∷ [])
-            ∷ []))
+    (recordsAfter (empty 91 5)
+    (buy (pos 7) (pos 1)
+    ∷ separate (pos 7) (pos 0) (pos 1) (pos 1) (pos 60 ∷ pos 40 ∷ [])
+    ∷ merge (pos 8) (pos 1) (pos 1) (pos 7 ∷ pos 2 ∷ pos 7 ∷ pos 3 ∷ [])
+    ∷ []))
     ≡ pos 0 ∷ pos 1 ∷ pos 2 ∷ pos 3 ∷ pos 4 ∷ pos 5 ∷ pos 0 ∷ []
 unfolding eqZ inRange floorDiv averageOf residualOf viewOf magnitudeAtMost validId validSuffix validAccount validSeries validQuantity validPrice validSide isBuy isToClose validCount planOf soundnessTests refusals planTables answer handle below same isSome atLeast rising find greatest upsert upsertAll absentFrom encode roomOf rowsOf countIsSound write oneMoreLink originVia originOf lineageReply lineagePlan pairsOf validPair mergeFigures sourcesOf recordsOf isMissing closes isAmong stoodEarlier firstOf sideDiffers sumOfQuantities sumOfValues timesIn mergeInverses mergedRecord mergeResidual mergePlan noRecord theRecord isElsewhere isNotAdjustable nextSuffix suffixIsAbove bookingTests planTests booked planBooks planReply test anyOf allOf firstPlace testEach firstRefusal refusedBy validKind validStatus validSignedQuantity validBooked validInto validParent soundRecord soundPosition zeroPosition orZeros moved adjustedRecord newRecord inverseRecord adjustableRecord afterReply run sumOf separationFigures partRecords separationPlan recordCells positionCells soundTable soundRecords soundPositions booksOf writeBooks idsOf positionsOf isNamedIn shareId sharePosition touch tradeFigures openAgainst smaller closedBy longBooked shortBooked isClosingError tradeKind tradeReply tradePlan transferFigures inLong inShort holdsTooLittle transferPlan
 inverses-take-successive-suffixes = refl
@@ -81,10 +81,10 @@ rows-stand-by-key = refl
 -- A refusal is the first that applies: a transfer of a record that is in another account (6), adjusted (7) and held by nobody there (12) is refused 6.
 pub first-number-given :
     (run (empty 52 10)
-        (buy (pos 7) (pos 1)
-        ∷ transfer (pos 7) (pos 0) (pos 1) (pos 2) (pos 1)
-        ∷ transfer (pos 7) (pos 0) (pos 2) (pos 3) (pos 1)
-        ∷ [])) .replies
+    (buy (pos 7) (pos 1)
+    ∷ transfer (pos 7) (pos 0) (pos 1) (pos 2) (pos 1)
+    ∷ transfer (pos 7) (pos 0) (pos 2) (pos 3) (pos 1)
+    ∷ [])) .replies
     ≡ (run (empty 52 10) (buy (pos 7) (pos 1) ∷ transfer (pos 7) (pos 0) (pos 1) (pos 2) (pos 1) ∷ [])) .replies ++ (Refused (pos 6) (pos 0) ∷ [])
 unfolding eqZ inRange floorDiv averageOf residualOf viewOf magnitudeAtMost validId validSuffix validAccount validSeries validQuantity validPrice validSide isBuy isToClose validCount planOf soundnessTests refusals planTables answer handle below same isSome atLeast rising find greatest upsert upsertAll absentFrom encode roomOf rowsOf countIsSound write oneMoreLink originVia originOf lineageReply lineagePlan pairsOf validPair mergeFigures sourcesOf recordsOf isMissing closes isAmong stoodEarlier firstOf sideDiffers sumOfQuantities sumOfValues timesIn mergeInverses mergedRecord mergeResidual mergePlan noRecord theRecord isElsewhere isNotAdjustable nextSuffix suffixIsAbove bookingTests planTests booked planBooks planReply test anyOf allOf firstPlace testEach firstRefusal refusedBy validKind validStatus validSignedQuantity validBooked validInto validParent soundRecord soundPosition zeroPosition orZeros moved adjustedRecord newRecord inverseRecord adjustableRecord afterReply run sumOf separationFigures partRecords separationPlan recordCells positionCells soundTable soundRecords soundPositions booksOf writeBooks idsOf positionsOf isNamedIn shareId sharePosition touch tradeFigures openAgainst smaller closedBy longBooked shortBooked isClosingError tradeKind tradeReply tradePlan transferFigures inLong inShort holdsTooLittle transferPlan
 first-number-given = refl
@@ -107,11 +107,11 @@ refused-leaves-the-cells = refl
 -- The residual "is added to the position's cash": buys of 1 at 0 and 1 at 1 leave 1.
 pub residual-in-cash :
     map (λ (p : Position). p .cash)
-        (positionsAfter (empty 65 5)
-            (trade (pos 7) (pos 1) (pos 1) (pos 1) (pos 1) (pos 0)
-            ∷ trade (pos 8) (pos 1) (pos 1) (pos 1) (pos 1) (pos 1)
-            ∷ merge (pos 9) (pos 1) (pos 1) (pos 7 ∷ pos 0 ∷ pos 8 ∷ pos 0 ∷ [])
-            ∷ []))
+    (positionsAfter (empty 65 5)
+    (trade (pos 7) (pos 1) (pos 1) (pos 1) (pos 1) (pos 0)
+    ∷ trade (pos 8) (pos 1) (pos 1) (pos 1) (pos 1) (pos 1)
+    ∷ merge (pos 9) (pos 1) (pos 1) (pos 7 ∷ pos 0 ∷ pos 8 ∷ pos 0 ∷ [])
+    ∷ []))
     ≡ pos 1 ∷ []
 unfolding eqZ inRange floorDiv averageOf residualOf viewOf magnitudeAtMost validId validSuffix validAccount validSeries validQuantity validPrice validSide isBuy isToClose validCount planOf soundnessTests refusals planTables answer handle below same isSome atLeast rising find greatest upsert upsertAll absentFrom encode roomOf rowsOf countIsSound write oneMoreLink originVia originOf lineageReply lineagePlan pairsOf validPair mergeFigures sourcesOf recordsOf isMissing closes isAmong stoodEarlier firstOf sideDiffers sumOfQuantities sumOfValues timesIn mergeInverses mergedRecord mergeResidual mergePlan noRecord theRecord isElsewhere isNotAdjustable nextSuffix suffixIsAbove bookingTests planTests booked planBooks planReply test anyOf allOf firstPlace testEach firstRefusal refusedBy validKind validStatus validSignedQuantity validBooked validInto validParent soundRecord soundPosition zeroPosition orZeros moved adjustedRecord newRecord inverseRecord adjustableRecord afterReply run sumOf separationFigures partRecords separationPlan recordCells positionCells soundTable soundRecords soundPositions booksOf writeBooks idsOf positionsOf isNamedIn shareId sharePosition touch tradeFigures openAgainst smaller closedBy longBooked shortBooked isClosingError tradeKind tradeReply tradePlan transferFigures inLong inShort holdsTooLittle transferPlan
 residual-in-cash = refl

@@ -23,6 +23,7 @@ pub record View : Type 0 where
 
 unfoldable pub viewOf : Books → View
 viewOf b = record {
-    recordAt = λ id suffix. find recordKey (keyOf id suffix) (b .records);
-    greatestSuffix = λ id. greatest recordKey id (b .records);
-    positionAt = λ account series. orZeros account series (find positionKey (keyOf account series) (b .positions)) }
+  recordAt = λ id suffix. find recordKey (keyOf id suffix) (b .records);
+  greatestSuffix = λ id. greatest recordKey id (b .records);
+  positionAt = λ account series. orZeros account series (find positionKey (keyOf account series) (b .positions));
+}

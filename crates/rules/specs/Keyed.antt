@@ -29,7 +29,6 @@ atLeast a none = a
 atLeast a (some b) = cond (leZ a b) b a
 
 module _ {Row : Type 0} (key : Row → Key) where
-
   -- "rows strictly rise"
   unfoldable pub rising : List Row → Bool
   rising [] = true

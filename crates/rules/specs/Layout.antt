@@ -20,7 +20,6 @@ abbrev pub countOf : List ℤ → ℤ
 countOf cells = getD cells 0 (pos 0)
 
 module _ {Row : Type 0} where
-
   -- So many rows, the first at this cell.
   abbrev pub decode : (List ℤ → ℕ → Row) → ℕ → ℕ → ℕ → List ℤ → List Row
   decode get width zero at cells = []

@@ -41,7 +41,7 @@ unfoldable pub lineagePlan : (id suffix : ℤ) → (ℤ → Option Record) → P
 lineagePlan id suffix recordAt =
     let origin : Option Origin = originOf recordAt (suc (natAbs suffix)) suffix in
     question
-        (test 3 (not (validId id && validSuffix suffix))
-        ∷ test 5 (not (isSome origin))
-        ∷ [])
-        (lineageReply origin)
+    (test 3 (not (validId id && validSuffix suffix))
+    ∷ test 5 (not (isSome origin))
+    ∷ [])
+    (lineageReply origin)

@@ -113,18 +113,19 @@ mergePlan id account series pairs newId sources p =
     let rs : List Record = recordsOf sources in
     let residual : ℤ = mergeResidual rs in
     booking
-        (test 3 (not (mergeFigures id account series pairs))
-        ∷ test 4 (isSome newId)
-        ∷ testEach 5 (map isMissing sources)
-        ∷ testEach 6 (map (isElsewhere account series) rs)
-        ∷ testEach 7 (map isNotAdjustable rs)
-        ∷ testEach 8 (map closes rs)
-        ∷ testEach 9 (stoodEarlier [] sources)
-        ∷ testEach 10 (map (sideDiffers (firstOf rs)) rs)
-        ∷ test 11 (ltZ (pos mostQuantity) (sumOfQuantities rs))
-        ∷ [])
-        (record {
-            changed = map adjustedRecord rs;
-            added = mergeInverses id [] sources ++ (mergedRecord id rs ∷ []);
-            positions = moved p (pos 0) (pos 0) residual ∷ [];
-            reply = Booked (pos (length sources) +ℤ pos 1) residual })
+    (test 3 (not (mergeFigures id account series pairs))
+    ∷ test 4 (isSome newId)
+    ∷ testEach 5 (map isMissing sources)
+    ∷ testEach 6 (map (isElsewhere account series) rs)
+    ∷ testEach 7 (map isNotAdjustable rs)
+    ∷ testEach 8 (map closes rs)
+    ∷ testEach 9 (stoodEarlier [] sources)
+    ∷ testEach 10 (map (sideDiffers (firstOf rs)) rs)
+    ∷ test 11 (ltZ (pos mostQuantity) (sumOfQuantities rs))
+    ∷ [])
+    (record {
+      changed = map adjustedRecord rs;
+      added = mergeInverses id [] sources ++ (mergedRecord id rs ∷ []);
+      positions = moved p (pos 0) (pos 0) residual ∷ [];
+      reply = Booked (pos (length sources) +ℤ pos 1) residual;
+    })

@@ -9,8 +9,20 @@ use Rattle.rules.specs.declared.Record.{Record}
 -- The record that a rule speaks of once refusal 5 does not apply; where there is none the value is of no account.
 unfoldable pub noRecord : Record
 noRecord = record {
-    id = pos 0; suffix = pos 0; parent = pos 0; kind = pos 0; status = pos 0; account = pos 0; series = pos 0;
-    side = pos 0; quantity = pos 0; price = pos 0; long = pos 0; short = pos 0; into = pos 0 }
+  id = pos 0;
+  suffix = pos 0;
+  parent = pos 0;
+  kind = pos 0;
+  status = pos 0;
+  account = pos 0;
+  series = pos 0;
+  side = pos 0;
+  quantity = pos 0;
+  price = pos 0;
+  long = pos 0;
+  short = pos 0;
+  into = pos 0;
+}
 
 unfoldable pub theRecord : Option Record → Record
 theRecord none = noRecord

@@ -50,10 +50,11 @@ planTests b (question tests reply) = tests
 -- The books after the effects: each row replaces the one with its key, or goes where its key belongs.
 unfoldable pub booked : Effects → Books → Books
 booked e b = record {
-    records = upsertAll recordKey (e .changed ++ e .added) (b .records);
-    positions = upsertAll positionKey (e .positions) (b .positions);
-    recordsRoom = b .recordsRoom;
-    positionsRoom = b .positionsRoom }
+  records = upsertAll recordKey (e .changed ++ e .added) (b .records);
+  positions = upsertAll positionKey (e .positions) (b .positions);
+  recordsRoom = b .recordsRoom;
+  positionsRoom = b .positionsRoom;
+}
 
 -- The books and the answer where no refusal applies. A question never writes.
 unfoldable pub planBooks : Plan → Books → Books

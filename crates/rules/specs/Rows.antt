@@ -76,32 +76,81 @@ orZeros account series (some p) = p
 -- A position with its figures changed by signed amounts.
 unfoldable pub moved : Position → ℤ → ℤ → ℤ → Position
 moved p long short cash = record {
-    account = p .account;
-    series = p .series;
-    long = p .long +ℤ long;
-    short = p .short +ℤ short;
-    cash = p .cash +ℤ cash }
+  account = p .account;
+  series = p .series;
+  long = p .long +ℤ long;
+  short = p .short +ℤ short;
+  cash = p .cash +ℤ cash;
+}
 
 -- "Status of the named record becomes 1": it changes its status and nothing else.
 unfoldable pub adjustedRecord : Record → Record
 adjustedRecord r = record {
-    id = r .id; suffix = r .suffix; parent = r .parent; kind = r .kind; status = adjusted; account = r .account; series = r .series;
-    side = r .side; quantity = r .quantity; price = r .price; long = r .long; short = r .short; into = r .into }
+  id = r .id;
+  suffix = r .suffix;
+  parent = r .parent;
+  kind = r .kind;
+  status = adjusted;
+  account = r .account;
+  series = r .series;
+  side = r .side;
+  quantity = r .quantity;
+  price = r .price;
+  long = r .long;
+  short = r .short;
+  into = r .into;
+}
 
 -- A row with suffix 0, parent 0 and status 0: a trade's, and the merged one.
 unfoldable pub newRecord : (id kind account series side quantity price long short : ℤ) → Record
 newRecord id kind account series side quantity price long short = record {
-    id = id; suffix = pos 0; parent = pos 0; kind = kind; status = adjustable; account = account; series = series;
-    side = side; quantity = quantity; price = price; long = long; short = short; into = pos 0 }
+  id = id;
+  suffix = pos 0;
+  parent = pos 0;
+  kind = kind;
+  status = adjustable;
+  account = account;
+  series = series;
+  side = side;
+  quantity = quantity;
+  price = price;
+  long = long;
+  short = short;
+  into = pos 0;
+}
 
 -- "One inverse row follows, quantity negated", with the named suffix as parent. "Other cells of inverse and new rows are copied from the named record."
 unfoldable pub inverseRecord : Record → (suffix kind long short into : ℤ) → Record
 inverseRecord r suffix kind long short into = record {
-    id = r .id; suffix = suffix; parent = r .suffix; kind = kind; status = inverse; account = r .account; series = r .series;
-    side = r .side; quantity = negℤ (r .quantity); price = r .price; long = long; short = short; into = into }
+  id = r .id;
+  suffix = suffix;
+  parent = r .suffix;
+  kind = kind;
+  status = inverse;
+  account = r .account;
+  series = r .series;
+  side = r .side;
+  quantity = negℤ (r .quantity);
+  price = r .price;
+  long = long;
+  short = short;
+  into = into;
+}
 
 -- An adjustable row that comes out of the named record, in this account and of this quantity. "Into is 0 except in the inverse rows of a merge."
 unfoldable pub adjustableRecord : Record → (suffix kind account quantity long short : ℤ) → Record
 adjustableRecord r suffix kind account quantity long short = record {
-    id = r .id; suffix = suffix; parent = r .suffix; kind = kind; status = adjustable; account = account; series = r .series;
-    side = r .side; quantity = quantity; price = r .price; long = long; short = short; into = pos 0 }
+  id = r .id;
+  suffix = suffix;
+  parent = r .suffix;
+  kind = kind;
+  status = adjustable;
+  account = account;
+  series = r .series;
+  side = r .side;
+  quantity = quantity;
+  price = r .price;
+  long = long;
+  short = short;
+  into = pos 0;
+}

@@ -35,14 +35,15 @@ separationPlan id suffix account series parts found greatest =
     let r : Record = theRecord found in
     let next : ℤ = nextSuffix greatest in
     booking
-        (test 3 (not (separationFigures id suffix account series parts))
-        ∷ test 5 (not (isSome found))
-        ∷ test 6 (isElsewhere account series r)
-        ∷ test 7 (isNotAdjustable r)
-        ∷ test 11 (not (eqZ (sumOf parts) (r .quantity)))
-        ∷ [])
-        (record {
-            changed = adjustedRecord r ∷ [];
-            added = inverseRecord r next separationKind (pos 0) (pos 0) (pos 0) ∷ partRecords r (next +ℤ pos 1) parts;
-            positions = [];
-            reply = Booked (pos (length parts) +ℤ pos 1) (pos 0) })
+    (test 3 (not (separationFigures id suffix account series parts))
+    ∷ test 5 (not (isSome found))
+    ∷ test 6 (isElsewhere account series r)
+    ∷ test 7 (isNotAdjustable r)
+    ∷ test 11 (not (eqZ (sumOf parts) (r .quantity)))
+    ∷ [])
+    (record {
+      changed = adjustedRecord r ∷ [];
+      added = inverseRecord r next separationKind (pos 0) (pos 0) (pos 0) ∷ partRecords r (next +ℤ pos 1) parts;
+      positions = [];
+      reply = Booked (pos (length parts) +ℤ pos 1) (pos 0);
+    })

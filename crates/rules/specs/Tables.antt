@@ -15,19 +15,20 @@ use Rattle.rules.specs.declared.Position.{Position}
 -- "each row has 13 cells: id, suffix, parent, type, status, account, series, side code, quantity, price, long booked, short booked, into"
 abbrev pub recordAt : List ℤ → ℕ → Record
 recordAt cells at = record {
-    id = getD cells at (pos 0);
-    suffix = getD cells (at + 1) (pos 0);
-    parent = getD cells (at + 2) (pos 0);
-    kind = getD cells (at + 3) (pos 0);
-    status = getD cells (at + 4) (pos 0);
-    account = getD cells (at + 5) (pos 0);
-    series = getD cells (at + 6) (pos 0);
-    side = getD cells (at + 7) (pos 0);
-    quantity = getD cells (at + 8) (pos 0);
-    price = getD cells (at + 9) (pos 0);
-    long = getD cells (at + 10) (pos 0);
-    short = getD cells (at + 11) (pos 0);
-    into = getD cells (at + 12) (pos 0) }
+  id = getD cells at (pos 0);
+  suffix = getD cells (at + 1) (pos 0);
+  parent = getD cells (at + 2) (pos 0);
+  kind = getD cells (at + 3) (pos 0);
+  status = getD cells (at + 4) (pos 0);
+  account = getD cells (at + 5) (pos 0);
+  series = getD cells (at + 6) (pos 0);
+  side = getD cells (at + 7) (pos 0);
+  quantity = getD cells (at + 8) (pos 0);
+  price = getD cells (at + 9) (pos 0);
+  long = getD cells (at + 10) (pos 0);
+  short = getD cells (at + 11) (pos 0);
+  into = getD cells (at + 12) (pos 0);
+}
 
 unfoldable pub recordCells : Record → List ℤ
 recordCells r =
@@ -37,11 +38,12 @@ recordCells r =
 -- "each row has 5 cells: account, series, long, short, cash"
 abbrev pub positionAt : List ℤ → ℕ → Position
 positionAt cells at = record {
-    account = getD cells at (pos 0);
-    series = getD cells (at + 1) (pos 0);
-    long = getD cells (at + 2) (pos 0);
-    short = getD cells (at + 3) (pos 0);
-    cash = getD cells (at + 4) (pos 0) }
+  account = getD cells at (pos 0);
+  series = getD cells (at + 1) (pos 0);
+  long = getD cells (at + 2) (pos 0);
+  short = getD cells (at + 3) (pos 0);
+  cash = getD cells (at + 4) (pos 0);
+}
 
 unfoldable pub positionCells : Position → List ℤ
 positionCells p = p .account ∷ p .series ∷ p .long ∷ p .short ∷ p .cash ∷ []
@@ -72,12 +74,14 @@ pub record Tables : Type 0 where
 -- Their rows and rooms.
 unfoldable pub booksOf : Tables → Books
 booksOf t = record {
-    records = rowsOf recordsLayout (t .records);
-    positions = rowsOf positionsLayout (t .positions);
-    recordsRoom = roomOf recordsLayout (t .records);
-    positionsRoom = roomOf positionsLayout (t .positions) }
+  records = rowsOf recordsLayout (t .records);
+  positions = rowsOf positionsLayout (t .positions);
+  recordsRoom = roomOf recordsLayout (t .records);
+  positionsRoom = roomOf positionsLayout (t .positions);
+}
 
 unfoldable pub writeBooks : Tables → Books → Tables
 writeBooks t b = record {
-    records = write recordsLayout (t .records) (b .records);
-    positions = write positionsLayout (t .positions) (b .positions) }
+  records = write recordsLayout (t .records) (b .records);
+  positions = write positionsLayout (t .positions) (b .positions);
+}

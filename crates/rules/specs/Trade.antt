@@ -54,11 +54,12 @@ tradePlan id account series side quantity price greatest p =
     let long : ℤ = longBooked side quantity c in
     let short : ℤ = shortBooked side quantity c in
     booking
-        (test 3 (not (tradeFigures id account series side quantity price))
-        ∷ test 4 (isSome greatest)
-        ∷ [])
-        (record {
-            changed = [];
-            added = newRecord id (tradeKind error) account series side quantity price long short ∷ [];
-            positions = moved p long short (pos 0) ∷ [];
-            reply = tradeReply error (quantity -ℤ c) })
+    (test 3 (not (tradeFigures id account series side quantity price))
+    ∷ test 4 (isSome greatest)
+    ∷ [])
+    (record {
+      changed = [];
+      added = newRecord id (tradeKind error) account series side quantity price long short ∷ [];
+      positions = moved p long short (pos 0) ∷ [];
+      reply = tradeReply error (quantity -ℤ c);
+    })

@@ -38,21 +38,22 @@ transferPlan id suffix from to series found greatest old new =
     let next : ℤ = nextSuffix greatest in
     let q : ℤ = r .quantity in
     booking
-        (test 3 (not (transferFigures id suffix from to series))
-        ∷ test 5 (not (isSome found))
-        ∷ test 6 (isElsewhere from series r)
-        ∷ test 7 (isNotAdjustable r)
-        ∷ test 8 (isToClose (r .side))
-        ∷ test 12 (holdsTooLittle r old)
-        ∷ [])
-        (record {
-            changed = adjustedRecord r ∷ [];
-            added =
-                inverseRecord r next transferKind (inLong (r .side) (negℤ q)) (inShort (r .side) (negℤ q)) (pos 0)
-                ∷ adjustableRecord r (next +ℤ pos 1) transferKind to q (inLong (r .side) q) (inShort (r .side) q)
-                ∷ [];
-            positions =
-                moved old (inLong (r .side) (negℤ q)) (inShort (r .side) (negℤ q)) (pos 0)
-                ∷ moved new (inLong (r .side) q) (inShort (r .side) q) (pos 0)
-                ∷ [];
-            reply = Booked (pos 2) (pos 0) })
+    (test 3 (not (transferFigures id suffix from to series))
+    ∷ test 5 (not (isSome found))
+    ∷ test 6 (isElsewhere from series r)
+    ∷ test 7 (isNotAdjustable r)
+    ∷ test 8 (isToClose (r .side))
+    ∷ test 12 (holdsTooLittle r old)
+    ∷ [])
+    (record {
+      changed = adjustedRecord r ∷ [];
+      added =
+          inverseRecord r next transferKind (inLong (r .side) (negℤ q)) (inShort (r .side) (negℤ q)) (pos 0)
+          ∷ adjustableRecord r (next +ℤ pos 1) transferKind to q (inLong (r .side) q) (inShort (r .side) q)
+          ∷ [];
+      positions =
+          moved old (inLong (r .side) (negℤ q)) (inShort (r .side) (negℤ q)) (pos 0)
+          ∷ moved new (inLong (r .side) q) (inShort (r .side) q) (pos 0)
+          ∷ [];
+      reply = Booked (pos 2) (pos 0);
+    })

@@ -16,7 +16,6 @@ false-last true = refl
 false-last false = refl
 
 module _ {Row : Type 0} (key : Row → Key) (soundRow : Row → Bool) where
-
   -- these rows rise, and each is sound
   abbrev pub riseSound : List Row → Bool
   riseSound rows = rising key rows && allOf (map soundRow rows)
@@ -40,7 +39,6 @@ module _ {Row : Type 0} (key : Row → Key) (soundRow : Row → Bool) where
   -- ---- read from cells: `left` rows, the first at cell `at`
 
   module _ (get : List ℤ → ℕ → Row) (width : ℕ) where
-
     abbrev pub rowsSound : ℕ → ℕ → List ℤ → Bool
     rowsSound left at cells = riseSound (decode get width left at cells)
 

@@ -20,7 +20,6 @@ use Rattle.cells.proofs.Count.{length-rowsOf, sound-count, sound-rows-cells, ro
 use Rattle.scan.proofs.RowsScan.{rowsSound}
 
 module _ {Row : Type 0} (l : Layout Row) (lawful : Lawful l) (cells : List ℤ) (sound : countIsSound l cells ≡ true) where
-
   -- the count as a number of rows: it is not negative, and so many rows are within the cells
   pub count-casts : mag (countOf cells) < 2 ^ 63 → T (nonNeg (countOf cells)) × Fits w64 (natAbs (countOf cells))
   count-casts h = (rw (sound-count l lawful cells sound) tt, fits-natAbs tt (sfits-of {w = w64} {z = countOf cells} h))
@@ -29,7 +28,6 @@ module _ {Row : Type 0} (l : Layout Row) (lawful : Lawful l) (cells : List ℤ) 
   counted-rows-within = rw (length-rowsOf l cells) at (sound-rows-cells l lawful cells sound)
 
 module _ {Row : Type 0} (l : Layout Row) (key : Row → Key) (soundRow : Row → Bool) (cells : List ℤ) where
-
   pub unsound-count : countIsSound l cells ≡ false → false ≡ soundTable l key soundRow cells
   unfolding soundTable
   unsound-count e = rw e

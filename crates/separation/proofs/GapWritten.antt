@@ -22,10 +22,9 @@ use Rattle.verdict.proofs.Suffixes.{parts-count}
 use Rattle.separation.proofs.PartsWritten.{written, parts-numbered}
 
 module _ (rs₁ : List ℤ) (sound : soundRecords rs₁ ≡ true) (id next : ℤ) (r : Record) (own : r .id ≡ id) (parts : List ℤ)
-  (free : nextOf (rowsOf recordsLayout rs₁) id ≤ℤ next)
-  (room : length (rowsOf recordsLayout rs₁) + length (separationInverse r next ∷ partRecords r (next +ℤ pos 1) parts) ≤ roomOf recordsLayout rs₁)
-  (place : ℕ) (placed : place ≡ rowPlace 13 (keyOf id next) (length (rowsOf recordsLayout rs₁)) rs₁) where
-
+    (free : nextOf (rowsOf recordsLayout rs₁) id ≤ℤ next)
+    (room : length (rowsOf recordsLayout rs₁) + length (separationInverse r next ∷ partRecords r (next +ℤ pos 1) parts) ≤ roomOf recordsLayout rs₁)
+    (place : ℕ) (placed : place ≡ rowPlace 13 (keyOf id next) (length (rowsOf recordsLayout rs₁)) rs₁) where
   abbrev n : ℕ
   n = length (rowsOf recordsLayout rs₁)
 
@@ -47,8 +46,8 @@ module _ (rs₁ : List ℤ) (sound : soundRecords rs₁ ≡ true) (id next : ℤ
   news-numbered = subst (λ (i : ℤ). numbered i next news) own (refl, parts-numbered r (next +ℤ pos 1) parts)
 
   pub gap-written : (rs₂ rs₃ rs₄ : List ℤ) → rs₂ ≡ gapped 13 n place (length parts + 1) rs₁ → length rs₂ ≡ length rs₁
-    → rs₃ ≡ replaced (recordCells (separationInverse r next)) place rs₂ → rs₄ ≡ written r (next +ℤ pos 1) parts (place + 1) rs₃
-    → rs₄ ≡ putAll recordsLayout recordKey rs₁ news
+      → rs₃ ≡ replaced (recordCells (separationInverse r next)) place rs₂ → rs₄ ≡ written r (next +ℤ pos 1) parts (place + 1) rs₃
+      → rs₄ ≡ putAll recordsLayout recordKey rs₁ news
   gap-written rs₂ rs₃ rs₄ e₂ size e₃ e₄ =
       e₄
       ∙ ap (λ (c : List ℤ). written r (next +ℤ pos 1) parts (place + 1) c) e₃

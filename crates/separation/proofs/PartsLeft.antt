@@ -22,7 +22,6 @@ use Rattle.keys.proofs.Clauses.{allOf-nil, allOf-cons, allOf-head}
 use Rattle.soundness.proofs.FigureRanges.{quantity-range}
 
 module _ (parts : List ℤ) (i : ℕ) where
-
   -- The next part, and those after it.
   pub next-part : i < length parts → drop i parts ≡ getD parts i (pos 0) ∷ drop (i + 1) parts
   next-part h = rw add-one (drop-cons parts i (pos 0) h)
@@ -34,7 +33,6 @@ module _ (parts : List ℤ) (i : ℕ) where
 
 -- 2 to 1,000 of them.
 module _ (n : ℕ) where
-
   pub too-few : n < 2 → validCount n ≡ false
   unfolding validCount
   too-few h = rw (lt-leb 2 n h)
@@ -56,7 +54,6 @@ abbrev pub validFrom : List ℤ → ℕ → Bool
 validFrom parts i = allOf (map validQuantity (drop i parts))
 
 module _ (parts : List ℤ) (i : ℕ) where
-
   valid-next : i < length parts → validFrom parts i ≡ (validQuantity (getD parts i (pos 0)) && validFrom parts (i + 1))
   valid-next h =
       ap (λ (l : List ℤ). allOf (map validQuantity l)) (next-part parts i h)
@@ -73,12 +70,13 @@ module _ (parts : List ℤ) (i : ℕ) where
 
 -- What valid figures tell of the parts.
 pub parts-told : (id suffix account series : ℤ) (parts : List ℤ) → separationFigures id suffix account series parts ≡ true
-  → (length parts ≤ 1000) × (validFrom parts 0 ≡ true)
+    → (length parts ≤ 1000) × (validFrom parts 0 ≡ true)
 unfolding separationFigures
 parts-told id suffix account series parts h =
-    let figures : Bool = validId id && validSuffix suffix && validAccount account && validSeries series in
-    (valid-count (length parts) (and-right figures (validCount (length parts)) (and-left (figures && validCount (length parts)) (validFrom parts 0) h)),
-    and-right (figures && validCount (length parts)) (validFrom parts 0) h)
+    let figures : Bool = validId id && validSuffix suffix && validAccount account && validSeries series in (
+      valid-count (length parts) (and-right figures (validCount (length parts)) (and-left (figures && validCount (length parts)) (validFrom parts 0) h)),
+      and-right (figures && validCount (length parts)) (validFrom parts 0) h,
+    )
 
 -- ---- their sum
 
@@ -99,15 +97,14 @@ pub record SumSoFar (parts : List ℤ) (i : ℕ) (sum : ℤ) : Type 0 where
 
 pub sum-start : (parts : List ℤ) → validFrom parts 0 ≡ true → SumSoFar parts 0 (pos 0)
 sum-start parts valid = record {
-    whole = omega (zarith, +-lin (pos 0) (sumOf parts));
-    low = omega zarith;
-    high = omega zarith;
-    left-valid = valid }
+  whole = omega (zarith, +-lin (pos 0) (sumOf parts));
+  low = omega zarith;
+  high = omega zarith;
+  left-valid = valid;
+}
 
 module _ (parts : List ℤ) (i : ℕ) (sum : ℤ) (so-far : SumSoFar parts i sum) where
-
   module _ (within : i < length parts) where
-
     abbrev next : ℤ
     next = getD parts i (pos 0)
 
@@ -138,7 +135,8 @@ module _ (parts : List ℤ) (i : ℕ) (sum : ℤ) (so-far : SumSoFar parts i sum
           whole = omega (zarith, +-lin sum next, +-lin (sum +ℤ next) rest, +-lin sum (sumOf (drop i parts)), +-lin next rest);
           low = omega (zarith, +-lin sum next);
           high = omega (zarith, +-lin sum next);
-          left-valid = sym (part-valid parts i within next-valid) ∙ so-far .left-valid }
+          left-valid = sym (part-valid parts i within next-valid) ∙ so-far .left-valid;
+        }
 
   pub sum-end : length parts ≤ i → sum ≡ sumOf parts
   sum-end past =

@@ -34,7 +34,7 @@ unfolding partRecords encode filled
 none-written r suffix place cells = rw (add-zero (1 + place * 13)) (take-append-drop (1 + place * 13) cells)
 
 pub part-written : (r : Record) (suffix q : ℤ) (rest : List ℤ) (place : ℕ) (cells : List ℤ) → 1 + place * 13 ≤ length cells
-  → written r suffix (q ∷ rest) place cells ≡ written r (suffix +ℤ pos 1) rest (place + 1) (replaced (recordCells (partRecord r suffix q)) place cells)
+    → written r suffix (q ∷ rest) place cells ≡ written r (suffix +ℤ pos 1) rest (place + 1) (replaced (recordCells (partRecord r suffix q)) place cells)
 unfolding partRecords
 part-written r suffix q rest place cells fits = records-filled (partRecord r suffix q) (partRecords r (suffix +ℤ pos 1) rest) place cells fits
 
@@ -53,15 +53,14 @@ pub record WrittenSoFar (before : List ℤ) (place : ℕ) (r : Record) (first : 
 
 pub written-start : (before : List ℤ) (place : ℕ) (r : Record) (first : ℤ) (parts : List ℤ) → WrittenSoFar before place r first parts before first 0
 written-start before place r first parts = record {
-    within = omega arith;
-    same-size = refl;
-    suffix-is = omega (zarith, +-lin first (pos 0));
-    whole = ap (λ (p : ℕ). written r first parts p before) (add-zero place) }
+  within = omega arith;
+  same-size = refl;
+  suffix-is = omega (zarith, +-lin first (pos 0));
+  whole = ap (λ (p : ℕ). written r first parts p before) (add-zero place);
+}
 
 module _ (before : List ℤ) (place : ℕ) (r : Record) (first : ℤ) (parts now : List ℤ) (suffix : ℤ) (i : ℕ) (so-far : WrittenSoFar before place r first parts now suffix i) where
-
   module _ (fits : 1 + (place + length parts) * 13 ≤ length before) (more : i < length parts) where
-
     abbrev q : ℤ
     q = getD parts i (pos 0)
 
@@ -74,7 +73,7 @@ module _ (before : List ℤ) (place : ℕ) (r : Record) (first : ℤ) (parts now
         omega (zarith, more, few, +-lin first (pos i), +-lin suffix (pos 1))
 
     pub written-next : (after : List ℤ) → after ≡ replaced (recordCells (partRecord r suffix q)) (place + i) now → length after ≡ length now
-      → WrittenSoFar before place r first parts after (suffix +ℤ pos 1) (i + 1)
+        → WrittenSoFar before place r first parts after (suffix +ℤ pos 1) (i + 1)
     written-next after e size =
         let rest : List ℤ = drop (i + 1) parts in
         let at : place + (i + 1) ≡ place + i + 1 = omega arith in
@@ -84,11 +83,12 @@ module _ (before : List ℤ) (place : ℕ) (r : Record) (first : ℤ) (parts now
           same-size = size ∙ so-far .same-size;
           suffix-is = omega (zarith, +-lin first (pos i), +-lin suffix (pos 1), +-lin first (pos (i + 1)));
           whole =
-            ap (λ (p : ℕ). written r (suffix +ℤ pos 1) rest p after) at
-            ∙ ap (λ (c : List ℤ). written r (suffix +ℤ pos 1) rest (place + i + 1) c) e
-            ∙ sym (part-written r suffix q rest (place + i) now (omega (arith, row-fits)))
-            ∙ ap (λ (left : List ℤ). written r suffix left (place + i) now) (sym (next-part parts i more))
-            ∙ so-far .whole }
+              ap (λ (p : ℕ). written r (suffix +ℤ pos 1) rest p after) at
+              ∙ ap (λ (c : List ℤ). written r (suffix +ℤ pos 1) rest (place + i + 1) c) e
+              ∙ sym (part-written r suffix q rest (place + i) now (omega (arith, row-fits)))
+              ∙ ap (λ (left : List ℤ). written r suffix left (place + i) now) (sym (next-part parts i more))
+              ∙ so-far .whole;
+        }
 
   pub written-end : length parts ≤ i → now ≡ written r first parts place before
   written-end past =

@@ -1,9 +1,9 @@
 // Separation: tests 3, 5 to 7, 11, 13 and 14, the booking, and the public call. The position does not move.
 use lookup::Found;
-use verdict::Verdict;
 use rules::Record;
 use rules::Reply;
 use tables::records;
+use verdict::Verdict;
 ghost use mathlib.Core.Path.{_≡_};
 ghost use mathlib.Core.Bool.{true};
 ghost use mathlib.Core.List.{map};
@@ -72,7 +72,15 @@ fn sum_of(parts: &[i64]) -> i64
     sum
 }
 
-fn verdict(records: &[i64], positions: &[i64], id: i64, suffix: i64, account: i64, series: i64, parts: &[i64]) -> Verdict
+fn verdict(
+    records: &[i64],
+    positions: &[i64],
+    id: i64,
+    suffix: i64,
+    account: i64,
+    series: i64,
+    parts: &[i64],
+) -> Verdict
     requires { ⌜ (soundRecords (now records) ≡ true) × (soundPositions (now positions) ≡ true) ⌝ }
     ensures { λ r. ⌜ r ≡ verdictOn (now (records .entry)) (now (positions .entry)) (Request.separate id suffix account series (now (parts .entry))) ⌝ }
 {
@@ -112,13 +120,25 @@ fn write_parts(records: &mut [i64], place: usize, r: Record, first: i64, parts: 
     let mut at = 0;
     while at < parts.len() {
         let quantity = parts[at];
-        records::write_record(&mut *records, place + at, requests::adjustable_record(r, suffix, 6, account, quantity, 0, 0));
+        records::write_record(
+            &mut *records,
+            place + at,
+            requests::adjustable_record(r, suffix, 6, account, quantity, 0, 0),
+        );
         suffix += 1;
         at += 1;
     }
 }
 
-fn book(records: &mut [i64], positions: &[i64], id: i64, suffix: i64, account: i64, series: i64, parts: &[i64]) -> Reply
+fn book(
+    records: &mut [i64],
+    positions: &[i64],
+    id: i64,
+    suffix: i64,
+    account: i64,
+    series: i64,
+    parts: &[i64],
+) -> Reply
     requires { ⌜ (soundRecords (now records) ≡ true) × (soundPositions (now positions) ≡ true) × (verdictOn (now records) (now positions) (Request.separate id suffix account series (now parts)) ≡ Accepted) ⌝ }
     ensures { λ r. ⌜ answered r (now (records .exit)) (now (positions .entry)) ≡ acceptedOn (now (records .entry)) (now (positions .entry)) (Request.separate id suffix account series (now (parts .entry))) ⌝ }
 {
@@ -129,13 +149,25 @@ fn book(records: &mut [i64], positions: &[i64], id: i64, suffix: i64, account: i
     let next = requests::next_suffix(records, id);
     records::adjust_record(&mut *records, row);
     let place = records::open_rows(&mut *records, id, next, parts.len() + 1);
-    records::write_record(&mut *records, place, requests::inverse_record(r, next, 6, 0, 0, 0));
+    records::write_record(
+        &mut *records,
+        place,
+        requests::inverse_record(r, next, 6, 0, 0, 0),
+    );
     write_parts(records, place + 1, r, next + 1, parts);
     let rows = parts.len() as i64 + 1;
     Reply::Booked { rows, residual: 0 }
 }
 
-pub fn separate(records: &mut [i64], positions: &mut [i64], id: i64, suffix: i64, account: i64, series: i64, parts: &[i64]) -> Reply
+pub fn separate(
+    records: &mut [i64],
+    positions: &mut [i64],
+    id: i64,
+    suffix: i64,
+    account: i64,
+    series: i64,
+    parts: &[i64],
+) -> Reply
     ensures { λ r. ⌜ answered r (now (records .exit)) (now (positions .exit)) ≡ handle (tablesOf (now (records .entry)) (now (positions .entry))) (Request.separate id suffix account series (now (parts .entry))) ⌝ }
 {
     if !scan::soundness::records_sound(records) {

@@ -29,9 +29,9 @@ over xs ys at cells h =
     let end : at + length (xs ++ ys) ≡ at + length xs + length ys = omega (arith, length-append xs ys) in
     let front : take (at + length xs) (head ++ tail) ≡ head = take-at head tail (at + length xs) size in
     let back : drop (at + length xs + length ys) (head ++ tail) ≡ drop (at + length xs + length ys) cells =
-          sym (drop-drop (length ys) (at + length xs) (head ++ tail))
-          ∙ ap (drop (length ys)) (drop-at head tail (at + length xs) size)
-          ∙ drop-drop (length ys) (at + length xs) cells in
+    sym (drop-drop (length ys) (at + length xs) (head ++ tail))
+    ∙ ap (drop (length ys)) (drop-at head tail (at + length xs) size)
+    ∙ drop-drop (length ys) (at + length xs) cells in
     let joined : overFrom (xs ++ ys) at cells ≡ head ++ (ys ++ drop (at + length xs + length ys) cells) = rw end (simp append-assoc) in
     joined
     ∙ ap (λ (c : List ℤ). head ++ (ys ++ c)) (sym back)
@@ -39,12 +39,11 @@ over xs ys at cells h =
     ∙ ap (overFrom ys (at + length xs)) (sym whole)
 
 module _ (width : ℕ) (run : List ℤ) (place : ℕ) (cells : List ℤ) where
-
   -- The rows of the run take the gap's cells; the rows before it and after it are as the gap left them.
   pub gap-filled : (count added : ℕ) → length run ≡ added * width → place ≤ count → 1 + (count + added) * width ≤ length cells
-    → filled width run place (gapped width count place added cells)
+      → filled width run place (gapped width count place added cells)
       ≡ pos (count + added) ∷ (take (place * width) (drop 1 cells)
-        ++ (run ++ (take ((count - place) * width) (drop (1 + place * width) cells) ++ drop (1 + (count + added) * width) cells)))
+      ++ (run ++ (take ((count - place) * width) (drop (1 + place * width) cells) ++ drop (1 + (count + added) * width) cells)))
   unfolding filled gapped
   gap-filled count added size below fits =
       let gap : List ℤ = take ((place + added) * width) (drop 1 cells) in
@@ -56,12 +55,12 @@ module _ (width : ℕ) (run : List ℤ) (place : ℕ) (cells : List ℤ) where
       let wide : length gap ≡ (place + added) * width = length-take-le ((place + added) * width) (drop 1 cells) inside in
       let within : place * width ≤ (place + added) * width = omega arith in
       let before : take (1 + place * width) table ≡ pos (count + added) ∷ take (place * width) (drop 1 cells) =
-            ap (λ (j : ℕ). take j table) (one-add (place * width))
-            ∙ ap (λ (c : List ℤ). pos (count + added) ∷ c)
-              (take-append-le (place * width) gap rest (omega arith) ∙ take-take (place * width) ((place + added) * width) (drop 1 cells) within) in
+      ap (λ (j : ℕ). take j table) (one-add (place * width))
+      ∙ ap (λ (c : List ℤ). pos (count + added) ∷ c)
+      (take-append-le (place * width) gap rest (omega arith) ∙ take-take (place * width) ((place + added) * width) (drop 1 cells) within) in
       let past : 1 + place * width + length run ≡ suc ((place + added) * width) = omega arith in
       let after : drop (1 + place * width + length run) table ≡ rest =
-            ap (λ (j : ℕ). drop j table) past ∙ drop-at gap rest ((place + added) * width) wide in
+      ap (λ (j : ℕ). drop j table) past ∙ drop-at gap rest ((place + added) * width) wide in
       ap (λ (c : List ℤ). c ++ (run ++ drop (1 + place * width + length run) table)) before
       ∙ ap (λ (c : List ℤ). pos (count + added) ∷ (take (place * width) (drop 1 cells) ++ (run ++ c))) after
 
@@ -75,7 +74,7 @@ module _ (width : ℕ) (run : List ℤ) (place : ℕ) (cells : List ℤ) where
 
   -- Of a longer run the first row is written, then the others from the next row on.
   pub filled-next : (more : List ℤ) → length run ≡ width → 1 + place * width ≤ length cells
-    → filled width (run ++ more) place cells ≡ filled width more (place + 1) (replaced run place cells)
+      → filled width (run ++ more) place cells ≡ filled width more (place + 1) (replaced run place cells)
   unfolding filled
   filled-next more size fits =
       let at : ℕ = 1 + place * width in
@@ -85,11 +84,10 @@ module _ (width : ℕ) (run : List ℤ) (place : ℕ) (cells : List ℤ) where
       ∙ ap (filled width more (place + 1)) (filled-row size)
 
 module _ {Row : Type 0} (l : Layout Row) (lawful : Lawful l) where
-
   -- The gap before row `place`, filled with rows.
   pub gap-written : (cells : List ℤ) → countIsSound l cells ≡ true → (place : ℕ) (news : List Row) → place ≤ length (rowsOf l cells)
-    → 1 + (length (rowsOf l cells) + length news) * l .width ≤ length cells
-    → filled (l .width) (encode (l .put) news) place (gapped (l .width) (length (rowsOf l cells)) place (length news) cells)
+      → 1 + (length (rowsOf l cells) + length news) * l .width ≤ length cells
+      → filled (l .width) (encode (l .put) news) place (gapped (l .width) (length (rowsOf l cells)) place (length news) cells)
       ≡ write l cells (take place (rowsOf l cells) ++ (news ++ drop place (rowsOf l cells)))
   gap-written cells sound place news below fits =
       gap-filled (l .width) (encode (l .put) news) place cells (length (rowsOf l cells)) (length news) (length-encode l lawful news) below fits
@@ -97,7 +95,7 @@ module _ {Row : Type 0} (l : Layout Row) (lawful : Lawful l) where
 
   -- Rows written one by one.
   pub rows-next : (new : Row) (more : List Row) (place : ℕ) (cells : List ℤ) → 1 + place * l .width ≤ length cells
-    → filled (l .width) (encode (l .put) (new ∷ more)) place cells ≡ filled (l .width) (encode (l .put) more) (place + 1) (replaced (l .put new) place cells)
+      → filled (l .width) (encode (l .put) (new ∷ more)) place cells ≡ filled (l .width) (encode (l .put) more) (place + 1) (replaced (l .put new) place cells)
   rows-next new more place cells fits =
       ap (λ (c : List ℤ). filled (l .width) c place cells) (encode-cons (l .put) new more)
       ∙ filled-next (l .width) (l .put new) place cells (encode (l .put) more) (lawful .put-length new) fits

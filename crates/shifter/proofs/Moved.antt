@@ -10,7 +10,6 @@ use lib.ListN.{length, getD, take, drop, set, length-append, length-take, length
 use lib.Seq.{take-suc, drop-cons, set-at, getD-take, length-take-le, take-length}
 
 module _ {A : Type 0} where
-
   -- The cells from `k` up to `used` stand `width` higher; those below `k` are still to be moved.
   abbrev pub movedUp : List A → ℕ → ℕ → ℕ → List A
   movedUp l used width k = take (k + width) l ++ (take (used - k) (drop k l) ++ drop (used + width) l)
@@ -33,9 +32,9 @@ module _ {A : Type 0} where
       let j-in-l : j < length l = omega arith in
       let full : length (take (j + width) l) ≡ j + width = length-take-le (j + width) l (omega arith) in
       let read : getD now j d ≡ getD l j d
-            = rw e (List·getD-append (take (suc j + width) l) _ d j (simp length-take (omega arith)) ∙ getD-take (suc j + width) l j d (omega arith)) in
+      = rw e (List·getD-append (take (suc j + width) l) _ d j (simp length-take (omega arith)) ∙ getD-take (suc j + width) l j d (omega arith)) in
       let seam : now ≡ take (j + width) l ++ (getD l (j + width) d ∷ (take (used - suc j) (drop (suc j) l) ++ drop (used + width) l))
-            = e ∙ rw (suc-add, take-suc l (j + width) d, append-assoc) refl in
+      = e ∙ rw (suc-add, take-suc l (j + width) d, append-assoc) refl in
       let left : used - j ≡ suc (used - suc j) = omega arith in
       rw (read, seam, set-at) (rw (left, drop-cons l j d) refl)
 

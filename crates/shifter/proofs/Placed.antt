@@ -14,7 +14,6 @@ use Rattle.shifter.specs.Insertion.{inserted, replaced, gapped}
 
 -- A row of a table with `count` rows, and the cells before and after it, as numbers of cells.
 module _ (width count place : ℕ) (below : place ≤ count) where
-
   pub rows-split : count * width ≡ place * width + (count - place) * width
   rows-split = let e : count ≡ place + (count - place) = omega arith in omega (arith, ap (λ x. x * width) e)
 
@@ -22,7 +21,6 @@ module _ (width count place : ℕ) (below : place ≤ count) where
   row-end = omega (arith, rows-split)
 
 module _ {A : Type 0} where
-
   -- Moved up by a row, then the row written over the first cells.
   pub shifted : (tail moved out row : List A) (used : ℕ) → used + length row ≤ length tail
       → moved ≡ take (length row) tail ++ (take used tail ++ drop (used + length row) tail)
@@ -55,7 +53,7 @@ raised-cell count added below = toZ-pos w64 (omega arith)
 -- `shift_in` on the part from row `place` on, and the count set: the row is inserted.
 pub insertion : (cells row part : List ℤ) (count place : ℕ) (raised : ℤ) → raised ≡ pos (suc count) → place ≤ count → 1 + suc count * length row ≤ length cells
     → part ≡ row ++ (take ((count - place) * length row) (midOf (1 + place * length row) (length cells - (1 + place * length row)) cells)
-        ++ drop ((count - place) * length row + length row) (midOf (1 + place * length row) (length cells - (1 + place * length row)) cells))
+    ++ drop ((count - place) * length row + length row) (midOf (1 + place * length row) (length cells - (1 + place * length row)) cells))
     → set (putMid (1 + place * length row) (length cells - (1 + place * length row)) cells part) 0 raised ≡ inserted row count place cells
 unfolding inserted
 insertion cells row part count place raised counted below fits e =
@@ -71,8 +69,8 @@ stay width place added cells =
 -- `move_up` on the part from row `place` on, and the count set: there is a gap.
 pub gap : (cells part : List ℤ) (width count place added : ℕ) (raised : ℤ) → raised ≡ pos (count + added) → place ≤ count → 1 + (count + added) * width ≤ length cells
     → part ≡ take (added * width) (midOf (1 + place * width) (length cells - (1 + place * width)) cells)
-        ++ (take ((count - place) * width) (midOf (1 + place * width) (length cells - (1 + place * width)) cells)
-        ++ drop ((count - place) * width + added * width) (midOf (1 + place * width) (length cells - (1 + place * width)) cells))
+    ++ (take ((count - place) * width) (midOf (1 + place * width) (length cells - (1 + place * width)) cells)
+    ++ drop ((count - place) * width + added * width) (midOf (1 + place * width) (length cells - (1 + place * width)) cells))
     → set (putMid (1 + place * width) (length cells - (1 + place * width)) cells part) 0 raised ≡ gapped width count place added cells
 unfolding gapped
 gap cells part width count place added raised counted below fits e =
@@ -81,7 +79,7 @@ gap cells part width count place added raised counted below fits e =
     let rest : List ℤ = take ((count - place) * width) (drop at cells) ++ drop (1 + (count + added) * width) cells in
     rw (counted, handed-back at cells part, set-first (place * width) cells part (pos (count + added)) (omega arith), e, to-the-end at cells, drop-drop, past)
     (ap (λ (c : List ℤ). pos (count + added) ∷ c)
-      (sym (append-assoc (take (place * width) (drop 1 cells)) (take (added * width) (drop at cells)) rest) ∙ ap (λ (c : List ℤ). c ++ rest) (stay width place added cells)))
+    (sym (append-assoc (take (place * width) (drop 1 cells)) (take (added * width) (drop at cells)) rest) ∙ ap (λ (c : List ℤ). c ++ rest) (stay width place added cells)))
 
 -- `overwrite` on the part from row `place` on: the row is replaced.
 pub replacement : (cells row part : List ℤ) (place : ℕ) → 1 + suc place * length row ≤ length cells

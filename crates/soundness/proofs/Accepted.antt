@@ -91,7 +91,8 @@ unfolding planTests bookingTests test
 booking-passed b tests e h =
     let p : Passed (bookingTests b e) = passed-then tests (bookingTests b e) (passed (tests ++ bookingTests b e) h) in
     record {
-    suffixes = p .0;
-    records-room = ltb-false (b .recordsRoom) (length (b .records) + length (e .added)) (p .1 .0);
-    positions-room = ltb-false (b .positionsRoom) (length (b .positions) + absentFrom positionKey (b .positions) (e .positions)) (p .1 .1 .0);
-    positions-sound = not-false (allOf (map soundPosition (e .positions))) (p .1 .1 .1 .0) }
+      suffixes = p .0;
+      records-room = ltb-false (b .recordsRoom) (length (b .records) + length (e .added)) (p .1 .0);
+      positions-room = ltb-false (b .positionsRoom) (length (b .positions) + absentFrom positionKey (b .positions) (e .positions)) (p .1 .1 .0);
+      positions-sound = not-false (allOf (map soundPosition (e .positions))) (p .1 .1 .1 .0);
+    }

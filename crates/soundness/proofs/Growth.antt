@@ -71,6 +71,7 @@ answered-growth b sound r a = go (planOn b r) (plan-facts b sound r a)
   where
     n : ℕ
     n = length (b .records)
+
     go : (plan : Plan) → PlanFacts b plan → pos (length (planBooks plan b .records)) ≡ pos n +ℤ rowsAnswered (planReply plan)
     go (booking tests e) f = ap pos (facts-records-grow b sound e f) ∙ ap (λ (z : ℤ). pos n +ℤ z) (sym (f .answered))
     go (question tests reply) f = sym (ap (λ (z : ℤ). pos n +ℤ z) f ∙ +ℤ-idr (pos n))

@@ -20,13 +20,14 @@ use Rattle.soundness.proofs.Growth.{facts-records-grow, facts-positions
 pub booked-sound : (b : Books) → SoundBooks b → (e : Effects) → BookingFacts b e → BookingPassed b e → SoundBooks (booked e b)
 unfolding booked
 booked-sound b sound e f p = record {
-    records-rise = upsertAll-rises recordKey (e .changed ++ e .added) (b .records) (sound .records-rise);
-    records-sound = all-upsertAll recordKey soundRecord (e .changed ++ e .added) (b .records)
-        (allOf-append soundRecord (e .changed) (e .added) (f .changed-sound) (f .added-sound)) (sound .records-sound);
-    records-fit = omega (arith, facts-records-grow b sound e f, p .records-room);
-    positions-rise = upsertAll-rises positionKey (e .positions) (b .positions) (sound .positions-rise);
-    positions-sound = all-upsertAll positionKey soundPosition (e .positions) (b .positions) (p .positions-sound) (sound .positions-sound);
-    positions-fit = omega (arith, facts-positions-grow b sound e f, p .positions-room) }
+  records-rise = upsertAll-rises recordKey (e .changed ++ e .added) (b .records) (sound .records-rise);
+  records-sound = all-upsertAll recordKey soundRecord (e .changed ++ e .added) (b .records)
+      (allOf-append soundRecord (e .changed) (e .added) (f .changed-sound) (f .added-sound)) (sound .records-sound);
+  records-fit = omega (arith, facts-records-grow b sound e f, p .records-room);
+  positions-rise = upsertAll-rises positionKey (e .positions) (b .positions) (sound .positions-rise);
+  positions-sound = all-upsertAll positionKey soundPosition (e .positions) (b .positions) (p .positions-sound) (sound .positions-sound);
+  positions-fit = omega (arith, facts-positions-grow b sound e f, p .positions-room);
+}
 
 pub kept : (b : Books) → SoundBooks b → (r : Request) → Accepts b r → SoundBooks (after b r)
 unfolding planBooks

@@ -98,13 +98,14 @@ merge-facts b sound id account series pairs accepted =
     let i : validId id ≡ true = id-valid id account series pairs (p .figures) in
     let a : anyOf (map suffixIsAbove (inverses ++ (merged ∷ []))) ≡ false = booking-passed b _ _ accepted .suffixes in
     record {
-    changed-present = sources-present b ks n;
-    changed-sound = sources-sound b ks n;
-    added-absent = only-append recordKey (λ (k : Key). not (isSome (find recordKey k t))) inverses (merged ∷ [])
-        (later-absent t inverses (later-weaker (nextAfter t []) (nextOf t) (next-after t []) inverses (inverses-later b id [] ks n)))
-        (lacksAll-intro recordKey t merged [] (greatest-none recordKey id (pos 0) t (p .id-is-new)) allOf-nil);
-    added-distinct = distinct-last inverses merged (inverses-differ b id [] ks n) (inverses-apart b id id (p .id-is-new) [] ks n);
-    added-sound = allOf-append soundRecord inverses (merged ∷ []) (inverses-sound b id (into-valid id i) [] ks n (anyOf-first suffixIsAbove inverses (merged ∷ []) a))
-        (allOf-intro (soundRecord merged) [] (merged-sound b id ks n (sources-several id account series pairs (p .figures)) i (p .sum-small)) allOf-nil);
-    positions-distinct = distinct-intro positionKey (moved (readAt account series (b .positions)) (pos 0) (pos 0) (mergeResidual (recordsAt b ks))) [] allOf-nil (distinct-nil positionKey);
-    answered = ap pos (omega (arith, inverses-count b id [] ks, length-append inverses (merged ∷ []))) }
+      changed-present = sources-present b ks n;
+      changed-sound = sources-sound b ks n;
+      added-absent = only-append recordKey (λ (k : Key). not (isSome (find recordKey k t))) inverses (merged ∷ [])
+          (later-absent t inverses (later-weaker (nextAfter t []) (nextOf t) (next-after t []) inverses (inverses-later b id [] ks n)))
+          (lacksAll-intro recordKey t merged [] (greatest-none recordKey id (pos 0) t (p .id-is-new)) allOf-nil);
+      added-distinct = distinct-last inverses merged (inverses-differ b id [] ks n) (inverses-apart b id id (p .id-is-new) [] ks n);
+      added-sound = allOf-append soundRecord inverses (merged ∷ []) (inverses-sound b id (into-valid id i) [] ks n (anyOf-first suffixIsAbove inverses (merged ∷ []) a))
+          (allOf-intro (soundRecord merged) [] (merged-sound b id ks n (sources-several id account series pairs (p .figures)) i (p .sum-small)) allOf-nil);
+      positions-distinct = distinct-intro positionKey (moved (readAt account series (b .positions)) (pos 0) (pos 0) (mergeResidual (recordsAt b ks))) [] allOf-nil (distinct-nil positionKey);
+      answered = ap pos (omega (arith, inverses-count b id [] ks, length-append inverses (merged ∷ [])));
+    }

@@ -37,12 +37,13 @@ merge-passed b id account series pairs accepted =
     let sources : List Source = sourcesOf (viewOf b) (pairsOf pairs) in
     let p = own-passed b _ _ accepted in
     record {
-    figures = not-false (mergeFigures id account series pairs) (p .0);
-    id-is-new = isSome-absent (viewOf b .greatestSuffix id) (p .1 .0);
-    sources-found = p .1 .1 .0;
-    sources-here = p .1 .1 .1 .0;
-    sources-adjustable = p .1 .1 .1 .1 .0;
-    sources-to-open = p .1 .1 .1 .1 .1 .0;
-    sources-differ = p .1 .1 .1 .1 .1 .1 .0;
-    sources-on-one-side = p .1 .1 .1 .1 .1 .1 .1 .0;
-    sum-small = ltZ-le (pos mostQuantity) (sumOfQuantities (recordsOf sources)) (p .1 .1 .1 .1 .1 .1 .1 .1 .0) }
+      figures = not-false (mergeFigures id account series pairs) (p .0);
+      id-is-new = isSome-absent (viewOf b .greatestSuffix id) (p .1 .0);
+      sources-found = p .1 .1 .0;
+      sources-here = p .1 .1 .1 .0;
+      sources-adjustable = p .1 .1 .1 .1 .0;
+      sources-to-open = p .1 .1 .1 .1 .1 .0;
+      sources-differ = p .1 .1 .1 .1 .1 .1 .0;
+      sources-on-one-side = p .1 .1 .1 .1 .1 .1 .1 .0;
+      sum-small = ltZ-le (pos mostQuantity) (sumOfQuantities (recordsOf sources)) (p .1 .1 .1 .1 .1 .1 .1 .1 .0);
+    }

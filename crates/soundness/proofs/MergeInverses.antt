@@ -40,6 +40,7 @@ times-more e earlier id = go (split (eqZ e id))
   where
     n : ℤ
     n = timesIn earlier id
+
     go : (eqZ e id ≡ true) ⊎ (eqZ e id ≡ false) → n ≤ℤ (cond (eqZ e id) (pos 1) (pos 0) +ℤ n)
     go (inl h) = rw h (omega (zarith, +-lin (pos 1) n))
     go (inr h) = rw h (omega (zarith, +-lin (pos 0) n))
@@ -80,7 +81,6 @@ unfolding validKind eqZ
 merge-kind = refl
 
 module _ (b : Books) (into : ℤ) where
-
   -- A source's inverse row after these, and all of them.
   abbrev pub inverseOf : List ℤ → Key → Record
   inverseOf earlier k = inverseRecord (recordOf (b .records) k) (nextAfter (b .records) earlier (k .major)) mergeKind (pos 0) (pos 0) into

@@ -38,9 +38,10 @@ unfolding sourcesOf recordsOf viewOf isMissing
 all-named b [] all m a = tt
 all-named b (k ∷ ks) all m a =
     let r : Record = recordOf (b .records) k in
-    let here : isSome (find recordKey k (b .records)) ≡ true = not-false (isSome (find recordKey k (b .records))) (anyOf-head (not (isSome (find recordKey k (b .records)))) (map isMissing (sourcesOf (viewOf b) ks)) m) in
-    (named (b .records) k all here (anyOf-head (isNotAdjustable r) (map isNotAdjustable (recordsAt b ks)) a),
-    all-named b ks all (anyOf-tail (not (isSome (find recordKey k (b .records)))) (map isMissing (sourcesOf (viewOf b) ks)) m) (anyOf-tail (isNotAdjustable r) (map isNotAdjustable (recordsAt b ks)) a))
+    let here : isSome (find recordKey k (b .records)) ≡ true = not-false (isSome (find recordKey k (b .records))) (anyOf-head (not (isSome (find recordKey k (b .records)))) (map isMissing (sourcesOf (viewOf b) ks)) m) in (
+      named (b .records) k all here (anyOf-head (isNotAdjustable r) (map isNotAdjustable (recordsAt b ks)) a),
+      all-named b ks all (anyOf-tail (not (isSome (find recordKey k (b .records)))) (map isMissing (sourcesOf (viewOf b) ks)) m) (anyOf-tail (isNotAdjustable r) (map isNotAdjustable (recordsAt b ks)) a),
+    )
 
 -- ---- in their new status
 
@@ -71,8 +72,9 @@ one-more q p qs vs h k s =
     let high : natAbs vs ≤ natAbs qs * 1000000000000 = s .value-bounded in
     let value : natAbs (q *ℤ p) ≤ natAbs q * 1000000000000 = natAbs-mul-≤ q p (le-refl (natAbs q)) k in
     record {
-    not-negative = omega (zarith, +-lin q qs);
-    value-bounded = omega (zarith, natAbs-+ℤ (q *ℤ p) vs, +-lin q qs, abs-lin q, abs-lin qs, abs-lin (q +ℤ qs)) }
+      not-negative = omega (zarith, +-lin q qs);
+      value-bounded = omega (zarith, natAbs-+ℤ (q *ℤ p) vs, +-lin q qs, abs-lin q, abs-lin qs, abs-lin (q +ℤ qs));
+    }
 
 pub sums : (b : Books) (ks : List Key) → AllNamed (b .records) ks → Sums (sumOfQuantities (recordsAt b ks)) (sumOfValues (recordsAt b ks))
 unfolding sourcesOf recordsOf viewOf sumOfQuantities sumOfValues

@@ -74,11 +74,15 @@ named t k all h n =
     let s : SoundRecord r = record-sound r (find-all recordKey soundRecord k t r all f) in
     let a : r .status ≡ adjustable = eqZ-true (r .status) adjustable (not-false (eqZ (r .status) adjustable) n) in
     record {
-    stands = f; key = e; sound = s; status = a;
-    positive = quantity-of r s a .0;
-    small = quantity-of r s a .1;
-    next-above = subst (λ (x : Key). x .minor <ℤ nextOf t (k .major)) (sym e) (stands-below-next t (k .major) (k .minor) r f);
-    next-reached = subst (λ (x : Key). nextOf t (x .major) ≤ℤ nextOf t (k .major)) (sym e) (≤ℤ-refl (nextOf t (k .major))) }
+      stands = f;
+      key = e;
+      sound = s;
+      status = a;
+      positive = quantity-of r s a .0;
+      small = quantity-of r s a .1;
+      next-above = subst (λ (x : Key). x .minor <ℤ nextOf t (k .major)) (sym e) (stands-below-next t (k .major) (k .minor) r f);
+      next-reached = subst (λ (x : Key). nextOf t (x .major) ≤ℤ nextOf t (k .major)) (sym e) (≤ℤ-refl (nextOf t (k .major)));
+    }
 
 -- The record in its new status has the key at which it stands.
 pub adjusted-stands : (t : List Record) (k : Key) → Named t k → find recordKey (recordKey (adjustedRecord (recordOf t k))) t ≡ some (recordOf t k)

@@ -48,9 +48,10 @@ separation-passed b id suffix account series parts accepted =
     let p = own-passed b _ _ accepted in
     let figures : Bool = validId id && validSuffix suffix && validAccount account && validSeries series && validCount (length parts) in
     record {
-    parts-valid = and-right figures (allOf (map validQuantity parts)) (not-false (separationFigures id suffix account series parts) (p .0));
-    record-found = not-false (isSome (find recordKey (keyOf id suffix) (b .records))) (p .1 .0);
-    record-adjustable = p .1 .1 .1 .0 }
+      parts-valid = and-right figures (allOf (map validQuantity parts)) (not-false (separationFigures id suffix account series parts) (p .0));
+      record-found = not-false (isSome (find recordKey (keyOf id suffix) (b .records))) (p .1 .0);
+      record-adjustable = p .1 .1 .1 .0;
+    }
 
 -- ---- the rows of the parts, from a suffix on
 
@@ -113,18 +114,19 @@ separation-facts b sound id suffix account series parts accepted =
     let up : r .suffix <ℤ next = n .next-above in
     let reached : nextOf t (r .id) ≤ℤ next = n .next-reached in
     record {
-    changed-present = hasAll-intro recordKey t (adjustedRecord r) r [] (adjusted-stands t k n) allOf-nil;
-    changed-sound = allOf-intro (soundRecord (adjustedRecord r)) [] (adjusted-sound r (n .sound) (n .status)) allOf-nil;
-    added-absent = later-absent t (inverted ∷ partRecords r later parts)
-        (only-intro recordKey (atLeastOf (nextOf t)) inverted (partRecords r later parts) (at-least (nextOf t) inverted reached)
-        (parts-later (nextOf t) r later parts (omega (zarith, +-lin next (pos 1)))));
-    added-distinct = distinct-intro recordKey inverted (partRecords r later parts)
-        (before-differs (λ (id : ℤ). later) inverted (partRecords r later parts) (below-next next) (parts-later (λ (id : ℤ). later) r later parts (≤ℤ-refl later)))
-        (parts-differ r later parts);
-    added-sound = allOf-intro (soundRecord inverted) (map soundRecord (partRecords r later parts))
-        (inverse-sound r (n .sound) (n .status) next up (suffix-small inverted (anyOf-head (suffixIsAbove inverted) (map suffixIsAbove (partRecords r later parts)) a))
-        separationKind (pos 0) (pos 0) (pos 0) kind-valid nothing-booked nothing-booked into-zero)
-        (parts-sound r (n .sound) (n .status) later parts (omega (zarith, +-lin next (pos 1)))
-        (anyOf-tail (suffixIsAbove inverted) (map suffixIsAbove (partRecords r later parts)) a) (p .parts-valid));
-    positions-distinct = distinct-nil positionKey;
-    answered = ap pos (omega (arith, parts-count r later parts)) }
+      changed-present = hasAll-intro recordKey t (adjustedRecord r) r [] (adjusted-stands t k n) allOf-nil;
+      changed-sound = allOf-intro (soundRecord (adjustedRecord r)) [] (adjusted-sound r (n .sound) (n .status)) allOf-nil;
+      added-absent = later-absent t (inverted ∷ partRecords r later parts)
+          (only-intro recordKey (atLeastOf (nextOf t)) inverted (partRecords r later parts) (at-least (nextOf t) inverted reached)
+          (parts-later (nextOf t) r later parts (omega (zarith, +-lin next (pos 1)))));
+      added-distinct = distinct-intro recordKey inverted (partRecords r later parts)
+          (before-differs (λ (id : ℤ). later) inverted (partRecords r later parts) (below-next next) (parts-later (λ (id : ℤ). later) r later parts (≤ℤ-refl later)))
+          (parts-differ r later parts);
+      added-sound = allOf-intro (soundRecord inverted) (map soundRecord (partRecords r later parts))
+          (inverse-sound r (n .sound) (n .status) next up (suffix-small inverted (anyOf-head (suffixIsAbove inverted) (map suffixIsAbove (partRecords r later parts)) a))
+          separationKind (pos 0) (pos 0) (pos 0) kind-valid nothing-booked nothing-booked into-zero)
+          (parts-sound r (n .sound) (n .status) later parts (omega (zarith, +-lin next (pos 1)))
+          (anyOf-tail (suffixIsAbove inverted) (map suffixIsAbove (partRecords r later parts)) a) (p .parts-valid));
+      positions-distinct = distinct-nil positionKey;
+      answered = ap pos (omega (arith, parts-count r later parts));
+    }

@@ -46,5 +46,18 @@ record-sound r h =
     let p12 = both _ _ (p11 .0) in
     let p13 = both _ _ (p12 .0) in
     record {
-    id = p13 .0; suffix = p13 .1; parent = p12 .1; kind = p11 .1; status = p10 .1; account = p9 .1; series = p8 .1; side = p7 .1;
-    quantity = p6 .1; price = p5 .1; long = p4 .1; short = p3 .1; into = p2 .1; parent-below = p1 .1 }
+      id = p13 .0;
+      suffix = p13 .1;
+      parent = p12 .1;
+      kind = p11 .1;
+      status = p10 .1;
+      account = p9 .1;
+      series = p8 .1;
+      side = p7 .1;
+      quantity = p6 .1;
+      price = p5 .1;
+      long = p4 .1;
+      short = p3 .1;
+      into = p2 .1;
+      parent-below = p1 .1;
+    }

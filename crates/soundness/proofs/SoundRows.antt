@@ -59,24 +59,47 @@ unfolding newRecord eqZ
 new-sound id kind account series side quantity price long short i k a s d q₀ q₁ p l m =
     sound-record (newRecord id kind account series side quantity price long short)
     (record {
-    id = i; suffix = suffix-zero; parent = suffix-zero; kind = k; status = status-adjustable; account = a; series = s; side = d;
-    quantity = in-signed adjustable quantity refl q₀ q₁; price = p; long = l; short = m; into = into-zero; parent-below = parent-zero })
+      id = i;
+      suffix = suffix-zero;
+      parent = suffix-zero;
+      kind = k;
+      status = status-adjustable;
+      account = a;
+      series = s;
+      side = d;
+      quantity = in-signed adjustable quantity refl q₀ q₁;
+      price = p;
+      long = l;
+      short = m;
+      into = into-zero;
+      parent-below = parent-zero;
+    })
 
 -- From a sound record of status 0.
 module _ (r : Record) (s : SoundRecord r) (e : r .status ≡ adjustable) where
-
   pub adjusted-sound : soundRecord (adjustedRecord r) ≡ true
   unfolding adjustedRecord eqZ
   adjusted-sound =
       sound-record (adjustedRecord r)
       (record {
-      id = s .id; suffix = s .suffix; parent = s .parent; kind = s .kind; status = status-adjusted; account = s .account; series = s .series; side = s .side;
-      quantity = in-signed adjusted (r .quantity) refl (quantity-of r s e .0) (quantity-of r s e .1);
-      price = s .price; long = s .long; short = s .short; into = s .into; parent-below = s .parent-below })
+        id = s .id;
+        suffix = s .suffix;
+        parent = s .parent;
+        kind = s .kind;
+        status = status-adjusted;
+        account = s .account;
+        series = s .series;
+        side = s .side;
+        quantity = in-signed adjusted (r .quantity) refl (quantity-of r s e .0) (quantity-of r s e .1);
+        price = s .price;
+        long = s .long;
+        short = s .short;
+        into = s .into;
+        parent-below = s .parent-below;
+      })
 
   -- A row that comes out of it has a greater suffix.
   module _ (suffix : ℤ) (above : r .suffix <ℤ suffix) (small : suffix ≤ℤ greatestOfSuffixes) where
-
     later-suffix : validSuffix suffix ≡ true
     later-suffix = let low : pos 0 ≤ℤ r .suffix = suffix-range (r .suffix) (s .suffix) .0 in in-suffix suffix (omega zarith) small
 
@@ -86,9 +109,21 @@ module _ (r : Record) (s : SoundRecord r) (e : r .status ≡ adjustable) where
     inverse-sound kind long short into k l m i =
         sound-record (inverseRecord r suffix kind long short into)
         (record {
-        id = s .id; suffix = later-suffix; parent = s .suffix; kind = k; status = status-inverse; account = s .account; series = s .series; side = s .side;
-        quantity = inverse-signed (r .quantity) (quantity-of r s e .0) (quantity-of r s e .1);
-        price = s .price; long = l; short = m; into = i; parent-below = in-parent (r .suffix) suffix above })
+          id = s .id;
+          suffix = later-suffix;
+          parent = s .suffix;
+          kind = k;
+          status = status-inverse;
+          account = s .account;
+          series = s .series;
+          side = s .side;
+          quantity = inverse-signed (r .quantity) (quantity-of r s e .0) (quantity-of r s e .1);
+          price = s .price;
+          long = l;
+          short = m;
+          into = i;
+          parent-below = in-parent (r .suffix) suffix above;
+        })
 
     pub adjustable-sound : (kind account quantity long short : ℤ) → validKind kind ≡ true → validAccount account ≡ true → pos 1 ≤ℤ quantity → quantity ≤ℤ pos mostQuantity →
         validBooked long ≡ true → validBooked short ≡ true → soundRecord (adjustableRecord r suffix kind account quantity long short) ≡ true
@@ -96,6 +131,18 @@ module _ (r : Record) (s : SoundRecord r) (e : r .status ≡ adjustable) where
     adjustable-sound kind account quantity long short k a q₀ q₁ l m =
         sound-record (adjustableRecord r suffix kind account quantity long short)
         (record {
-        id = s .id; suffix = later-suffix; parent = s .suffix; kind = k; status = status-adjustable; account = a; series = s .series; side = s .side;
-        quantity = in-signed adjustable quantity refl q₀ q₁;
-        price = s .price; long = l; short = m; into = into-zero; parent-below = in-parent (r .suffix) suffix above })
+          id = s .id;
+          suffix = later-suffix;
+          parent = s .suffix;
+          kind = k;
+          status = status-adjustable;
+          account = a;
+          series = s .series;
+          side = s .side;
+          quantity = in-signed adjustable quantity refl q₀ q₁;
+          price = s .price;
+          long = l;
+          short = m;
+          into = into-zero;
+          parent-below = in-parent (r .suffix) suffix above;
+        })

@@ -55,13 +55,14 @@ trade-passed b id account series side quantity price accepted =
     let f4 = both _ _ (f3 .0) in
     let f5 = both _ _ (f4 .0) in
     record {
-    id-valid = f5 .0;
-    account-valid = f5 .1;
-    series-valid = f4 .1;
-    side-valid = f3 .1;
-    quantity-valid = f2 .1;
-    price-valid = f1 .1;
-    id-is-new = isSome-absent (viewOf b .greatestSuffix id) (p .1 .0) }
+      id-valid = f5 .0;
+      account-valid = f5 .1;
+      series-valid = f4 .1;
+      side-valid = f3 .1;
+      quantity-valid = f2 .1;
+      price-valid = f1 .1;
+      id-is-new = isSome-absent (viewOf b .greatestSuffix id) (p .1 .0);
+    }
 
 -- ---- what it books
 
@@ -91,12 +92,12 @@ closed-range side quantity p h q = go (split (isToClose side))
   where
     c : ℤ
     c = smaller quantity (openAgainst side p)
+
     go : (isToClose side ≡ true) ⊎ (isToClose side ≡ false) → (pos 0 ≤ℤ cond (isToClose side) c (pos 0)) × (cond (isToClose side) c (pos 0) ≤ℤ quantity)
     go (inl e) = rw e (smaller-range quantity (openAgainst side p) (omega zarith) (open-positive side p h))
     go (inr e) = rw e (omega zarith, omega zarith)
 
 module _ (side quantity c : ℤ) (low : pos 0 ≤ℤ c) (high : c ≤ℤ quantity) (most : quantity ≤ℤ pos mostQuantity) where
-
   rest-booked : validBooked (quantity -ℤ c) ≡ true
   rest-booked = in-booked (quantity -ℤ c) (omega (zarith, minus-lin quantity c)) (omega (zarith, minus-lin quantity c))
 
@@ -143,13 +144,14 @@ trade-facts b sound id account series side quantity price accepted =
     let q : (pos 1 ≤ℤ quantity) × (quantity ≤ℤ pos mostQuantity) = quantity-range quantity (p .quantity-valid) in
     let closed : (pos 0 ≤ℤ c) × (c ≤ℤ quantity) = closed-range side quantity old (read-sound account series (b .positions) (sound .positions-sound)) (q .0) in
     record {
-    changed-present = allOf-nil;
-    changed-sound = allOf-nil;
-    added-absent = lacksAll-intro recordKey (b .records) row [] (greatest-none recordKey id (pos 0) (b .records) (p .id-is-new)) allOf-nil;
-    added-distinct = distinct-intro recordKey row [] allOf-nil (distinct-nil recordKey);
-    added-sound = allOf-intro (soundRecord row) []
-        (new-sound id (tradeKind error) account series side quantity price long short (p .id-valid) (kind-valid error) (p .account-valid) (p .series-valid) (p .side-valid)
-        (q .0) (q .1) (p .price-valid) (long-booked side quantity c (closed .0) (closed .1) (q .1)) (short-booked side quantity c (closed .0) (closed .1) (q .1)))
-        allOf-nil;
-    positions-distinct = distinct-intro positionKey (moved old long short (pos 0)) [] allOf-nil (distinct-nil positionKey);
-    answered = one-row error (quantity -ℤ c) }
+      changed-present = allOf-nil;
+      changed-sound = allOf-nil;
+      added-absent = lacksAll-intro recordKey (b .records) row [] (greatest-none recordKey id (pos 0) (b .records) (p .id-is-new)) allOf-nil;
+      added-distinct = distinct-intro recordKey row [] allOf-nil (distinct-nil recordKey);
+      added-sound = allOf-intro (soundRecord row) []
+          (new-sound id (tradeKind error) account series side quantity price long short (p .id-valid) (kind-valid error) (p .account-valid) (p .series-valid) (p .side-valid)
+          (q .0) (q .1) (p .price-valid) (long-booked side quantity c (closed .0) (closed .1) (q .1)) (short-booked side quantity c (closed .0) (closed .1) (q .1)))
+          allOf-nil;
+      positions-distinct = distinct-intro positionKey (moved old long short (pos 0)) [] allOf-nil (distinct-nil positionKey);
+      answered = one-row error (quantity -ℤ c);
+    }

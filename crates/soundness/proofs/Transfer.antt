@@ -52,10 +52,11 @@ transfer-passed b id suffix from to series accepted =
     let all : transferFigures id suffix from to series ≡ true = not-false (transferFigures id suffix from to series) (p .0) in
     let ranges : (first && validAccount to && validSeries series) ≡ true = and-left (first && validAccount to && validSeries series) (not (eqZ from to)) all in
     record {
-    to-valid = and-right first (validAccount to) (and-left (first && validAccount to) (validSeries series) ranges);
-    accounts-differ = not-true (eqZ from to) (and-right (first && validAccount to && validSeries series) (not (eqZ from to)) all);
-    record-found = not-false (isSome (find recordKey (keyOf id suffix) (b .records))) (p .1 .0);
-    record-adjustable = p .1 .1 .1 .0 }
+      to-valid = and-right first (validAccount to) (and-left (first && validAccount to) (validSeries series) ranges);
+      accounts-differ = not-true (eqZ from to) (and-right (first && validAccount to && validSeries series) (not (eqZ from to)) all);
+      record-found = not-false (isSome (find recordKey (keyOf id suffix) (b .records))) (p .1 .0);
+      record-adjustable = p .1 .1 .1 .0;
+    }
 
 -- ---- its rows and positions
 
@@ -109,25 +110,26 @@ transfer-facts b sound id suffix from to series accepted =
     let out : validBooked (negℤ q) ≡ true = in-booked (negℤ q) (omega (zarith, neg-lin q)) (omega (zarith, neg-lin q)) in
     let back : validBooked q ≡ true = in-booked q (omega zarith) high in
     record {
-    changed-present = hasAll-intro recordKey t (adjustedRecord r) r [] (adjusted-stands t k n) allOf-nil;
-    changed-sound = allOf-intro (soundRecord (adjustedRecord r)) [] (adjusted-sound r (n .sound) (n .status)) allOf-nil;
-    added-absent = later-absent t (inverted ∷ arrived ∷ [])
-        (only-intro recordKey (atLeastOf (nextOf t)) inverted (arrived ∷ []) (at-least (nextOf t) inverted reached)
-        (only-intro recordKey (atLeastOf (nextOf t)) arrived [] (at-least (nextOf t) arrived (omega (zarith, +-lin next (pos 1)))) allOf-nil));
-    added-distinct = distinct-intro recordKey inverted (arrived ∷ [])
-        (before-differs (λ (id : ℤ). later) inverted (arrived ∷ []) (below-next next)
-        (only-intro recordKey (atLeastOf (λ (id : ℤ). later)) arrived [] (at-least (λ (id : ℤ). later) arrived (≤ℤ-refl later)) allOf-nil))
-        (distinct-intro recordKey arrived [] allOf-nil (distinct-nil recordKey));
-    added-sound = allOf-intro (soundRecord inverted) (soundRecord arrived ∷ [])
-        (inverse-sound r (n .sound) (n .status) next up (suffix-small inverted (anyOf-head (suffixIsAbove inverted) (suffixIsAbove arrived ∷ []) a))
-        transferKind (inLong (r .side) (negℤ q)) (inShort (r .side) (negℤ q)) (pos 0) kind-valid (long-booked (r .side) (negℤ q) out) (short-booked (r .side) (negℤ q) out) into-zero)
-        (allOf-intro (soundRecord arrived) []
-        (adjustable-sound r (n .sound) (n .status) later (omega (zarith, +-lin next (pos 1)))
-        (suffix-small arrived (anyOf-head (suffixIsAbove arrived) [] (anyOf-tail (suffixIsAbove inverted) (suffixIsAbove arrived ∷ []) a)))
-        transferKind to q (inLong (r .side) q) (inShort (r .side) q) kind-valid (p .to-valid) low high (long-booked (r .side) q back) (short-booked (r .side) q back))
-        allOf-nil);
-    positions-distinct = positions-differ
-        (moved (readAt from series (b .positions)) (inLong (r .side) (negℤ q)) (inShort (r .side) (negℤ q)) (pos 0))
-        (moved (readAt to series (b .positions)) (inLong (r .side) q) (inShort (r .side) q) (pos 0))
-        from to series (p .accounts-differ) (read-key from series (b .positions)) (read-key to series (b .positions));
-    answered = refl }
+      changed-present = hasAll-intro recordKey t (adjustedRecord r) r [] (adjusted-stands t k n) allOf-nil;
+      changed-sound = allOf-intro (soundRecord (adjustedRecord r)) [] (adjusted-sound r (n .sound) (n .status)) allOf-nil;
+      added-absent = later-absent t (inverted ∷ arrived ∷ [])
+          (only-intro recordKey (atLeastOf (nextOf t)) inverted (arrived ∷ []) (at-least (nextOf t) inverted reached)
+          (only-intro recordKey (atLeastOf (nextOf t)) arrived [] (at-least (nextOf t) arrived (omega (zarith, +-lin next (pos 1)))) allOf-nil));
+      added-distinct = distinct-intro recordKey inverted (arrived ∷ [])
+          (before-differs (λ (id : ℤ). later) inverted (arrived ∷ []) (below-next next)
+          (only-intro recordKey (atLeastOf (λ (id : ℤ). later)) arrived [] (at-least (λ (id : ℤ). later) arrived (≤ℤ-refl later)) allOf-nil))
+          (distinct-intro recordKey arrived [] allOf-nil (distinct-nil recordKey));
+      added-sound = allOf-intro (soundRecord inverted) (soundRecord arrived ∷ [])
+          (inverse-sound r (n .sound) (n .status) next up (suffix-small inverted (anyOf-head (suffixIsAbove inverted) (suffixIsAbove arrived ∷ []) a))
+          transferKind (inLong (r .side) (negℤ q)) (inShort (r .side) (negℤ q)) (pos 0) kind-valid (long-booked (r .side) (negℤ q) out) (short-booked (r .side) (negℤ q) out) into-zero)
+          (allOf-intro (soundRecord arrived) []
+          (adjustable-sound r (n .sound) (n .status) later (omega (zarith, +-lin next (pos 1)))
+          (suffix-small arrived (anyOf-head (suffixIsAbove arrived) [] (anyOf-tail (suffixIsAbove inverted) (suffixIsAbove arrived ∷ []) a)))
+          transferKind to q (inLong (r .side) q) (inShort (r .side) q) kind-valid (p .to-valid) low high (long-booked (r .side) q back) (short-booked (r .side) q back))
+          allOf-nil);
+      positions-distinct = positions-differ
+          (moved (readAt from series (b .positions)) (inLong (r .side) (negℤ q)) (inShort (r .side) (negℤ q)) (pos 0))
+          (moved (readAt to series (b .positions)) (inLong (r .side) q) (inShort (r .side) q) (pos 0))
+          from to series (p .accounts-differ) (read-key from series (b .positions)) (read-key to series (b .positions));
+      answered = refl;
+    }

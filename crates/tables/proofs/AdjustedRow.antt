@@ -30,7 +30,6 @@ unfolding adjustedRecord
 adjusted-key r = refl
 
 module _ (cells : List ℤ) (table : SoundRecords cells) (row : ℕ) (within : row < length (rowsOf recordsLayout cells)) where
-
   there : rowFound 13 (recordKey (recordAt cells (1 + row * 13))) (natAbs (countOf cells)) cells ≡ Row row
   there = row-there recordsLayout recordKey records-first cells row (table .rows-rise) within
 
@@ -43,7 +42,7 @@ module _ (cells : List ℤ) (table : SoundRecords cells) (row : ℕ) (within : r
   row-cells = omega (arith, table .rows-within, mul-le-mul-right 13 within)
 
   pub row-adjusted : recordAt cells (1 + row * 13) .status ≡ pos 0
-    → (set cells (1 + row * 13 + 4) (pos 1) ≡ write recordsLayout cells (upsert recordKey (adjustedRecord (recordAt cells (1 + row * 13))) (rowsOf recordsLayout cells)))
+      → (set cells (1 + row * 13 + 4) (pos 1) ≡ write recordsLayout cells (upsert recordKey (adjustedRecord (recordAt cells (1 + row * 13))) (rowsOf recordsLayout cells)))
       × (soundRecords (set cells (1 + row * 13 + 4) (pos 1)) ≡ true)
   unfolding soundRecords
   row-adjusted open-status =

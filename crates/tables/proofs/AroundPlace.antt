@@ -23,13 +23,12 @@ use Rattle.lookup.proofs.Clauses.{placeFrom-nil}
 use Rattle.lookup.proofs.RowPlaced.{place-lower, place-upper}
 
 module _ {A : Type 0} (key : A → Key) where
-
   pub before-place : (k : Key) (rows : List A) → find key k rows ≡ none → allBelow key k (take (placeFrom 0 k (map key rows)) rows) ≡ true
   before-place k [] h = rw (placeFrom-nil 0 k) allOf-nil
   before-place k (r ∷ rest) h = go (before-place k rest) (way k (key r))
     where
       go : (find key k rest ≡ none → allBelow key k (take (placeFrom 0 k (map key rest)) rest) ≡ true) → Way k (key r)
-        → allBelow key k (take (placeFrom 0 k (map key (r ∷ rest))) (r ∷ rest)) ≡ true
+          → allBelow key k (take (placeFrom 0 k (map key (r ∷ rest))) (r ∷ rest)) ≡ true
       go ih (lower b s a) = rw (place-lower key k r rest b) allOf-nil
       go ih (level e s b a) = none-some h (find-here key k r rest (same-sym (key r) k ∙ s))
       go ih (upper a s b) =
@@ -41,7 +40,7 @@ module _ {A : Type 0} (key : A → Key) where
   from-place k (r ∷ rest) h = go (from-place k rest (rising-tail key r rest h)) (split (below k (key r)))
     where
       go : belowAll key k (drop (placeFrom 0 k (map key rest)) rest) ≡ true → (below k (key r) ≡ true) ⊎ (below k (key r) ≡ false)
-        → belowAll key k (drop (placeFrom 0 k (map key (r ∷ rest))) (r ∷ rest)) ≡ true
+          → belowAll key k (drop (placeFrom 0 k (map key (r ∷ rest))) (r ∷ rest)) ≡ true
       go ih (inl b) = rw (place-lower key k r rest b) (belowAll-intro key k r rest b (belowAll-lower key k (key r) rest b (rising-head key r rest h)))
       go ih (inr b) = rw (place-upper key k r rest b) ih
 
@@ -59,7 +58,7 @@ module _ {A : Type 0} (key : A → Key) where
   absent-past k (suc p) (r ∷ rest) h = absent-past k p rest (absent-rest k r rest h)
 
   pub later-above : (m s t : ℤ) (rows : List A) → ((j : ℤ) → s ≤ℤ j → find key (keyOf m j) rows ≡ none) → belowAll key (keyOf m s) rows ≡ true
-    → belowAll key (keyOf m t) rows ≡ true
+      → belowAll key (keyOf m t) rows ≡ true
   later-above m s t [] free a = a
   later-above m s t (r ∷ rest) free a =
       belowAll-intro key (keyOf m t) r rest (go (below-cases (keyOf m s) (key r) (belowAll-head key (keyOf m s) r rest a)))

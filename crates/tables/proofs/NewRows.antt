@@ -48,22 +48,22 @@ numbered-rise id suffix (x ∷ y ∷ rest) n =
     and-intro b (numbered-rise id (suffix +ℤ pos 1) (y ∷ rest) (n .1))
 
 numbered-between : (id next : ℤ) (news pre post : List Record) → numbered id next news
-  → allBelow recordKey (keyOf id next) pre ≡ true → belowAll recordKey (keyOf id next) post ≡ true
-  → ((s : ℤ) → next ≤ℤ s → find recordKey (keyOf id s) post ≡ none) → Between recordKey pre post news
+    → allBelow recordKey (keyOf id next) pre ≡ true → belowAll recordKey (keyOf id next) post ≡ true
+    → ((s : ℤ) → next ≤ℤ s → find recordKey (keyOf id s) post ≡ none) → Between recordKey pre post news
 numbered-between id next [] pre post n b a free = tt
 numbered-between id next (x ∷ rest) pre post n b a free =
-    let later : ℤ = next +ℤ pos 1 in
-    (subst (λ (k : Key). allBelow recordKey k pre ≡ true) (sym (n .0)) b,
+    let later : ℤ = next +ℤ pos 1 in (
+      subst (λ (k : Key). allBelow recordKey k pre ≡ true) (sym (n .0)) b,
       subst (λ (k : Key). belowAll recordKey k post ≡ true) (sym (n .0)) a,
       numbered-between id later rest pre post (n .1)
-      (allBelow-higher recordKey (keyOf id next) (keyOf id later) pre (next-below id next) b)
-      (later-above recordKey id next later post free a)
-      (λ s h. free s (omega (zarith, +-lin next (pos 1)))))
+          (allBelow-higher recordKey (keyOf id next) (keyOf id later) pre (next-below id next) b)
+          (later-above recordKey id next later post free a)
+          (λ s h. free s (omega (zarith, +-lin next (pos 1)))),
+    )
 
 module _ (cells : List ℤ) (sound : soundRecords cells ≡ true) where
-
   placed : (n : ℕ) → n ≡ length (rowsOf recordsLayout cells) → (k : Key) (place : ℕ) → place ≡ rowPlace 13 k n cells
-    → place ≡ placeFrom 0 k (map recordKey (rowsOf recordsLayout cells))
+      → place ≡ placeFrom 0 k (map recordKey (rowsOf recordsLayout cells))
   placed n count k place at =
       at
       ∙ ap (λ (m : ℕ). rowPlace 13 k m cells) (count ∙ length-rowsOf recordsLayout cells)
@@ -71,19 +71,20 @@ module _ (cells : List ℤ) (sound : soundRecords cells ≡ true) where
 
   -- What is asked of a gap for so many rows at the place of a key.
   pub gap-fits : (n : ℕ) → n ≡ length (rowsOf recordsLayout cells) → (k : Key) (added : ℕ)
-    → length (rowsOf recordsLayout cells) + added ≤ roomOf recordsLayout cells → (place : ℕ) → place ≡ rowPlace 13 k n cells
-    → (place ≤ n) × (1 + (n + added) * 13 ≤ length cells) × (n + added ≤ 4096)
+      → length (rowsOf recordsLayout cells) + added ≤ roomOf recordsLayout cells → (place : ℕ) → place ≡ rowPlace 13 k n cells
+      → (place ≤ n) × (1 + (n + added) * 13 ≤ length cells) × (n + added ≤ 4096)
   gap-fits n count k added room place at =
       let table : SoundRecords cells = records-known cells sound in
-      let more : n + added ≤ roomOf recordsLayout cells = omega arith in
-      (omega (arith, placed n count k place at, place-within recordKey k (rowsOf recordsLayout cells)),
+      let more : n + added ≤ roomOf recordsLayout cells = omega arith in (
+        omega (arith, placed n count k place at, place-within recordKey k (rowsOf recordsLayout cells)),
         fits-cells recordsLayout records-lawful cells (n + added) (table .count-cell) more,
-        omega (arith, room-most recordsLayout cells))
+        omega (arith, room-most recordsLayout cells),
+      )
 
   pub rows-filled : (id next : ℤ) (news : List Record) → nextOf (rowsOf recordsLayout cells) id ≤ℤ next → numbered id next news
-    → length (rowsOf recordsLayout cells) + length news ≤ roomOf recordsLayout cells
-    → (place : ℕ) → place ≡ rowPlace 13 (keyOf id next) (length (rowsOf recordsLayout cells)) cells
-    → filled 13 (encode recordCells news) place (gapped 13 (length (rowsOf recordsLayout cells)) place (length news) cells)
+      → length (rowsOf recordsLayout cells) + length news ≤ roomOf recordsLayout cells
+      → (place : ℕ) → place ≡ rowPlace 13 (keyOf id next) (length (rowsOf recordsLayout cells)) cells
+      → filled 13 (encode recordCells news) place (gapped 13 (length (rowsOf recordsLayout cells)) place (length news) cells)
       ≡ write recordsLayout cells (upsertAll recordKey news (rowsOf recordsLayout cells))
   rows-filled id next news free n room place at =
       let rows : List Record = rowsOf recordsLayout cells in
@@ -91,23 +92,23 @@ module _ (cells : List ℤ) (sound : soundRecords cells ≡ true) where
       let table : SoundRecords cells = records-known cells sound in
       let p : place ≡ placeFrom 0 k (map recordKey rows) = placed (length rows) refl k place at in
       let fits : (place ≤ length rows) × (1 + (length rows + length news) * 13 ≤ length cells) × (length rows + length news ≤ 4096)
-            = gap-fits (length rows) refl k (length news) room place at in
+      = gap-fits (length rows) refl k (length news) room place at in
       let absent : (s : ℤ) → next ≤ℤ s → find recordKey (keyOf id s) rows ≡ none = λ s h. free-from-next rows id s (omega zarith) in
       let pre : allBelow recordKey k (take place rows) ≡ true
-            = subst (λ (m : ℕ). allBelow recordKey k (take m rows) ≡ true) (sym p) (before-place recordKey k rows (absent next (≤ℤ-refl next))) in
+      = subst (λ (m : ℕ). allBelow recordKey k (take m rows) ≡ true) (sym p) (before-place recordKey k rows (absent next (≤ℤ-refl next))) in
       let post : belowAll recordKey k (drop place rows) ≡ true
-            = subst (λ (m : ℕ). belowAll recordKey k (drop m rows) ≡ true) (sym p) (from-place recordKey k rows (table .rows-rise)) in
+      = subst (λ (m : ℕ). belowAll recordKey k (drop m rows) ≡ true) (sym p) (from-place recordKey k rows (table .rows-rise)) in
       let between : Between recordKey (take place rows) (drop place rows) news
-            = numbered-between id next news (take place rows) (drop place rows) n pre post (λ s h. absent-past recordKey (keyOf id s) place rows (absent s h)) in
+      = numbered-between id next news (take place rows) (drop place rows) n pre post (λ s h. absent-past recordKey (keyOf id s) place rows (absent s h)) in
       gap-written recordsLayout records-lawful cells (table .count-sound) place news (fits .0) (fits .1)
       ∙ ap (write recordsLayout cells)
-        (sym (upsertAll-run recordKey news (take place rows) (drop place rows) (numbered-rise id next news n) between)
-        ∙ ap (upsertAll recordKey news) (take-append-drop place rows))
+      (sym (upsertAll-run recordKey news (take place rows) (drop place rows) (numbered-rise id next news n) between)
+      ∙ ap (upsertAll recordKey news) (take-append-drop place rows))
 
 -- One record written in a row's place, and a run of records written one by one.
 pub record-filled : (x : Record) (place : ℕ) (cells : List ℤ) → filled 13 (recordCells x) place cells ≡ replaced (recordCells x) place cells
 record-filled x place cells = filled-row 13 (recordCells x) place cells (length-recordCells x)
 
 pub records-filled : (x : Record) (rest : List Record) (place : ℕ) (cells : List ℤ) → 1 + place * 13 ≤ length cells
-  → filled 13 (encode recordCells (x ∷ rest)) place cells ≡ filled 13 (encode recordCells rest) (place + 1) (replaced (recordCells x) place cells)
+    → filled 13 (encode recordCells (x ∷ rest)) place cells ≡ filled 13 (encode recordCells rest) (place + 1) (replaced (recordCells x) place cells)
 records-filled x rest place cells fits = rows-next recordsLayout records-lawful x rest place cells fits

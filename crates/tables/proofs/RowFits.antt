@@ -32,7 +32,6 @@ room-for-one key new rows absent fits = omega (arith, absentFrom-new key rows ne
 module _ {A : Type 0} (l : Layout A) (lawful : Lawful l) (key : A → Key) (first : KeyFirst l key) (soundRow : A → Bool)
     (cells : List ℤ) (table : SoundTable l key soundRow cells) (n : ℕ) (count : n ≡ length (rowsOf l cells)) (k : Key)
     (row : List ℤ) (new : A) (cells-of : row ≡ l .put new) where
-
   counted : n ≡ natAbs (countOf cells)
   counted = count ∙ length-rowsOf l cells
 
@@ -40,16 +39,17 @@ module _ {A : Type 0} (l : Layout A) (lawful : Lawful l) (key : A → Key) (firs
   wide = sym (ap length cells-of ∙ lawful .put-length new)
 
   pub insertion-fits : l .most ≤ 4096 → length (rowsOf l cells) < roomOf l cells → (place : ℕ) → place ≡ rowPlace (l .width) k n cells
-    → (place ≤ n) × (1 + suc n * length row ≤ length cells) × (n < 4096)
+      → (place ≤ n) × (1 + suc n * length row ≤ length cells) × (n < 4096)
   insertion-fits small room place at =
       let placed : place ≡ rowPlace (l .width) k (natAbs (countOf cells)) cells = at ∙ ap (λ (m : ℕ). rowPlace (l .width) k m cells) counted in
-      let more : suc n ≤ roomOf l cells = omega arith in
-      (omega (arith, table-place l key first cells k),
+      let more : suc n ≤ roomOf l cells = omega arith in (
+        omega (arith, table-place l key first cells k),
         subst (λ (w : ℕ). 1 + suc n * w ≤ length cells) wide (fits-cells l lawful cells (suc n) (table .count-cell) more),
-        omega (arith, room-most l cells))
+        omega (arith, room-most l cells),
+      )
 
   pub replacement-fits : (at : ℕ) → Row at ≡ rowFound (l .width) k n cells → 1 + suc at * length row ≤ length cells
   replacement-fits at f =
       let below : at < length (rowsOf l cells)
-            = table-found l key first cells k at (ap (λ (m : ℕ). rowFound (l .width) k m cells) (sym counted) ∙ sym f) .0 in
+      = table-found l key first cells k at (ap (λ (m : ℕ). rowFound (l .width) k m cells) (sym counted) ∙ sym f) .0 in
       subst (λ (w : ℕ). 1 + suc at * w ≤ length cells) wide (omega (arith, table .rows-within, mul-le-mul-right (l .width) below))

@@ -26,7 +26,6 @@ use Rattle.shifter.proofs.Written.{inserted-written, replaced-written}
 module _ {A : Type 0} (l : Layout A) (lawful : Lawful l) (key : A → Key) (first : KeyFirst l key) (soundRow : A → Bool)
     (cells : List ℤ) (table : SoundTable l key soundRow cells) (new : A) (sound : soundRow new ≡ true) (n : ℕ) (count : n ≡ length (rowsOf l cells))
     (row : List ℤ) (cells-of : row ≡ l .put new) (out : List ℤ) where
-
   counted : n ≡ natAbs (countOf cells)
   counted = count ∙ length-rowsOf l cells
 
@@ -38,14 +37,16 @@ module _ {A : Type 0} (l : Layout A) (lawful : Lawful l) (key : A → Key) (firs
       (all-upsert key soundRow new (rowsOf l cells) sound (table .rows-sound)))
 
   pub put-inserted : find key (key new) (rowsOf l cells) ≡ none → length (rowsOf l cells) < roomOf l cells
-    → (place : ℕ) → place ≡ rowPlace (l .width) (key new) n cells → out ≡ inserted row n place cells
-    → (out ≡ write l cells (upsert key new (rowsOf l cells))) × (soundTable l key soundRow out ≡ true)
+      → (place : ℕ) → place ≡ rowPlace (l .width) (key new) n cells → out ≡ inserted row n place cells
+      → (out ≡ write l cells (upsert key new (rowsOf l cells))) × (soundTable l key soundRow out ≡ true)
   put-inserted absent room place at e = (written, put-sound written (omega (arith, upsert-adds key new (rowsOf l cells) absent)))
     where
       p : ℕ
       p = rowPlace (l .width) (key new) (natAbs (countOf cells)) cells
+
       placed : place ≡ p
       placed = at ∙ ap (λ (m : ℕ). rowPlace (l .width) (key new) m cells) counted
+
       written : out ≡ write l cells (upsert key new (rowsOf l cells))
       written =
           e
@@ -56,15 +57,18 @@ module _ {A : Type 0} (l : Layout A) (lawful : Lawful l) (key : A → Key) (firs
           ∙ ap (write l cells) (sym (table-inserted l key first cells new absent))
 
   pub put-replaced : (at : ℕ) → Row at ≡ rowFound (l .width) (key new) n cells → out ≡ replaced row at cells
-    → (out ≡ write l cells (upsert key new (rowsOf l cells))) × (soundTable l key soundRow out ≡ true)
+      → (out ≡ write l cells (upsert key new (rowsOf l cells))) × (soundTable l key soundRow out ≡ true)
   put-replaced at f e = (written, put-sound written (omega (arith, same-count, table .rows-fit)))
     where
       there : rowFound (l .width) (key new) (natAbs (countOf cells)) cells ≡ Row at
       there = ap (λ (m : ℕ). rowFound (l .width) (key new) m cells) (sym counted) ∙ sym f
+
       known : (at < length (rowsOf l cells)) × (find key (key new) (rowsOf l cells) ≡ some (l .get cells (1 + at * l .width))) × (key (l .get cells (1 + at * l .width)) ≡ key new)
       known = table-found l key first cells (key new) at there
+
       same-count : length (upsert key new (rowsOf l cells)) ≡ length (rowsOf l cells)
       same-count = upsert-replaces key new (l .get cells (1 + at * l .width)) (rowsOf l cells) (table .rows-rise) (known .1)
+
       written : out ≡ write l cells (upsert key new (rowsOf l cells))
       written =
           e

@@ -18,15 +18,14 @@ key-of-row key (r ∷ rest) zero other = refl
 key-of-row key (r ∷ rest) (suc i) other = key-of-row key rest i other
 
 rising-found : {A : Type 0} (key : A → Key) (rows : List A) (i : ℕ) (other : A) → rising key rows ≡ true → i < length rows
-  → foundFrom 0 (key (getD rows i other)) (map key rows) ≡ Row i
+    → foundFrom 0 (key (getD rows i other)) (map key rows) ≡ Row i
 rising-found key rows i other rises h =
     ap (λ (k : Key). foundFrom 0 k (map key rows)) (sym (key-of-row key rows i other))
     ∙ found-there (map key rows) i (key other) (rising-map key rows ∙ rises) (rw (length-map rows key) h)
 
 module _ {A : Type 0} (l : Layout A) (key : A → Key) (first : KeyFirst l key) (cells : List ℤ) where
-
   pub row-there : (i : ℕ) → rising key (rowsOf l cells) ≡ true → i < length (rowsOf l cells)
-    → rowFound (l .width) (key (l .get cells (1 + i * l .width))) (natAbs (countOf cells)) cells ≡ Row i
+      → rowFound (l .width) (key (l .get cells (1 + i * l .width))) (natAbs (countOf cells)) cells ≡ Row i
   row-there i rises h =
       let here : A = l .get cells (1 + i * l .width) in
       ap (foundFrom 0 (key here)) (table-keys l key first cells)

@@ -31,7 +31,7 @@ status-at cells at fits =
     let rest : List ℤ = drop (at + 13) cells in
     let r : Record = recordAt cells at in
     let whole : cells ≡ before ++ (recordCells r ++ rest)
-          = sym (around cells at 13) ∙ ap (λ (c : List ℤ). before ++ (c ++ rest)) (sym (recordCells-recordAt cells at fits)) in
+    = sym (around cells at 13) ∙ ap (λ (c : List ℤ). before ++ (c ++ rest)) (sym (recordCells-recordAt cells at fits)) in
     let full : length before ≡ at = length-take-le at cells (omega arith) in
     ap (λ (c : List ℤ). set c (at + 4) (pos 1)) whole
     ∙ ap (λ (n : ℕ). set (before ++ (recordCells r ++ rest)) (n + 4) (pos 1)) (sym full)

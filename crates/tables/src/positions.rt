@@ -1,7 +1,7 @@
 // The positions table, once it passes test 2: its rows, its lookup, and its changes.
 use lookup::Found;
-use scan::rows;
 use rules::Position;
+use scan::rows;
 ghost use mathlib.Core.Path.{_≡_};
 ghost use mathlib.Core.Bool.{true};
 ghost use mathlib.Core.List.{_∷_, []};

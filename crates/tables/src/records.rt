@@ -1,8 +1,8 @@
 // The records table, once it passes test 1: its rows, its lookup, and its changes.
 use lookup::Found;
 use lookup::Greatest;
-use scan::rows;
 use rules::Record;
+use scan::rows;
 ghost use mathlib.Core.Path.{_≡_};
 ghost use mathlib.Core.Bool.{true};
 ghost use mathlib.Core.Option.{none};

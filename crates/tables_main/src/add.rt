@@ -90,7 +90,14 @@ pub fn adjust(cells: &mut [i64], id: i64, suffix: i64) -> bool {
     true
 }
 
-pub fn position(cells: &mut [i64], account: i64, series: i64, long: i64, short: i64, cash: i64) -> bool {
+pub fn position(
+    cells: &mut [i64],
+    account: i64,
+    series: i64,
+    long: i64,
+    short: i64,
+    cash: i64,
+) -> bool {
     let p = Position {
         account,
         series,

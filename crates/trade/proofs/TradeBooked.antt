@@ -30,7 +30,6 @@ figures-quantity id account series side quantity price h =
 -- ---- what is closed
 
 module _ (side quantity : ℤ) (p : Position) where
-
   pub opens : isToClose side ≡ false → pos 0 ≡ closedBy side quantity p
   unfolding closedBy
   opens h = rw h
@@ -54,7 +53,6 @@ against-sell side p h = rw h
 -- ---- the booking
 
 module _ (side quantity : ℤ) (p : Position) where
-
   abbrev c : ℤ
   c = closedBy side quantity p
 
@@ -70,7 +68,6 @@ module _ (side quantity : ℤ) (p : Position) where
   negated = omega (zarith, minus-lin (pos 0) c, neg-lin c)
 
   module _ (error : Bool) (told : error ≡ isClosingError side quantity c) where
-
     pub booking-buy : isBuy side ≡ true → _≡_ {A = Booking} (record { closed = c; long = quantity -ℤ c; short = pos 0 -ℤ c; error = error }) (bookingOf side quantity p)
     unfolding bookingOf longBooked shortBooked
     booking-buy h = rw (h, told, negated)
@@ -82,7 +79,6 @@ module _ (side quantity : ℤ) (p : Position) where
   -- ---- the ranges
 
   module _ (valid : validQuantity quantity ≡ true) (sound : soundPosition p ≡ true) where
-
     pub opened-fits : SFits w64 (quantity -ℤ c)
     opened-fits =
         let range : (pos 0 ≤ℤ c) × (c ≤ℤ quantity) = closed-range side quantity p sound valid in
@@ -102,13 +98,11 @@ module _ (side quantity : ℤ) (p : Position) where
 -- ---- of the position that is read
 
 module _ (ps : List ℤ) (account series side quantity : ℤ) where
-
   pub after-is : positionAfter ps account series side quantity ≡ tradePosition ps account series side quantity
   unfolding positionAfter bookingOf
   after-is = refl
 
   module _ (p : Position) (b : Booking) (e : p ≡ positionRead ps account series) (f : b ≡ bookingOf side quantity p) where
-
     pub closed-is : b .closed ≡ tradeClosed ps account series side quantity
     unfolding bookingOf
     closed-is = rw (f, e)

@@ -13,10 +13,11 @@ unfoldable pub bookingOf : ℤ → ℤ → Position → Booking
 bookingOf side quantity p =
     let c : ℤ = closedBy side quantity p in
     record {
-        closed = c;
-        long = longBooked side quantity c;
-        short = shortBooked side quantity c;
-        error = isClosingError side quantity c }
+      closed = c;
+      long = longBooked side quantity c;
+      short = shortBooked side quantity c;
+      error = isClosingError side quantity c;
+    }
 
 unfoldable pub positionAfter : List ℤ → ℤ → ℤ → ℤ → ℤ → Position
 positionAfter cells account series side quantity =

@@ -1,10 +1,10 @@
 // Trade: tests 3, 4 and 14 to 16, the booking, and the public call.
-use verdict::Verdict;
 use rules::Position;
 use rules::Record;
 use rules::Reply;
 use tables::positions;
 use tables::records;
+use verdict::Verdict;
 ghost use mathlib.Core.Path.{_≡_};
 ghost use mathlib.Core.Bool.{true};
 ghost use Rattle.rules.specs.Figures.{validQuantity};
@@ -99,7 +99,16 @@ fn position_after(cells: &[i64], account: i64, series: i64, side: i64, quantity:
     requests::moved(p, b.long, b.short, 0)
 }
 
-fn verdict(records: &[i64], positions: &[i64], id: i64, account: i64, series: i64, side: i64, quantity: i64, price: i64) -> Verdict
+fn verdict(
+    records: &[i64],
+    positions: &[i64],
+    id: i64,
+    account: i64,
+    series: i64,
+    side: i64,
+    quantity: i64,
+    price: i64,
+) -> Verdict
     requires { ⌜ (soundRecords (now records) ≡ true) × (soundPositions (now positions) ≡ true) ⌝ }
     ensures { λ r. ⌜ r ≡ verdictOn (now (records .entry)) (now (positions .entry)) (Request.trade id account series side quantity price) ⌝ }
 {
@@ -123,7 +132,16 @@ fn verdict(records: &[i64], positions: &[i64], id: i64, account: i64, series: i6
     Verdict::Accepted
 }
 
-fn book(records: &mut [i64], positions: &mut [i64], id: i64, account: i64, series: i64, side: i64, quantity: i64, price: i64) -> Reply
+fn book(
+    records: &mut [i64],
+    positions: &mut [i64],
+    id: i64,
+    account: i64,
+    series: i64,
+    side: i64,
+    quantity: i64,
+    price: i64,
+) -> Reply
     requires { ⌜ (soundRecords (now records) ≡ true) × (soundPositions (now positions) ≡ true) × (verdictOn (now records) (now positions) (Request.trade id account series side quantity price) ≡ Accepted) ⌝ }
     ensures { λ r. ⌜ answered r (now (records .exit)) (now (positions .exit)) ≡ acceptedOn (now (records .entry)) (now (positions .entry)) (Request.trade id account series side quantity price) ⌝ }
 {
@@ -152,13 +170,27 @@ fn book(records: &mut [i64], positions: &mut [i64], id: i64, account: i64, serie
     let left = requests::moved(p, b.long, b.short, 0);
     positions::put_position(positions, left);
     if b.error {
-        Reply::ClosingError { excess: quantity - b.closed }
+        Reply::ClosingError {
+            excess: quantity - b.closed,
+        }
     } else {
-        Reply::Booked { rows: 1, residual: 0 }
+        Reply::Booked {
+            rows: 1,
+            residual: 0,
+        }
     }
 }
 
-pub fn trade(records: &mut [i64], positions: &mut [i64], id: i64, account: i64, series: i64, side: i64, quantity: i64, price: i64) -> Reply
+pub fn trade(
+    records: &mut [i64],
+    positions: &mut [i64],
+    id: i64,
+    account: i64,
+    series: i64,
+    side: i64,
+    quantity: i64,
+    price: i64,
+) -> Reply
     ensures { λ r. ⌜ answered r (now (records .exit)) (now (positions .exit)) ≡ handle (tablesOf (now (records .entry)) (now (positions .entry))) (Request.trade id account series side quantity price) ⌝ }
 {
     if !scan::soundness::records_sound(records) {
@@ -167,8 +199,26 @@ pub fn trade(records: &mut [i64], positions: &mut [i64], id: i64, account: i64, 
     if !scan::soundness::positions_sound(positions) {
         return Reply::Refused(2, 0);
     }
-    match verdict(records, positions, id, account, series, side, quantity, price) {
+    match verdict(
+        records,
+        positions,
+        id,
+        account,
+        series,
+        side,
+        quantity,
+        price,
+    ) {
         Verdict::Refused(number, place) => Reply::Refused(number, place),
-        Verdict::Accepted => book(records, positions, id, account, series, side, quantity, price),
+        Verdict::Accepted => book(
+            records,
+            positions,
+            id,
+            account,
+            series,
+            side,
+            quantity,
+            price,
+        ),
     }
 }

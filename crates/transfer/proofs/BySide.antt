@@ -10,7 +10,6 @@ use Rattle.rules.specs.declared.Record.{Record}
 use Rattle.rules.specs.declared.Position.{Position}
 
 module _ (side amount : ℤ) where
-
   pub long-buy : isBuy side ≡ true → amount ≡ inLong side amount
   unfolding inLong
   long-buy e = rw e
@@ -28,7 +27,6 @@ module _ (side amount : ℤ) where
   short-sell e = rw e
 
 module _ (r : Record) (p : Position) where
-
   pub holds-buy : isBuy (r .side) ≡ true → ltZ (p .long) (r .quantity) ≡ holdsTooLittle r p
   unfolding holdsTooLittle
   holds-buy e = rw e

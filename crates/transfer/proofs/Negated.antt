@@ -13,7 +13,6 @@ use Rattle.soundness.proofs.FigureRanges.{magnitude-range, in-magnitude}
 use Rattle.scan.proofs.ReadBack.{read-back}
 
 module _ (q : ℤ) (small : magnitudeAtMost 1000000 q ≡ true) where
-
   pub negated-fits : SFits w64 (pos 0 -ℤ q)
   negated-fits =
       let range : (negℤ (pos 1000000) ≤ℤ q) × (q ≤ℤ pos 1000000) = magnitude-range 1000000 q small in

@@ -23,7 +23,7 @@ encode-one : (x : Record) → encode recordCells (x ∷ []) ≡ recordCells x
 encode-one x = encode-cons recordCells x [] ∙ ap (λ (c : List ℤ). recordCells x ++ c) (encode-nil recordCells) ∙ append-nil (recordCells x)
 
 both-filled : (x y : Record) (place : ℕ) (cells : List ℤ) → 1 + place * 13 ≤ length cells
-  → filled 13 (encode recordCells (x ∷ y ∷ [])) place cells ≡ replaced (recordCells y) (place + 1) (replaced (recordCells x) place cells)
+    → filled 13 (encode recordCells (x ∷ y ∷ [])) place cells ≡ replaced (recordCells y) (place + 1) (replaced (recordCells x) place cells)
 both-filled x y place cells fits =
     let one : List ℤ = replaced (recordCells x) place cells in
     records-filled x (y ∷ []) place cells fits
@@ -31,10 +31,9 @@ both-filled x y place cells fits =
     ∙ record-filled y (place + 1) one
 
 module _ (cells : List ℤ) (sound : soundRecords cells ≡ true) (id next : ℤ) (place : ℕ)
-  (room : length (rowsOf recordsLayout cells) + 2 ≤ roomOf recordsLayout cells)
-  (placed : place ≡ rowPlace 13 (keyOf id next) (length (rowsOf recordsLayout cells)) cells)
-  (gap : List ℤ) (kept : length gap ≡ length cells) where
-
+    (room : length (rowsOf recordsLayout cells) + 2 ≤ roomOf recordsLayout cells)
+    (placed : place ≡ rowPlace 13 (keyOf id next) (length (rowsOf recordsLayout cells)) cells)
+    (gap : List ℤ) (kept : length gap ≡ length cells) where
   pub rows-fit : (1 + suc place * 13 ≤ length gap) × (1 + suc (place + 1) * 13 ≤ length gap) × (place < 4096)
   rows-fit =
       let n : ℕ = length (rowsOf recordsLayout cells) in
@@ -42,10 +41,10 @@ module _ (cells : List ℤ) (sound : soundRecords cells ≡ true) (id next : ℤ
       (omega arith, omega arith, omega arith)
 
   pub two-rows : nextOf (rowsOf recordsLayout cells) id ≤ℤ next
-    → gap ≡ gapped 13 (length (rowsOf recordsLayout cells)) place 2 cells
-    → (x y : Record) → recordKey x ≡ keyOf id next → recordKey y ≡ keyOf id (next +ℤ pos 1)
-    → (first both : List ℤ) → first ≡ replaced (recordCells x) place gap → both ≡ replaced (recordCells y) (place + 1) first
-    → both ≡ putAll recordsLayout recordKey cells (x ∷ y ∷ [])
+      → gap ≡ gapped 13 (length (rowsOf recordsLayout cells)) place 2 cells
+      → (x y : Record) → recordKey x ≡ keyOf id next → recordKey y ≡ keyOf id (next +ℤ pos 1)
+      → (first both : List ℤ) → first ≡ replaced (recordCells x) place gap → both ≡ replaced (recordCells y) (place + 1) first
+      → both ≡ putAll recordsLayout recordKey cells (x ∷ y ∷ [])
   two-rows free gap-is x y x-key y-key first both first-is both-is =
       both-is
       ∙ ap (replaced (recordCells y) (place + 1)) first-is

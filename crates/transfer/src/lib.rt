@@ -1,11 +1,11 @@
 // Account transfer: tests 3, 5 to 8 and 12 to 16, the booking, and the public call.
 use lookup::Found;
-use verdict::Verdict;
 use rules::Position;
 use rules::Record;
 use rules::Reply;
 use tables::positions;
 use tables::records;
+use verdict::Verdict;
 ghost use mathlib.Core.Path.{_≡_};
 ghost use mathlib.Core.Bool.{true, false};
 ghost use mathlib.Core.Option.{some};
@@ -101,10 +101,26 @@ fn inverse_row(r: Record, next: i64) -> Record
 fn arrived_row(r: Record, suffix: i64, to: i64) -> Record
     ensures { λ s. ⌜ s ≡ adjustableRecord r suffix transferKind to (r .quantity) (inLong (r .side) (r .quantity)) (inShort (r .side) (r .quantity)) ⌝ }
 {
-    requests::adjustable_record(r, suffix, 4, to, r.quantity, in_long(r.side, r.quantity), in_short(r.side, r.quantity))
+    requests::adjustable_record(
+        r,
+        suffix,
+        4,
+        to,
+        r.quantity,
+        in_long(r.side, r.quantity),
+        in_short(r.side, r.quantity),
+    )
 }
 
-fn verdict(records: &[i64], positions: &[i64], id: i64, suffix: i64, from: i64, to: i64, series: i64) -> Verdict
+fn verdict(
+    records: &[i64],
+    positions: &[i64],
+    id: i64,
+    suffix: i64,
+    from: i64,
+    to: i64,
+    series: i64,
+) -> Verdict
     requires { ⌜ (soundRecords (now records) ≡ true) × (soundPositions (now positions) ≡ true) ⌝ }
     ensures { λ r. ⌜ r ≡ verdictOn (now (records .entry)) (now (positions .entry)) (Request.transfer id suffix from to series) ⌝ }
 {
@@ -128,7 +144,16 @@ fn verdict(records: &[i64], positions: &[i64], id: i64, suffix: i64, from: i64, 
 }
 
 // Tests 12 to 16, of a record that passes 5 to 8.
-fn verdict_on_record(records: &[i64], positions: &[i64], r: Record, id: i64, suffix: i64, from: i64, to: i64, series: i64) -> Verdict
+fn verdict_on_record(
+    records: &[i64],
+    positions: &[i64],
+    r: Record,
+    id: i64,
+    suffix: i64,
+    from: i64,
+    to: i64,
+    series: i64,
+) -> Verdict
     requires { ⌜ (soundRecords (now records) ≡ true) × (soundPositions (now positions) ≡ true) ⌝ }
     requires { ⌜ (transferFigures id suffix from to series ≡ true) × (find recordKey (keyOf id suffix) (rowsOf recordsLayout (now records)) ≡ some r) × (isElsewhere from series r ≡ false) × (isNotAdjustable r ≡ false) × (isToClose (r .side) ≡ false) ⌝ }
     ensures { λ v. ⌜ v ≡ verdictOn (now (records .entry)) (now (positions .entry)) (Request.transfer id suffix from to series) ⌝ }
@@ -143,7 +168,8 @@ fn verdict_on_record(records: &[i64], positions: &[i64], r: Record, id: i64, suf
     if requests::lacks_records_room(records, 2) {
         return Verdict::Refused(14, 0);
     }
-    let absent = requests::absent_position(positions, from, series) + requests::absent_position(positions, to, series);
+    let absent = requests::absent_position(positions, from, series)
+        + requests::absent_position(positions, to, series);
     if requests::lacks_positions_room(positions, absent) {
         return Verdict::Refused(15, 0);
     }
@@ -157,7 +183,15 @@ fn verdict_on_record(records: &[i64], positions: &[i64], r: Record, id: i64, suf
     Verdict::Accepted
 }
 
-fn book(records: &mut [i64], positions: &mut [i64], id: i64, suffix: i64, from: i64, to: i64, series: i64) -> Reply
+fn book(
+    records: &mut [i64],
+    positions: &mut [i64],
+    id: i64,
+    suffix: i64,
+    from: i64,
+    to: i64,
+    series: i64,
+) -> Reply
     requires { ⌜ (soundRecords (now records) ≡ true) × (soundPositions (now positions) ≡ true) × (verdictOn (now records) (now positions) (Request.transfer id suffix from to series) ≡ Accepted) ⌝ }
     ensures { λ r. ⌜ answered r (now (records .exit)) (now (positions .exit)) ≡ acceptedOn (now (records .entry)) (now (positions .entry)) (Request.transfer id suffix from to series) ⌝ }
 {
@@ -174,10 +208,21 @@ fn book(records: &mut [i64], positions: &mut [i64], id: i64, suffix: i64, from: 
     records::write_record(records, place + 1, arrived_row(r, next + 1, to));
     positions::put_position(&mut *positions, taken_from(old, r));
     positions::put_position(positions, given_to(new, r));
-    Reply::Booked { rows: 2, residual: 0 }
+    Reply::Booked {
+        rows: 2,
+        residual: 0,
+    }
 }
 
-pub fn transfer(records: &mut [i64], positions: &mut [i64], id: i64, suffix: i64, from: i64, to: i64, series: i64) -> Reply
+pub fn transfer(
+    records: &mut [i64],
+    positions: &mut [i64],
+    id: i64,
+    suffix: i64,
+    from: i64,
+    to: i64,
+    series: i64,
+) -> Reply
     ensures { λ r. ⌜ answered r (now (records .exit)) (now (positions .exit)) ≡ handle (tablesOf (now (records .entry)) (now (positions .entry))) (Request.transfer id suffix from to series) ⌝ }
 {
     if !scan::soundness::records_sound(records) {

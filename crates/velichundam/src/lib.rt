@@ -22,36 +22,93 @@ fn code_of(r: Reply) -> Coded
     ensures { λ c. ⌜ codeFrom (c .kind) (c .first) (c .second) ≡ codeOf r ⌝ }
 {
     match r {
-        Reply::Booked { rows, residual } => Coded { kind: 0, first: rows, second: residual },
-        Reply::ClosingError { excess } => Coded { kind: 1, first: excess, second: 0 },
-        Reply::Lineage { price, links } => Coded { kind: 2, first: price, second: links },
-        Reply::Refused(number, place) => Coded { kind: 3, first: number, second: place },
+        Reply::Booked { rows, residual } => Coded {
+            kind: 0,
+            first: rows,
+            second: residual,
+        },
+        Reply::ClosingError { excess } => Coded {
+            kind: 1,
+            first: excess,
+            second: 0,
+        },
+        Reply::Lineage { price, links } => Coded {
+            kind: 2,
+            first: price,
+            second: links,
+        },
+        Reply::Refused(number, place) => Coded {
+            kind: 3,
+            first: number,
+            second: place,
+        },
     }
 }
 
 #[no_mangle]
-pub extern "C" fn velichundam_trade(records: &mut [i64], positions: &mut [i64], id: i64, account: i64, series: i64, side: i64, quantity: i64, price: i64) -> Coded
+pub extern "C" fn velichundam_trade(
+    records: &mut [i64],
+    positions: &mut [i64],
+    id: i64,
+    account: i64,
+    series: i64,
+    side: i64,
+    quantity: i64,
+    price: i64,
+) -> Coded
     ensures { λ c. ⌜ handedBack (c .kind) (c .first) (c .second) (now (records .exit)) (now (positions .exit)) ≡ inNumbers (handle (tablesOf (now (records .entry)) (now (positions .entry))) (Request.trade id account series side quantity price)) ⌝ }
 {
-    code_of(book::trade(records, positions, id, account, series, side, quantity, price))
+    code_of(book::trade(
+        records,
+        positions,
+        id,
+        account,
+        series,
+        side,
+        quantity,
+        price,
+    ))
 }
 
 #[no_mangle]
-pub extern "C" fn velichundam_separate(records: &mut [i64], positions: &mut [i64], id: i64, suffix: i64, account: i64, series: i64, parts: &[i64]) -> Coded
+pub extern "C" fn velichundam_separate(
+    records: &mut [i64],
+    positions: &mut [i64],
+    id: i64,
+    suffix: i64,
+    account: i64,
+    series: i64,
+    parts: &[i64],
+) -> Coded
     ensures { λ c. ⌜ handedBack (c .kind) (c .first) (c .second) (now (records .exit)) (now (positions .exit)) ≡ inNumbers (handle (tablesOf (now (records .entry)) (now (positions .entry))) (Request.separate id suffix account series (now (parts .entry)))) ⌝ }
 {
     code_of(book::separate(records, positions, id, suffix, account, series, parts))
 }
 
 #[no_mangle]
-pub extern "C" fn velichundam_transfer(records: &mut [i64], positions: &mut [i64], id: i64, suffix: i64, from: i64, to: i64, series: i64) -> Coded
+pub extern "C" fn velichundam_transfer(
+    records: &mut [i64],
+    positions: &mut [i64],
+    id: i64,
+    suffix: i64,
+    from: i64,
+    to: i64,
+    series: i64,
+) -> Coded
     ensures { λ c. ⌜ handedBack (c .kind) (c .first) (c .second) (now (records .exit)) (now (positions .exit)) ≡ inNumbers (handle (tablesOf (now (records .entry)) (now (positions .entry))) (Request.transfer id suffix from to series)) ⌝ }
 {
     code_of(book::transfer(records, positions, id, suffix, from, to, series))
 }
 
 #[no_mangle]
-pub extern "C" fn velichundam_merge(records: &mut [i64], positions: &mut [i64], id: i64, account: i64, series: i64, pairs: &[i64]) -> Coded
+pub extern "C" fn velichundam_merge(
+    records: &mut [i64],
+    positions: &mut [i64],
+    id: i64,
+    account: i64,
+    series: i64,
+    pairs: &[i64],
+) -> Coded
     ensures { λ c. ⌜ handedBack (c .kind) (c .first) (c .second) (now (records .exit)) (now (positions .exit)) ≡ inNumbers (handle (tablesOf (now (records .entry)) (now (positions .entry))) (Request.merge id account series (now (pairs .entry)))) ⌝ }
 {
     code_of(book::merge(records, positions, id, account, series, pairs))

@@ -17,12 +17,13 @@ use Rattle.verdict.specs.declared.Verdict.the-variants.{Accepted}
 
 pub sound-books : (rs ps : List ℤ) → soundRecords rs ≡ true → soundPositions ps ≡ true → SoundBooks (booksOf (tablesOf rs ps))
 sound-books rs ps h k = record {
-    records-rise = books-records-rise (tablesOf rs ps) h;
-    records-sound = books-records-sound (tablesOf rs ps) h;
-    records-fit = books-records-fit (tablesOf rs ps) h;
-    positions-rise = books-positions-rise (tablesOf rs ps) k;
-    positions-sound = books-positions-sound (tablesOf rs ps) k;
-    positions-fit = books-positions-fit (tablesOf rs ps) k }
+  records-rise = books-records-rise (tablesOf rs ps) h;
+  records-sound = books-records-sound (tablesOf rs ps) h;
+  records-fit = books-records-fit (tablesOf rs ps) h;
+  positions-rise = books-positions-rise (tablesOf rs ps) k;
+  positions-sound = books-positions-sound (tablesOf rs ps) k;
+  positions-fit = books-positions-fit (tablesOf rs ps) k;
+}
 
 none-accepted : (o : Option Test) → verdictOf o ≡ Accepted → o ≡ none
 unfolding verdictOf
@@ -30,7 +31,6 @@ none-accepted none h = refl
 none-accepted (some t) h = let z : _≡_ {A = ℕ} 0 1 = cc in absurd (omega arith)
 
 module _ (rs ps : List ℤ) (r : Request) where
-
   pub accepted-accepts : verdictOn rs ps r ≡ Accepted → Accepts (booksOf (tablesOf rs ps)) r
   unfolding verdictOn
   accepted-accepts h = none-accepted (firstRefusal (planTests (booksOf (tablesOf rs ps)) (planOn (booksOf (tablesOf rs ps)) r))) h

@@ -19,7 +19,6 @@ unfolding firstRefusal verdictOf
 accepts = refl
 
 module _ (n : ℕ) (b : Bool) (rest : List Test) where
-
   pub refuses : b ≡ true → verdictBy (test n b ∷ rest) ≡ Refused (pos n) (pos 0)
   unfolding firstRefusal verdictOf test
   refuses e = rw e

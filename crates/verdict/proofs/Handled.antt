@@ -24,7 +24,6 @@ use Rattle.verdict.specs.declared.Verdict.{Verdict}
 use Rattle.verdict.specs.declared.Verdict.the-variants as Verdict
 
 module _ (rs ps : List ℤ) where
-
   -- What a plan comes to where none of its refusals applies, and the answer to it.
   abbrev done : Plan → Answer
   done plan = record { reply = planReply plan; tables = planTables plan (tablesOf rs ps) }
@@ -44,12 +43,12 @@ module _ (rs ps : List ℤ) where
   plan-unsound-records (question tests reply) h = rw h
 
   plan-unsound-positions : (tests : List Test) (e : Effects) → soundRecords rs ≡ true → soundPositions ps ≡ false
-    → answerTo (booking tests e) ≡ answered (Reply.Refused (pos 2) (pos 0)) rs ps
+      → answerTo (booking tests e) ≡ answered (Reply.Refused (pos 2) (pos 0)) rs ps
   unfolding refusals soundnessTests firstRefusal test answer refusedBy
   plan-unsound-positions tests e h k = rw (h, k)
 
   plan-sound : (plan : Plan) → soundRecords rs ≡ true → soundPositions ps ≡ true
-    → answerTo plan ≡ answer (firstRefusal (planTests (booksOf (tablesOf rs ps)) plan)) (tablesOf rs ps) (done plan)
+      → answerTo plan ≡ answer (firstRefusal (planTests (booksOf (tablesOf rs ps)) plan)) (tablesOf rs ps) (done plan)
   unfolding refusals soundnessTests firstRefusal test
   plan-sound (booking tests e) h k = rw (h, k)
   plan-sound (question tests reply) h k = rw h
@@ -75,33 +74,31 @@ module _ (rs ps : List ℤ) where
 
   -- Of a request that books.
   pub unsound-positions : (r : Request) (tests : List Test) (e : Effects) → planFor rs ps r ≡ booking tests e
-    → soundRecords rs ≡ true → soundPositions ps ≡ false → handle (tablesOf rs ps) r ≡ answered (Reply.Refused (pos 2) (pos 0)) rs ps
+      → soundRecords rs ≡ true → soundPositions ps ≡ false → handle (tablesOf rs ps) r ≡ answered (Reply.Refused (pos 2) (pos 0)) rs ps
   unsound-positions r tests e q h k = handle-plan r ∙ ap answerTo q ∙ plan-unsound-positions tests e h k
 
   module _ (h : soundRecords rs ≡ true) (k : soundPositions ps ≡ false) where
-
     pub trade-unsound-positions : (id account series side quantity price : ℤ)
-      → handle (tablesOf rs ps) (trade id account series side quantity price) ≡ answered (Reply.Refused (pos 2) (pos 0)) rs ps
+        → handle (tablesOf rs ps) (trade id account series side quantity price) ≡ answered (Reply.Refused (pos 2) (pos 0)) rs ps
     unfolding planOf tradePlan
     trade-unsound-positions id account series side quantity price = unsound-positions (trade id account series side quantity price) _ _ refl h k
 
     pub separation-unsound-positions : (id suffix account series : ℤ) (parts : List ℤ)
-      → handle (tablesOf rs ps) (separate id suffix account series parts) ≡ answered (Reply.Refused (pos 2) (pos 0)) rs ps
+        → handle (tablesOf rs ps) (separate id suffix account series parts) ≡ answered (Reply.Refused (pos 2) (pos 0)) rs ps
     unfolding planOf separationPlan
     separation-unsound-positions id suffix account series parts = unsound-positions (separate id suffix account series parts) _ _ refl h k
 
     pub transfer-unsound-positions : (id suffix from to series : ℤ)
-      → handle (tablesOf rs ps) (transfer id suffix from to series) ≡ answered (Reply.Refused (pos 2) (pos 0)) rs ps
+        → handle (tablesOf rs ps) (transfer id suffix from to series) ≡ answered (Reply.Refused (pos 2) (pos 0)) rs ps
     unfolding planOf transferPlan
     transfer-unsound-positions id suffix from to series = unsound-positions (transfer id suffix from to series) _ _ refl h k
 
     pub merge-unsound-positions : (id account series : ℤ) (pairs : List ℤ)
-      → handle (tablesOf rs ps) (merge id account series pairs) ≡ answered (Reply.Refused (pos 2) (pos 0)) rs ps
+        → handle (tablesOf rs ps) (merge id account series pairs) ≡ answered (Reply.Refused (pos 2) (pos 0)) rs ps
     unfolding planOf mergePlan
     merge-unsound-positions id account series pairs = unsound-positions (merge id account series pairs) _ _ refl h k
 
   module _ (r : Request) (h : soundRecords rs ≡ true) (k : soundPositions ps ≡ true) where
-
     pub handled-refused : (n p : ℤ) → verdictOn rs ps r ≡ Verdict.Refused n p → handle (tablesOf rs ps) r ≡ answered (Reply.Refused n p) rs ps
     unfolding verdictOn
     handled-refused n p v =

@@ -18,7 +18,6 @@ use Rattle.cells.specs.Lawful.{Lawful}
 use Rattle.verdict.proofs.Puts.{putAll, rows-put, room-put}
 
 module _ {Row : Type 0} (key : Row → Key) where
-
   -- The first rows of a list have what all have.
   only-first : (p : Key → Bool) (xs ys : List Row) → Only key p (xs ++ ys) → Only key p xs
   only-first p [] ys h = allOf-nil
@@ -31,23 +30,22 @@ module _ {Row : Type 0} (key : Row → Key) where
 
   -- The next row is absent once those before it are put.
   next-absent : (done : List Row) (x : Row) (rest t : List Row) → distinct key (done ++ (x ∷ rest)) ≡ true → lacksAll key t (done ++ (x ∷ rest)) ≡ true
-    → find key (key x) (upsertAll key done t) ≡ none
+      → find key (key x) (upsertAll key done t) ≡ none
   next-absent [] x rest t d a = ap (find key (key x)) (upsertAll-nil key t) ∙ lacksAll-head key t x rest a
   next-absent (y ∷ done) x rest t d a =
       ap (find key (key x)) (upsertAll-cons key y done t)
       ∙ next-absent done x rest (upsert key y t) (distinct-tail key y (done ++ (x ∷ rest)) d)
-        (lacksAll-upsert key y (done ++ (x ∷ rest)) t (distinct-head key y (done ++ (x ∷ rest)) d) (only-tail key (λ (k : Key). not (isSome (find key k t))) y (done ++ (x ∷ rest)) a))
+      (lacksAll-upsert key y (done ++ (x ∷ rest)) t (distinct-head key y (done ++ (x ∷ rest)) d) (only-tail key (λ (k : Key). not (isSome (find key k t))) y (done ++ (x ∷ rest)) a))
 
 -- In a table as cells: `changed` are there, `done` and then `rest` are not; `changed` and `done` are put.
 module _ {Row : Type 0} (l : Layout Row) (lawful : Lawful l) (key : Row → Key) (cells : List ℤ) (changed done rest : List Row)
-  (first : 1 ≤ length cells)
-  (rises : rising key (rowsOf l cells) ≡ true)
-  (there : hasAll key (rowsOf l cells) changed ≡ true)
-  (new : lacksAll key (rowsOf l cells) (done ++ rest) ≡ true)
-  (differ : distinct key (done ++ rest) ≡ true)
-  (room : length (rowsOf l cells) + length (done ++ rest) ≤ roomOf l cells)
-  (now : List ℤ) (so-far : now ≡ putAll l key cells (changed ++ done)) where
-
+    (first : 1 ≤ length cells)
+    (rises : rising key (rowsOf l cells) ≡ true)
+    (there : hasAll key (rowsOf l cells) changed ≡ true)
+    (new : lacksAll key (rowsOf l cells) (done ++ rest) ≡ true)
+    (differ : distinct key (done ++ rest) ≡ true)
+    (room : length (rowsOf l cells) + length (done ++ rest) ≤ roomOf l cells)
+    (now : List ℤ) (so-far : now ≡ putAll l key cells (changed ++ done)) where
   rows-now : rowsOf l now ≡ upsertAll key (changed ++ done) (rowsOf l cells)
   rows-now = ap (rowsOf l) so-far ∙ rows-put l key lawful cells (changed ++ done)
 
@@ -70,13 +68,12 @@ module _ {Row : Type 0} (l : Layout Row) (lawful : Lawful l) (key : Row → Key)
       let t : List Row = upsertAll key changed (rowsOf l cells) in
       let d : distinct key (done ++ (x ∷ more)) ≡ true = subst (λ (ys : List Row). distinct key (done ++ ys) ≡ true) e differ in
       let a : lacksAll key t (done ++ (x ∷ more)) ≡ true =
-            subst (λ (ys : List Row). lacksAll key t (done ++ ys) ≡ true) e (lacksAll-upsertAll key changed (done ++ rest) (rowsOf l cells) there new) in
+      subst (λ (ys : List Row). lacksAll key t (done ++ ys) ≡ true) e (lacksAll-upsertAll key changed (done ++ rest) (rowsOf l cells) there new) in
       ap (find key (key x)) (rows-now ∙ upsertAll-append key changed done (rowsOf l cells)) ∙ next-absent key done x more t d a
 
 -- ---- rows that are there or not
 
 module _ {Row : Type 0} (key : Row → Key) where
-
   only-later : (p : Key → Bool) (xs ys : List Row) → Only key p (xs ++ ys) → Only key p ys
   only-later p [] ys h = h
   only-later p (x ∷ xs) ys h = only-later p xs ys (only-tail key p x (xs ++ ys) h)
@@ -95,12 +92,11 @@ module _ {Row : Type 0} (key : Row → Key) where
 
 -- In a table as cells: `done`, then `x`, then `rest` are put, whether they are there or not.
 module _ {Row : Type 0} (l : Layout Row) (lawful : Lawful l) (key : Row → Key) (cells : List ℤ) (done : List Row) (x : Row) (rest : List Row)
-  (first : 1 ≤ length cells)
-  (rises : rising key (rowsOf l cells) ≡ true)
-  (differ : distinct key (done ++ (x ∷ rest)) ≡ true)
-  (room : length (rowsOf l cells) + absentFrom key (rowsOf l cells) (done ++ (x ∷ rest)) ≤ roomOf l cells)
-  (now : List ℤ) (so-far : now ≡ putAll l key cells done) where
-
+    (first : 1 ≤ length cells)
+    (rises : rising key (rowsOf l cells) ≡ true)
+    (differ : distinct key (done ++ (x ∷ rest)) ≡ true)
+    (room : length (rowsOf l cells) + absentFrom key (rowsOf l cells) (done ++ (x ∷ rest)) ≤ roomOf l cells)
+    (now : List ℤ) (so-far : now ≡ putAll l key cells done) where
   pub put-room : length (rowsOf l now) + absentFrom key (rowsOf l now) (x ∷ []) ≤ roomOf l now
   put-room =
       let t : List Row = rowsOf l cells in
@@ -109,6 +105,6 @@ module _ {Row : Type 0} (l : Layout Row) (lawful : Lawful l) (key : Row → Key)
       let sum : absentFrom key t (done ++ (x ∷ rest)) ≡ absentFrom key t done + absentFrom key t (x ∷ rest) = absent-sum key t done (x ∷ rest) in
       let kept : absentFrom key (upsertAll key done t) (x ∷ rest) ≡ absentFrom key t (x ∷ rest) = absent-later key done (x ∷ rest) t differ in
       let one : absentFrom key (upsertAll key done t) (x ∷ rest) ≡ absentFrom key (upsertAll key done t) (x ∷ []) + absentFrom key (upsertAll key done t) rest =
-            absent-sum key (upsertAll key done t) (x ∷ []) rest in
+      absent-sum key (upsertAll key done t) (x ∷ []) rest in
       let same-room : roomOf l now ≡ roomOf l cells = ap (roomOf l) so-far ∙ room-put l key lawful cells done first (omega arith) in
       rw (rows-so-far, same-room) (omega arith)

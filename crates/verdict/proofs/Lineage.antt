@@ -20,7 +20,6 @@ abbrev pub firstOrigin : Record → Origin
 firstOrigin r = record { price = r .price; links = pos 0 }
 
 module _ (f : ℤ → Option Record) where
-
   -- ---- one step
 
   pub origin-missing : (n : ℕ) (suffix : ℤ) → f suffix ≡ none → originOf f (suc n) suffix ≡ none
@@ -32,7 +31,7 @@ module _ (f : ℤ → Option Record) where
   origin-first n suffix r e z = rw (e, z)
 
   pub origin-onward : (n : ℕ) (suffix : ℤ) (r : Record) → f suffix ≡ some r → eqZ suffix (pos 0) ≡ false
-    → originOf f (suc n) suffix ≡ oneMoreLink (originOf f n (r .parent))
+      → originOf f (suc n) suffix ≡ oneMoreLink (originOf f n (r .parent))
   unfolding originOf originVia
   origin-onward n suffix r e z = rw (e, z)
 
@@ -43,7 +42,6 @@ module _ (f : ℤ → Option Record) where
   Descending = (suffix : ℤ) (r : Record) → f suffix ≡ some r → eqZ suffix (pos 0) ≡ false → (pos 0 ≤ℤ r .parent) × (r .parent <ℤ suffix)
 
   module _ (descending : Descending) where
-
     below-steps : (suffix parent : ℤ) (n : ℕ) → pos 0 ≤ℤ parent → parent <ℤ suffix → natAbs suffix < suc n → natAbs parent < n
     below-steps suffix parent n low below enough = omega (zarith, abs-lin suffix, abs-lin parent)
 
@@ -54,8 +52,8 @@ module _ (f : ℤ → Option Record) where
     origin-enough (suc n) (suc m) suffix h k = go (found (f suffix)) (split (eqZ suffix (pos 0))) (origin-enough n m)
       where
         go : Found (f suffix) → (eqZ suffix (pos 0) ≡ true) ⊎ (eqZ suffix (pos 0) ≡ false)
-          → ((parent : ℤ) → natAbs parent < n → natAbs parent < m → originOf f n parent ≡ originOf f m parent)
-          → originOf f (suc n) suffix ≡ originOf f (suc m) suffix
+            → ((parent : ℤ) → natAbs parent < n → natAbs parent < m → originOf f n parent ≡ originOf f m parent)
+            → originOf f (suc n) suffix ≡ originOf f (suc m) suffix
         go (absent e) z again = origin-missing n suffix e ∙ sym (origin-missing m suffix e)
         go (present r e) (inl z) again = origin-first n suffix r e z ∙ sym (origin-first m suffix r e z)
         go (present r e) (inr z) again =
@@ -66,13 +64,13 @@ module _ (f : ℤ → Option Record) where
 
     -- From a suffix to its parent, each with one more step than itself.
     pub origin-parent : (suffix : ℤ) (r : Record) → f suffix ≡ some r → eqZ suffix (pos 0) ≡ false
-      → originOf f (suc (natAbs suffix)) suffix ≡ oneMoreLink (originOf f (suc (natAbs (r .parent))) (r .parent))
+        → originOf f (suc (natAbs suffix)) suffix ≡ oneMoreLink (originOf f (suc (natAbs (r .parent))) (r .parent))
     origin-parent suffix r e z =
         let d : (pos 0 ≤ℤ r .parent) × (r .parent <ℤ suffix) = descending suffix r e z in
         origin-onward (natAbs suffix) suffix r e z
         ∙ ap oneMoreLink
-          (origin-enough (natAbs suffix) (suc (natAbs (r .parent))) (r .parent)
-          (below-steps suffix (r .parent) (natAbs suffix) (d .0) (d .1) (omega arith)) (omega arith))
+        (origin-enough (natAbs suffix) (suc (natAbs (r .parent))) (r .parent)
+        (below-steps suffix (r .parent) (natAbs suffix) (d .0) (d .1) (omega arith)) (omega arith))
 
     -- There are no more links than the suffix.
     pub origin-links : (n : ℕ) (suffix : ℤ) (o : Origin) → originOf f n suffix ≡ some o → pos 0 ≤ℤ suffix → (pos 0 ≤ℤ o .links) × (o .links ≤ℤ suffix)
@@ -81,16 +79,17 @@ module _ (f : ℤ → Option Record) where
     origin-links (suc n) suffix o h low = go (found (f suffix)) (split (eqZ suffix (pos 0))) (origin-links n)
       where
         onward : (parent : ℤ) → pos 0 ≤ℤ parent → parent <ℤ suffix → Found (originOf f n parent) → oneMoreLink (originOf f n parent) ≡ some o
-          → ((p : ℤ) (w : Origin) → originOf f n p ≡ some w → pos 0 ≤ℤ p → (pos 0 ≤ℤ w .links) × (w .links ≤ℤ p))
-          → (pos 0 ≤ℤ o .links) × (o .links ≤ℤ suffix)
+            → ((p : ℤ) (w : Origin) → originOf f n p ≡ some w → pos 0 ≤ℤ p → (pos 0 ≤ℤ w .links) × (w .links ≤ℤ p))
+            → (pos 0 ≤ℤ o .links) × (o .links ≤ℤ suffix)
         onward parent z b (absent e) q again = none-some (ap oneMoreLink e) q
         onward parent z b (present w e) q again =
             let range : (pos 0 ≤ℤ w .links) × (w .links ≤ℤ parent) = again parent w e z in
             let same : (w .links +ℤ pos 1) ≡ o .links = ap (λ (x : Origin). x .links) (some-inj (ap oneMoreLink e) q) in
             subst (λ (l : ℤ). (pos 0 ≤ℤ l) × (l ≤ℤ suffix)) same (omega (zarith, +-lin (w .links) (pos 1)), omega (zarith, +-lin (w .links) (pos 1)))
+
         go : Found (f suffix) → (eqZ suffix (pos 0) ≡ true) ⊎ (eqZ suffix (pos 0) ≡ false)
-          → ((p : ℤ) (w : Origin) → originOf f n p ≡ some w → pos 0 ≤ℤ p → (pos 0 ≤ℤ w .links) × (w .links ≤ℤ p))
-          → (pos 0 ≤ℤ o .links) × (o .links ≤ℤ suffix)
+            → ((p : ℤ) (w : Origin) → originOf f n p ≡ some w → pos 0 ≤ℤ p → (pos 0 ≤ℤ w .links) × (w .links ≤ℤ p))
+            → (pos 0 ≤ℤ o .links) × (o .links ≤ℤ suffix)
         go (absent e) z again = none-some (origin-missing n suffix e) h
         go (present r e) (inl z) again =
             let same : pos 0 ≡ o .links = ap (λ (x : Origin). x .links) (some-inj (origin-first n suffix r e z) h) in

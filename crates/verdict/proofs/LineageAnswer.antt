@@ -49,15 +49,15 @@ parent-low parent suffix h z = go (or-cases (ltZ parent suffix) (eqZ parent (pos
     go (inr b) = clash (and-right (eqZ parent (pos 0)) (eqZ suffix (pos 0)) b) z
 
 module _ (rs : List ℤ) (sound : soundRecords rs ≡ true) (id : ℤ) where
-
   pub parent-valid : (suffix : ℤ) (r : Record) → recordsOfId rs id suffix ≡ some r → validSuffix (r .parent) ≡ true
   parent-valid suffix r e = found-record rs sound id suffix r e .sound .parent
 
   pub descending : Descending (recordsOfId rs id)
   descending suffix r e z =
-      let f : FoundRecord id suffix r = found-record rs sound id suffix r e in
-      (suffix-range (r .parent) (f .sound .parent) .0,
-      parent-low (r .parent) suffix (subst (λ (x : ℤ). validParent (r .parent) x ≡ true) (f .suffix-is) (f .sound .parent-below)) z)
+      let f : FoundRecord id suffix r = found-record rs sound id suffix r e in (
+        suffix-range (r .parent) (f .sound .parent) .0,
+        parent-low (r .parent) suffix (subst (λ (x : ℤ). validParent (r .parent) x ≡ true) (f .suffix-is) (f .sound .parent-below)) z,
+      )
 
   -- The links to the origin of a suffix.
   pub links-range : (suffix : ℤ) (o : Origin) → validSuffix suffix ≡ true → originIn rs id suffix ≡ some o → (pos 0 ≤ℤ o .links) × (o .links ≤ℤ suffix)
@@ -66,7 +66,6 @@ module _ (rs : List ℤ) (sound : soundRecords rs ≡ true) (id : ℤ) where
 -- ---- the answer
 
 module _ (rs ps : List ℤ) (id suffix : ℤ) where
-
   -- The tests and the reply of a lineage.
   abbrev lineageTests : List Test
   lineageTests = test 1 (not (soundRecords rs)) ∷ test 3 (not (validId id && validSuffix suffix)) ∷ test 5 (not (isSome (originIn rs id suffix))) ∷ []
@@ -84,19 +83,16 @@ module _ (rs ps : List ℤ) (id suffix : ℤ) where
   lineage-stays = ap (λ (a : Answer). a .tables) handle-lineage ∙ answer-stays (firstRefusal lineageTests) (lineageReply (originIn rs id suffix))
 
   module _ (sound : soundRecords rs ≡ true) where
-
     pub lineage-refused-id : validId id ≡ false → handle (tablesOf rs ps) (lineage id suffix) ≡ answered (Refused (pos 3) (pos 0)) rs ps
     unfolding answer firstRefusal test refusedBy
     lineage-refused-id h = handle-lineage ∙ rw (sound, h)
 
     module _ (valid-id : validId id ≡ true) where
-
       pub lineage-refused-suffix : validSuffix suffix ≡ false → handle (tablesOf rs ps) (lineage id suffix) ≡ answered (Refused (pos 3) (pos 0)) rs ps
       unfolding answer firstRefusal test refusedBy
       lineage-refused-suffix h = handle-lineage ∙ rw (sound, valid-id, h)
 
       module _ (valid-suffix : validSuffix suffix ≡ true) where
-
         pub lineage-refused-missing : originIn rs id suffix ≡ none → handle (tablesOf rs ps) (lineage id suffix) ≡ answered (Refused (pos 5) (pos 0)) rs ps
         unfolding answer firstRefusal test refusedBy isSome
         lineage-refused-missing e = handle-lineage ∙ rw (sound, valid-id, valid-suffix, e)

@@ -40,17 +40,17 @@ figures-positive p h =
     (inRange-true (pos 0) (pos 1000000000000) (p .long) (and-left long short both) .0, inRange-true (pos 0) (pos 1000000000000) (p .short) (and-right long short both) .0)
 
 module _ (side quantity : ℤ) (p : Position) (sound : soundPosition p ≡ true) (valid : validQuantity quantity ≡ true) where
-
   pub closed-range : (pos 0 ≤ℤ closedBy side quantity p) × (closedBy side quantity p ≤ℤ quantity)
   unfolding closedBy smaller openAgainst
   closed-range = go (isToClose side) (isBuy side) (figures-positive p sound) (quantity-range quantity valid)
     where
       least : (against : ℤ) → pos 0 ≤ℤ against → pos 1 ≤ℤ quantity → (leZ quantity against ≡ true) ⊎ (leZ quantity against ≡ false)
-        → (pos 0 ≤ℤ cond (leZ quantity against) quantity against) × (cond (leZ quantity against) quantity against ≤ℤ quantity)
+          → (pos 0 ≤ℤ cond (leZ quantity against) quantity against) × (cond (leZ quantity against) quantity against ≤ℤ quantity)
       least against o q (inl e) = rw e (omega zarith, omega zarith)
       least against o q (inr e) = rw e (o, omega zarith)
+
       go : (closes buys : Bool) → (pos 0 ≤ℤ p .long) × (pos 0 ≤ℤ p .short) → (pos 1 ≤ℤ quantity) × (quantity ≤ℤ pos mostQuantity)
-        → (pos 0 ≤ℤ cond closes (cond (leZ quantity (cond buys (p .short) (p .long))) quantity (cond buys (p .short) (p .long))) (pos 0))
+          → (pos 0 ≤ℤ cond closes (cond (leZ quantity (cond buys (p .short) (p .long))) quantity (cond buys (p .short) (p .long))) (pos 0))
           × (cond closes (cond (leZ quantity (cond buys (p .short) (p .long))) quantity (cond buys (p .short) (p .long))) (pos 0) ≤ℤ quantity)
       go true true f q = least (p .short) (f .1) (q .0) (split (leZ quantity (p .short)))
       go true false f q = least (p .long) (f .0) (q .0) (split (leZ quantity (p .long)))
@@ -69,7 +69,7 @@ module _ (side quantity : ℤ) (p : Position) (sound : soundPosition p ≡ true)
 -- ---- a transfer
 
 pub transfer-moves : (p : Position) (side amount : ℤ) → soundPosition p ≡ true → magnitudeAtMost 1000000 amount ≡ true
-  → MovedReady p (inLong side amount) (inShort side amount) (pos 0)
+    → MovedReady p (inLong side amount) (inShort side amount) (pos 0)
 unfolding inLong inShort validBooked
 transfer-moves p side amount sound small =
     (sound, either-booked (isBuy side) amount (pos 0) small no-cash, either-booked (isBuy side) (pos 0) amount no-cash small, no-cash)

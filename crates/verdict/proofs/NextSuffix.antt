@@ -25,12 +25,12 @@ use Rattle.verdict.proofs.SoundReads.{FoundRecord, found-record, next-r
 
 -- A put raises the next suffix of an id to one above the row at most.
 pub next-upsert : (row : Record) (t : List Record) (id bound : ℤ) → nextOf t id ≤ℤ bound → (row .suffix +ℤ pos 1) ≤ℤ bound → pos 0 ≤ℤ bound
-  → nextOf (upsert recordKey row t) id ≤ℤ bound
+    → nextOf (upsert recordKey row t) id ≤ℤ bound
 unfolding nextSuffix
 next-upsert row t id bound before new low = go (found (greatest recordKey id (upsert recordKey row t)))
   where
     at : (g : ℤ) (x : Record) → find recordKey (keyOf id g) (upsert recordKey row t) ≡ some x
-      → (same (recordKey row) (keyOf id g) ≡ true) ⊎ (same (recordKey row) (keyOf id g) ≡ false) → (g +ℤ pos 1) ≤ℤ bound
+        → (same (recordKey row) (keyOf id g) ≡ true) ⊎ (same (recordKey row) (keyOf id g) ≡ false) → (g +ℤ pos 1) ≤ℤ bound
     at g x f (inl s) = subst (λ (z : ℤ). (z +ℤ pos 1) ≤ℤ bound) (ap (λ (k : Key). k .minor) (same-eq (recordKey row) (keyOf id g) s)) new
     at g x f (inr s) =
         let old : find recordKey (keyOf id g) t ≡ some x = sym (find-upsert-other recordKey (keyOf id g) row t s) ∙ f in
@@ -38,6 +38,7 @@ next-upsert row t id bound before new low = go (found (greatest recordKey id (up
         let high : leZ g (w .0) ≡ true = w .2 in
         let reached : (w .0 +ℤ pos 1) ≤ℤ bound = subst (λ (o : Option ℤ). nextSuffix o ≤ℤ bound) (w .1) before in
         omega (zarith, +-lin g (pos 1), +-lin (w .0) (pos 1))
+
     go : Found (greatest recordKey id (upsert recordKey row t)) → nextOf (upsert recordKey row t) id ≤ℤ bound
     go (absent e) = rw e low
     go (present g e) =
@@ -45,7 +46,6 @@ next-upsert row t id bound before new low = go (found (greatest recordKey id (up
         rw e (at g (w .0) (w .1) (split (same (recordKey row) (keyOf id g))))
 
 module _ (rs : List ℤ) (sound : soundRecords rs ≡ true) (id suffix : ℤ) (r : Record) (named : find recordKey (keyOf id suffix) (rowsOf recordsLayout rs) ≡ some r) where
-
   abbrev t : List Record
   t = rowsOf recordsLayout rs
 
@@ -63,5 +63,5 @@ module _ (rs : List ℤ) (sound : soundRecords rs ≡ true) (id suffix : ℤ) (r
   unfolding adjustedRecord
   adjusted-next rs₁ e =
       let rows : rowsOf recordsLayout rs₁ ≡ upsert recordKey (adjustedRecord r) t =
-            ap (rowsOf recordsLayout) e ∙ rows-write recordsLayout records-lawful rs (upsert recordKey (adjustedRecord r) t) in
+      ap (rowsOf recordsLayout) e ∙ rows-write recordsLayout records-lawful rs (upsert recordKey (adjustedRecord r) t) in
       rw rows (next-upsert (adjustedRecord r) t id (nextOf t id) (≤ℤ-refl (nextOf t id)) own-below (next-range rs sound id .0))

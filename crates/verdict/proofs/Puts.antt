@@ -14,7 +14,6 @@ use Rattle.cells.specs.Lawful.{Lawful}
 use Rattle.cells.proofs.Write.{rows-write, write-write, write-own, room-write}
 
 module _ {Row : Type 0} (l : Layout Row) (key : Row → Key) where
-
   -- The table after one put, and after several.
   abbrev pub putOne : List ℤ → Row → List ℤ
   putOne cells x = write l cells (upsert key x (rowsOf l cells))
@@ -26,7 +25,6 @@ module _ {Row : Type 0} (l : Layout Row) (key : Row → Key) where
   put-one cells x = ap (write l cells) (sym (upsertAll-cons key x [] (rowsOf l cells) ∙ upsertAll-nil key (upsert key x (rowsOf l cells))))
 
   module _ (lawful : Lawful l) where
-
     pub rows-put : (cells : List ℤ) (xs : List Row) → rowsOf l (putAll cells xs) ≡ upsertAll key xs (rowsOf l cells)
     rows-put cells xs = rows-write l lawful cells (upsertAll key xs (rowsOf l cells))
 
@@ -42,12 +40,11 @@ module _ {Row : Type 0} (l : Layout Row) (key : Row → Key) where
         ∙ ap (write l cells) (sym (upsertAll-append key xs ys (rowsOf l cells)))
 
     pub room-put : (cells : List ℤ) (xs : List Row) → 1 ≤ length cells → length (upsertAll key xs (rowsOf l cells)) ≤ roomOf l cells
-      → roomOf l (putAll cells xs) ≡ roomOf l cells
+        → roomOf l (putAll cells xs) ≡ roomOf l cells
     room-put cells xs h fit = room-write l lawful cells (upsertAll key xs (rowsOf l cells)) h fit
 
     -- A put, or several, after others.
     module _ (before now : List ℤ) (xs : List Row) (e : now ≡ putAll before xs) where
-
       pub put-more : (after : List ℤ) (ys : List Row) → after ≡ putAll now ys → after ≡ putAll before (xs ++ ys)
       put-more after ys f = f ∙ ap (λ (c : List ℤ). putAll c ys) e ∙ put-put before xs ys
 

@@ -40,7 +40,7 @@ pub record Ready (rs ps : List ℤ) (changed added : List Record) (moves : List 
   pub moves-room : length (rowsOf positionsLayout ps) + absentFrom positionKey (rowsOf positionsLayout ps) moves ≤ roomOf positionsLayout ps
 
 pub ready : (rs ps : List ℤ) (tests : List Test) (e : Effects) → BookingFacts (booksOf (tablesOf rs ps)) e
-  → firstRefusal (planTests (booksOf (tablesOf rs ps)) (booking tests e)) ≡ none → Ready rs ps (e .changed) (e .added) (e .positions)
+    → firstRefusal (planTests (booksOf (tablesOf rs ps)) (booking tests e)) ≡ none → Ready rs ps (e .changed) (e .added) (e .positions)
 unfolding booksOf
 ready rs ps tests e facts accepted =
     let passed : BookingPassed (booksOf (tablesOf rs ps)) e = booking-passed (booksOf (tablesOf rs ps)) tests e accepted in
@@ -53,7 +53,8 @@ ready rs ps tests e facts accepted =
       records-room = passed .records-room;
       moves-distinct = facts .positions-distinct;
       moves-sound = passed .positions-sound;
-      moves-room = passed .positions-room }
+      moves-room = passed .positions-room;
+    }
 
 -- What is required where a row is inserted, and where a position is put.
 abbrev pub InsertReady : List ℤ → Record → Type 0
@@ -72,8 +73,7 @@ all-at p [] x rest h = allOf-head (p x) (map p rest) h
 all-at p (y ∷ done) x rest h = all-at p done x rest (allOf-tail (p y) (map p (done ++ (x ∷ rest))) h)
 
 module _ (rs ps : List ℤ) (changed done rest : List Record) (moves : List Position) (is-ready : Ready rs ps changed (done ++ rest) moves)
-  (records-sound : soundRecords rs ≡ true) (now : List ℤ) (so-far : now ≡ putAll recordsLayout recordKey rs (changed ++ done)) where
-
+    (records-sound : soundRecords rs ≡ true) (now : List ℤ) (so-far : now ≡ putAll recordsLayout recordKey rs (changed ++ done)) where
   -- Room for all rows that are left.
   pub rows-left-room : length (rowsOf recordsLayout now) + length rest ≤ roomOf recordsLayout now
   rows-left-room =
@@ -89,18 +89,21 @@ module _ (rs ps : List ℤ) (changed done rest : List Record) (moves : List Posi
 
 -- The next row.
 pub insert-ready : (rs ps : List ℤ) (changed done rest : List Record) (x : Record) (moves : List Position) → Ready rs ps changed (done ++ (x ∷ rest)) moves
-  → soundRecords rs ≡ true → (now : List ℤ) → now ≡ putAll recordsLayout recordKey rs (changed ++ done) → soundRecords now ≡ true → InsertReady now x
-insert-ready rs ps changed done rest x moves is-ready records-sound now so-far sound =
-    (sound, all-at soundRecord done x rest (is-ready .added-sound),
-    next-row-absent rs ps changed done (x ∷ rest) moves is-ready records-sound now so-far x rest refl,
-    omega (arith, rows-left-room rs ps changed done (x ∷ rest) moves is-ready records-sound now so-far))
+    → soundRecords rs ≡ true → (now : List ℤ) → now ≡ putAll recordsLayout recordKey rs (changed ++ done) → soundRecords now ≡ true → InsertReady now x
+insert-ready rs ps changed done rest x moves is-ready records-sound now so-far sound = (
+  sound,
+  all-at soundRecord done x rest (is-ready .added-sound),
+  next-row-absent rs ps changed done (x ∷ rest) moves is-ready records-sound now so-far x rest refl,
+  omega (arith, rows-left-room rs ps changed done (x ∷ rest) moves is-ready records-sound now so-far),
+)
 
 module _ (rs ps : List ℤ) (changed added : List Record) (done rest : List Position) (x : Position) (is-ready : Ready rs ps changed added (done ++ (x ∷ rest)))
-  (positions-sound : soundPositions ps ≡ true) (now : List ℤ) (so-far : now ≡ putAll positionsLayout positionKey ps done) where
-
+    (positions-sound : soundPositions ps ≡ true) (now : List ℤ) (so-far : now ≡ putAll positionsLayout positionKey ps done) where
   pub put-ready : soundPositions now ≡ true → PutReady now x
   put-ready sound =
-      let known : SoundPositions ps = positions-known ps positions-sound in
-      (sound, all-at soundPosition done x rest (is-ready .moves-sound),
-      put-room positionsLayout positions-lawful positionKey ps done x rest (known .count-cell) (known .rows-rise)
-      (is-ready .moves-distinct) (is-ready .moves-room) now so-far)
+      let known : SoundPositions ps = positions-known ps positions-sound in (
+        sound,
+        all-at soundPosition done x rest (is-ready .moves-sound),
+        put-room positionsLayout positions-lawful positionKey ps done x rest (known .count-cell) (known .rows-rise)
+            (is-ready .moves-distinct) (is-ready .moves-room) now so-far,
+      )

@@ -23,9 +23,8 @@ abbrev pub positionRead : List ℤ → ℤ → ℤ → Position
 positionRead ps account series = readAt account series (rowsOf positionsLayout ps)
 
 module _ (ps : List ℤ) where
-
   pub absent-moved : (account series long short cash : ℤ) (rest : List Position)
-    → absentFrom positionKey (rowsOf positionsLayout ps) (moved (positionRead ps account series) long short cash ∷ rest)
+      → absentFrom positionKey (rowsOf positionsLayout ps) (moved (positionRead ps account series) long short cash ∷ rest)
       ≡ absentPosition ps account series + absentFrom positionKey (rowsOf positionsLayout ps) rest
   unfolding absentFrom absentPosition moved
   absent-moved account series long short cash rest =
@@ -33,7 +32,7 @@ module _ (ps : List ℤ) where
       (read-key account series (rowsOf positionsLayout ps))
 
   pub absent-one : (account series long short cash : ℤ)
-    → absentFrom positionKey (rowsOf positionsLayout ps) (moved (positionRead ps account series) long short cash ∷ []) ≡ absentPosition ps account series
+      → absentFrom positionKey (rowsOf positionsLayout ps) (moved (positionRead ps account series) long short cash ∷ []) ≡ absentPosition ps account series
   unfolding absentFrom
   absent-one account series long short cash = omega (arith, absent-moved account series long short cash [])
 

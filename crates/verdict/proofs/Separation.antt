@@ -44,7 +44,6 @@ abbrev pub separationRows : Record → ℤ → List ℤ → List Record
 separationRows r next parts = adjustedRecord r ∷ separationInverse r next ∷ partRecords r (next +ℤ pos 1) parts
 
 module _ (rs ps : List ℤ) (id suffix account series : ℤ) (parts : List ℤ) where
-
   abbrev theVerdict : Verdict
   theVerdict = verdictOn rs ps (separate id suffix account series parts)
 
@@ -67,7 +66,6 @@ module _ (rs ps : List ℤ) (id suffix account series : ℤ) (parts : List ℤ) 
   separationTests found = testsBy found (ltZ greatestOfSuffixes (nextOf (rowsOf recordsLayout rs) id +ℤ pos (length parts))) (length parts + 1) false
 
   module _ (positions-sound : soundPositions ps ≡ true) (found : Option Record) (named : find recordKey (keyOf id suffix) (rowsOf recordsLayout rs) ≡ found) where
-
     separation-verdict : theVerdict ≡ verdictBy (separationTests found)
     unfolding verdictOn planOf separationPlan viewOf booksOf planTests bookingTests suffixIsAbove inverseRecord anyOf allOf absentFrom firstRefusal test
     separation-verdict =
@@ -78,18 +76,15 @@ module _ (rs ps : List ℤ) (id suffix account series : ℤ) (parts : List ℤ) 
         ∙ ap (λ (o : Option Record). verdictBy (separationTests o)) named
 
   module _ (positions-sound : soundPositions ps ≡ true) where
-
     pub separation-refused-3 : separationFigures id suffix account series parts ≡ false → theVerdict ≡ Refused (pos 3) (pos 0)
     separation-refused-3 e = separation-verdict positions-sound (find recordKey (keyOf id suffix) (rowsOf recordsLayout rs)) refl ∙ refuses 3 _ _ (ap not e)
 
     module _ (figures : separationFigures id suffix account series parts ≡ true) where
-
       pub separation-refused-5 : find recordKey (keyOf id suffix) (rowsOf recordsLayout rs) ≡ none → theVerdict ≡ Refused (pos 5) (pos 0)
       unfolding isSome
       separation-refused-5 e = separation-verdict positions-sound none e ∙ passes 3 _ _ (ap not figures) ∙ refuses 5 _ _ refl
 
       module _ (r : Record) (named : find recordKey (keyOf id suffix) (rowsOf recordsLayout rs) ≡ some r) where
-
         past-5 : theVerdict ≡ verdictBy (drop 2 (separationTests (some r)))
         unfolding isSome
         past-5 = separation-verdict positions-sound (some r) named ∙ passes 3 _ _ (ap not figures) ∙ passes 5 _ _ refl
@@ -99,7 +94,6 @@ module _ (rs ps : List ℤ) (id suffix account series : ℤ) (parts : List ℤ) 
         separation-refused-6 e = past-5 ∙ refuses 6 _ _ e
 
         module _ (here : isElsewhere account series r ≡ false) where
-
           past-6 : theVerdict ≡ verdictBy (drop 3 (separationTests (some r)))
           unfolding theRecord
           past-6 = past-5 ∙ passes 6 _ _ here
@@ -109,7 +103,6 @@ module _ (rs ps : List ℤ) (id suffix account series : ℤ) (parts : List ℤ) 
           separation-refused-7 e = past-6 ∙ refuses 7 _ _ e
 
           module _ (adjustable : isNotAdjustable r ≡ false) where
-
             past-7 : theVerdict ≡ verdictBy (drop 4 (separationTests (some r)))
             unfolding theRecord
             past-7 = past-6 ∙ passes 7 _ _ adjustable
@@ -119,7 +112,6 @@ module _ (rs ps : List ℤ) (id suffix account series : ℤ) (parts : List ℤ) 
             separation-refused-11 e = past-7 ∙ refuses 11 _ _ (ap not e)
 
             module _ (whole : eqZ (sumOf parts) (r .quantity) ≡ true) where
-
               past-11 : theVerdict ≡ verdictBy (drop 5 (separationTests (some r)))
               unfolding theRecord
               past-11 = past-7 ∙ passes 11 _ _ (ap not whole)
@@ -128,7 +120,6 @@ module _ (rs ps : List ℤ) (id suffix account series : ℤ) (parts : List ℤ) 
               separation-refused-13 e = past-11 ∙ refuses 13 _ _ e
 
               module _ (suffixes : ltZ greatestOfSuffixes (nextOf (rowsOf recordsLayout rs) id +ℤ pos (length parts)) ≡ false) where
-
                 past-13 : theVerdict ≡ verdictBy (drop 6 (separationTests (some r)))
                 past-13 = past-11 ∙ passes 13 _ _ suffixes
 
@@ -141,13 +132,12 @@ module _ (rs ps : List ℤ) (id suffix account series : ℤ) (parts : List ℤ) 
   -- ---- the booking
 
   module _ (positions-sound : soundPositions ps ≡ true) (r : Record) (named : find recordKey (keyOf id suffix) (rowsOf recordsLayout rs) ≡ some r) where
-
     pub separation-booked : acceptedOn rs ps (separate id suffix account series parts)
-      ≡ answered (Booked (pos (length parts) +ℤ pos 1) (pos 0))
+        ≡ answered (Booked (pos (length parts) +ℤ pos 1) (pos 0))
         (write recordsLayout rs (upsertAll recordKey (separationRows r (nextOf (rowsOf recordsLayout rs) id) parts) (rowsOf recordsLayout rs))) ps
     unfolding acceptedOn planOf separationPlan viewOf booksOf planReply planTables writeBooks booked upsertAll theRecord
     separation-booked =
         let t : List Record = rowsOf recordsLayout rs in
         λ i. answered (Booked (pos (length parts) +ℤ pos 1) (pos 0))
-          (write recordsLayout rs (upsertAll recordKey (separationRows (theRecord (named i)) (nextOf t id) parts) t))
-          (write-own positionsLayout positions-lawful ps (positions-known ps positions-sound .count-sound) i)
+        (write recordsLayout rs (upsertAll recordKey (separationRows (theRecord (named i)) (nextOf t id) parts) t))
+        (write-own positionsLayout positions-lawful ps (positions-known ps positions-sound .count-sound) i)

@@ -42,9 +42,8 @@ use Rattle.verdict.proofs.Separation.{separationInverse, separationRows
 -- ---- what is required
 
 module _ (rs ps : List ℤ) (id suffix account series : ℤ) (parts : List ℤ)
-  (records-sound : soundRecords rs ≡ true) (positions-sound : soundPositions ps ≡ true)
-  (accepted : verdictOn rs ps (separate id suffix account series parts) ≡ Accepted) where
-
+    (records-sound : soundRecords rs ≡ true) (positions-sound : soundPositions ps ≡ true)
+    (accepted : verdictOn rs ps (separate id suffix account series parts) ≡ Accepted) where
   accepts : Accepts (booksOf (tablesOf rs ps)) (separate id suffix account series parts)
   accepts = accepted-accepts rs ps (separate id suffix account series parts) accepted
 
@@ -65,12 +64,11 @@ module _ (rs ps : List ℤ) (id suffix account series : ℤ) (parts : List ℤ)
   separation-next =
       let r : Record = theRecord (find recordKey (keyOf id suffix) (rowsOf recordsLayout rs)) in
       let passed : anyOf (map suffixIsAbove (separationInverse r next ∷ partRecords r (next +ℤ pos 1) parts)) ≡ false =
-            booking-passed (booksOf (tablesOf rs ps)) _ _ accepts .suffixes in
+      booking-passed (booksOf (tablesOf rs ps)) _ _ accepts .suffixes in
       let last : ltZ greatestOfSuffixes (next +ℤ pos (length parts)) ≡ false = sym (above-parts r next parts) ∙ passed in
       (next-range rs records-sound id .0, omega zarith)
 
   module _ (r : Record) (named : find recordKey (keyOf id suffix) (rowsOf recordsLayout rs) ≡ some r) where
-
     pub separation-status : r .status ≡ adjustable
     unfolding theRecord
     separation-status = status-adjustable r (subst (λ (o : Option Record). isNotAdjustable (theRecord o) ≡ false) named (has-passed .record-adjustable))
@@ -84,7 +82,6 @@ module _ (rs ps : List ℤ) (id suffix account series : ℤ) (parts : List ℤ)
         (ready rs ps _ _ (separation-facts (booksOf (tablesOf rs ps)) (sound-books rs ps records-sound positions-sound) id suffix account series parts accepts) accepts)
 
     module _ (rs₁ : List ℤ) (e₁ : rs₁ ≡ putOne recordsLayout recordKey rs (adjustedRecord r)) where
-
       adjusted-put : rs₁ ≡ putAll recordsLayout recordKey rs (adjustedRecord r ∷ [])
       adjusted-put = e₁ ∙ put-one recordsLayout recordKey rs (adjustedRecord r)
 
@@ -99,18 +96,17 @@ module _ (rs ps : List ℤ) (id suffix account series : ℤ) (parts : List ℤ)
 -- ---- what it comes to
 
 module _ (rs ps : List ℤ) (id suffix account series : ℤ) (parts : List ℤ) (positions-sound : soundPositions ps ≡ true)
-  (r : Record) (named : find recordKey (keyOf id suffix) (rowsOf recordsLayout rs) ≡ some r) where
-
+    (r : Record) (named : find recordKey (keyOf id suffix) (rowsOf recordsLayout rs) ≡ some r) where
   abbrev first : ℤ
   first = nextOf (rowsOf recordsLayout rs) id
 
   pub separation-returns : (rs₁ rs₂ : List ℤ)
-    → rs₁ ≡ putOne recordsLayout recordKey rs (adjustedRecord r)
-    → rs₂ ≡ putAll recordsLayout recordKey rs₁ (separationInverse r first ∷ partRecords r (first +ℤ pos 1) parts)
-    → answered (Booked (pos (length parts) +ℤ pos 1) (pos 0)) rs₂ ps ≡ acceptedOn rs ps (separate id suffix account series parts)
+      → rs₁ ≡ putOne recordsLayout recordKey rs (adjustedRecord r)
+      → rs₂ ≡ putAll recordsLayout recordKey rs₁ (separationInverse r first ∷ partRecords r (first +ℤ pos 1) parts)
+      → answered (Booked (pos (length parts) +ℤ pos 1) (pos 0)) rs₂ ps ≡ acceptedOn rs ps (separate id suffix account series parts)
   separation-returns rs₁ rs₂ e₁ e₂ =
       let adjusted : rs₁ ≡ putAll recordsLayout recordKey rs (adjustedRecord r ∷ []) = e₁ ∙ put-one recordsLayout recordKey rs (adjustedRecord r) in
       let whole : rs₂ ≡ putAll recordsLayout recordKey rs (separationRows r first parts) =
-            put-more recordsLayout recordKey records-lawful rs rs₁ (adjustedRecord r ∷ []) adjusted rs₂ (separationInverse r first ∷ partRecords r (first +ℤ pos 1) parts) e₂ in
+      put-more recordsLayout recordKey records-lawful rs rs₁ (adjustedRecord r ∷ []) adjusted rs₂ (separationInverse r first ∷ partRecords r (first +ℤ pos 1) parts) e₂ in
       ap (λ (c : List ℤ). answered (Booked (pos (length parts) +ℤ pos 1) (pos 0)) c ps) whole
       ∙ sym (separation-booked rs ps id suffix account series parts positions-sound r named)

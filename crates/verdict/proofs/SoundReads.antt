@@ -47,7 +47,6 @@ pub record FoundRecord (id suffix : ℤ) (r : Record) : Type 0 where
   pub negated-small : magnitudeAtMost mostQuantity (negℤ (r .quantity)) ≡ true
 
 module _ (rs : List ℤ) (records-sound : soundRecords rs ≡ true) where
-
   pub found-record : (id suffix : ℤ) (r : Record) → find recordKey (keyOf id suffix) (rowsOf recordsLayout rs) ≡ some r → FoundRecord id suffix r
   found-record id suffix r named =
       let k : recordKey r ≡ keyOf id suffix = find-key recordKey (keyOf id suffix) (rowsOf recordsLayout rs) r named in
@@ -60,7 +59,8 @@ module _ (rs : List ℤ) (records-sound : soundRecords rs ≡ true) where
         suffix-is = ap (λ (x : Key). x .minor) k;
         quantity-small = q;
         negated-small = in-magnitude mostQuantity (negℤ (r .quantity))
-          (omega (zarith, neg-lin (r .quantity), neg-lin (pos mostQuantity))) (omega (zarith, neg-lin (r .quantity), neg-lin (pos mostQuantity))) }
+            (omega (zarith, neg-lin (r .quantity), neg-lin (pos mostQuantity))) (omega (zarith, neg-lin (r .quantity), neg-lin (pos mostQuantity)));
+      }
 
   pub greatest-range : (id g : ℤ) → greatest recordKey id (rowsOf recordsLayout rs) ≡ some g → (pos 0 ≤ℤ g) × (g ≤ℤ greatestOfSuffixes)
   greatest-range id g e =

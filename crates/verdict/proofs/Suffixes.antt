@@ -28,7 +28,7 @@ above-later most first last h = go (split (ltZ most first))
 
 -- A row at a suffix and the parts' rows after it.
 pub above-parts : (r : Record) (suffix : ℤ) (parts : List ℤ)
-  → (ltZ greatestOfSuffixes suffix || anyOf (map suffixIsAbove (partRecords r (suffix +ℤ pos 1) parts))) ≡ ltZ greatestOfSuffixes (suffix +ℤ pos (length parts))
+    → (ltZ greatestOfSuffixes suffix || anyOf (map suffixIsAbove (partRecords r (suffix +ℤ pos 1) parts))) ≡ ltZ greatestOfSuffixes (suffix +ℤ pos (length parts))
 unfolding anyOf partRecords suffixIsAbove adjustableRecord
 above-parts r suffix [] =
     let e : suffix +ℤ pos 0 ≡ suffix = omega (zarith, +-lin suffix (pos 0)) in

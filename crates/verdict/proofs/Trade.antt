@@ -29,7 +29,6 @@ use Rattle.verdict.proofs.Room.{positionRead, absent-one}
 
 -- What a trade closes and books, the position that it leaves, and its row.
 module _ (ps : List ℤ) (account series side quantity : ℤ) where
-
   abbrev pub tradeClosed : ℤ
   tradeClosed = closedBy side quantity (positionRead ps account series)
 
@@ -49,7 +48,6 @@ module _ (ps : List ℤ) (account series side quantity : ℤ) where
   tradeRow id price = newRecord id (tradeKind tradeError) account series side quantity price tradeLong tradeShort
 
 module _ (rs ps : List ℤ) (id account series side quantity price : ℤ) where
-
   -- ---- the verdict
 
   abbrev theVerdict : Verdict
@@ -78,7 +76,6 @@ module _ (rs ps : List ℤ) (id account series side quantity price : ℤ) where
   trade-refused-3 e = trade-verdict ∙ refuses 3 _ _ (ap not e)
 
   module _ (figures : tradeFigures id account series side quantity price ≡ true) where
-
     past-3 : theVerdict ≡ verdictBy (drop 1 tradeTests)
     past-3 = trade-verdict ∙ passes 3 _ _ (ap not figures)
 
@@ -87,7 +84,6 @@ module _ (rs ps : List ℤ) (id account series side quantity price : ℤ) where
     trade-refused-4 g e = past-3 ∙ refuses 4 _ _ (ap isSome e)
 
     module _ (new-id : greatest recordKey id (rowsOf recordsLayout rs) ≡ none) where
-
       past-4 : theVerdict ≡ verdictBy (drop 2 tradeTests)
       unfolding isSome
       past-4 = past-3 ∙ passes 4 _ _ (ap isSome new-id)
@@ -96,7 +92,6 @@ module _ (rs ps : List ℤ) (id account series side quantity price : ℤ) where
       trade-refused-14 e = past-4 ∙ refuses 14 _ _ e
 
       module _ (records-room : ltb (roomOf recordsLayout rs) (length (rowsOf recordsLayout rs) + 1) ≡ false) where
-
         past-14 : theVerdict ≡ verdictBy (drop 3 tradeTests)
         past-14 = past-4 ∙ passes 14 _ _ records-room
 
@@ -104,7 +99,6 @@ module _ (rs ps : List ℤ) (id account series side quantity price : ℤ) where
         trade-refused-15 e = past-14 ∙ refuses 15 _ _ e
 
         module _ (positions-room : ltb (roomOf positionsLayout ps) (length (rowsOf positionsLayout ps) + absentPosition ps account series) ≡ false) where
-
           past-15 : theVerdict ≡ verdictBy (drop 4 tradeTests)
           past-15 = past-14 ∙ passes 15 _ _ positions-room
 
@@ -123,16 +117,16 @@ module _ (rs ps : List ℤ) (id account series side quantity price : ℤ) where
   positionsAfter = write positionsLayout ps (upsert positionKey (tradePosition ps account series side quantity) (rowsOf positionsLayout ps))
 
   pub trade-booked : acceptedOn rs ps (trade id account series side quantity price)
-    ≡ answered (tradeReply (tradeError ps account series side quantity) (quantity -ℤ tradeClosed ps account series side quantity)) recordsAfter positionsAfter
+      ≡ answered (tradeReply (tradeError ps account series side quantity) (quantity -ℤ tradeClosed ps account series side quantity)) recordsAfter positionsAfter
   unfolding acceptedOn planOf tradePlan viewOf booksOf planReply planTables writeBooks booked upsertAll
   trade-booked = refl
 
   pub trade-booked-error : tradeError ps account series side quantity ≡ true → acceptedOn rs ps (trade id account series side quantity price)
-    ≡ answered (ClosingError (quantity -ℤ tradeClosed ps account series side quantity)) recordsAfter positionsAfter
+      ≡ answered (ClosingError (quantity -ℤ tradeClosed ps account series side quantity)) recordsAfter positionsAfter
   unfolding tradeReply
   trade-booked-error e = trade-booked ∙ ap (λ (b : Bool). answered (tradeReply b (quantity -ℤ tradeClosed ps account series side quantity)) recordsAfter positionsAfter) e
 
   pub trade-booked-plain : tradeError ps account series side quantity ≡ false → acceptedOn rs ps (trade id account series side quantity price)
-    ≡ answered (Booked (pos 1) (pos 0)) recordsAfter positionsAfter
+      ≡ answered (Booked (pos 1) (pos 0)) recordsAfter positionsAfter
   unfolding tradeReply
   trade-booked-plain e = trade-booked ∙ ap (λ (b : Bool). answered (tradeReply b (quantity -ℤ tradeClosed ps account series side quantity)) recordsAfter positionsAfter) e

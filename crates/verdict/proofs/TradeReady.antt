@@ -28,9 +28,8 @@ use Rattle.verdict.proofs.Moves.{MovedReady, trade-moves}
 use Rattle.verdict.proofs.Trade.{tradeClosed, tradeLong, tradeShort, tradeError, tradePosition, tradeRow, trade-booked-error, trade-booked-plain}
 
 module _ (rs ps : List ℤ) (id account series side quantity price : ℤ)
-  (records-sound : soundRecords rs ≡ true) (positions-sound : soundPositions ps ≡ true)
-  (accepted : verdictOn rs ps (trade id account series side quantity price) ≡ Accepted) where
-
+    (records-sound : soundRecords rs ≡ true) (positions-sound : soundPositions ps ≡ true)
+    (accepted : verdictOn rs ps (trade id account series side quantity price) ≡ Accepted) where
   pub trade-quantity : validQuantity quantity ≡ true
   trade-quantity =
       trade-passed (booksOf (tablesOf rs ps)) id account series side quantity price (accepted-accepts rs ps (trade id account series side quantity price) accepted) .quantity-valid
@@ -57,22 +56,20 @@ module _ (rs ps : List ℤ) (id account series side quantity price : ℤ)
 -- ---- what it comes to
 
 module _ (rs ps : List ℤ) (id account series side quantity price : ℤ) (rs₁ ps₁ : List ℤ)
-  (e : rs₁ ≡ putOne recordsLayout recordKey rs (tradeRow ps account series side quantity id price))
-  (f : ps₁ ≡ putOne positionsLayout positionKey ps (tradePosition ps account series side quantity)) where
-
+    (e : rs₁ ≡ putOne recordsLayout recordKey rs (tradeRow ps account series side quantity id price))
+    (f : ps₁ ≡ putOne positionsLayout positionKey ps (tradePosition ps account series side quantity)) where
   pub trade-returns-error : tradeError ps account series side quantity ≡ true
-    → answered (ClosingError (quantity -ℤ tradeClosed ps account series side quantity)) rs₁ ps₁ ≡ acceptedOn rs ps (trade id account series side quantity price)
+      → answered (ClosingError (quantity -ℤ tradeClosed ps account series side quantity)) rs₁ ps₁ ≡ acceptedOn rs ps (trade id account series side quantity price)
   trade-returns-error b =
       (λ i. answered (ClosingError (quantity -ℤ tradeClosed ps account series side quantity)) (e i) (f i))
       ∙ sym (trade-booked-error rs ps id account series side quantity price b)
 
   pub trade-returns-plain : tradeError ps account series side quantity ≡ false
-    → answered (Booked (pos 1) (pos 0)) rs₁ ps₁ ≡ acceptedOn rs ps (trade id account series side quantity price)
+      → answered (Booked (pos 1) (pos 0)) rs₁ ps₁ ≡ acceptedOn rs ps (trade id account series side quantity price)
   trade-returns-plain b = (λ i. answered (Booked (pos 1) (pos 0)) (e i) (f i)) ∙ sym (trade-booked-plain rs ps id account series side quantity price b)
 
 -- The row by its kind, once it is known whether there is a closing error.
 module _ (ps : List ℤ) (account series side quantity id price : ℤ) where
-
   abbrev rowOf : ℤ → Record
   rowOf kind = newRecord id kind account series side quantity price (tradeLong ps account series side quantity) (tradeShort ps account series side quantity)
 

@@ -50,7 +50,6 @@ abbrev pub transferNew : List ℤ → Record → ℤ → ℤ → Position
 transferNew ps r to series = moved (positionRead ps to series) (inLong (r .side) (r .quantity)) (inShort (r .side) (r .quantity)) (pos 0)
 
 module _ (rs ps : List ℤ) (id suffix from to series : ℤ) where
-
   abbrev theVerdict : Verdict
   theVerdict = verdictOn rs ps (transfer id suffix from to series)
 
@@ -85,32 +84,29 @@ module _ (rs ps : List ℤ) (id suffix from to series : ℤ) where
       ∙ above-later greatestOfSuffixes next (next +ℤ pos 1) (omega (zarith, +-lin next (pos 1)))
 
   absent-both : (r : Record) → absentFrom positionKey (rowsOf positionsLayout ps) (transferOld ps r from series ∷ transferNew ps r to series ∷ [])
-    ≡ absentPosition ps from series + absentPosition ps to series
+      ≡ absentPosition ps from series + absentPosition ps to series
   absent-both r =
       absent-moved ps from series (inLong (r .side) (negℤ (r .quantity))) (inShort (r .side) (negℤ (r .quantity))) (pos 0) (transferNew ps r to series ∷ [])
       ∙ ap (λ (n : ℕ). absentPosition ps from series + n) (absent-one ps to series (inLong (r .side) (r .quantity)) (inShort (r .side) (r .quantity)) (pos 0))
 
   module _ (found : Option Record) (named : find recordKey (keyOf id suffix) (rowsOf recordsLayout rs) ≡ found) where
-
     transfer-verdict : theVerdict ≡ verdictBy (transferTests found)
     unfolding verdictOn planOf transferPlan viewOf booksOf planTests bookingTests suffixIsAbove inverseRecord adjustableRecord anyOf allOf firstRefusal test
     transfer-verdict =
         let r : Record = theRecord (find recordKey (keyOf id suffix) (rowsOf recordsLayout rs)) in
         (λ i. verdictBy (testsBy (find recordKey (keyOf id suffix) (rowsOf recordsLayout rs)) (above i) (absent-both r i)
-          (soundPosition (transferOld ps r from series) && and-true (soundPosition (transferNew ps r to series)) i)))
+        (soundPosition (transferOld ps r from series) && and-true (soundPosition (transferNew ps r to series)) i)))
         ∙ ap (λ (o : Option Record). verdictBy (transferTests o)) named
 
   pub transfer-refused-3 : transferFigures id suffix from to series ≡ false → theVerdict ≡ Refused (pos 3) (pos 0)
   transfer-refused-3 e = transfer-verdict (find recordKey (keyOf id suffix) (rowsOf recordsLayout rs)) refl ∙ refuses 3 _ _ (ap not e)
 
   module _ (figures : transferFigures id suffix from to series ≡ true) where
-
     pub transfer-refused-5 : find recordKey (keyOf id suffix) (rowsOf recordsLayout rs) ≡ none → theVerdict ≡ Refused (pos 5) (pos 0)
     unfolding isSome
     transfer-refused-5 e = transfer-verdict none e ∙ passes 3 _ _ (ap not figures) ∙ refuses 5 _ _ refl
 
     module _ (r : Record) (named : find recordKey (keyOf id suffix) (rowsOf recordsLayout rs) ≡ some r) where
-
       past-5 : theVerdict ≡ verdictBy (drop 2 (transferTests (some r)))
       unfolding isSome
       past-5 = transfer-verdict (some r) named ∙ passes 3 _ _ (ap not figures) ∙ passes 5 _ _ refl
@@ -120,7 +116,6 @@ module _ (rs ps : List ℤ) (id suffix from to series : ℤ) where
       transfer-refused-6 e = past-5 ∙ refuses 6 _ _ e
 
       module _ (here : isElsewhere from series r ≡ false) where
-
         past-6 : theVerdict ≡ verdictBy (drop 3 (transferTests (some r)))
         unfolding theRecord
         past-6 = past-5 ∙ passes 6 _ _ here
@@ -130,7 +125,6 @@ module _ (rs ps : List ℤ) (id suffix from to series : ℤ) where
         transfer-refused-7 e = past-6 ∙ refuses 7 _ _ e
 
         module _ (adjustable : isNotAdjustable r ≡ false) where
-
           past-7 : theVerdict ≡ verdictBy (drop 4 (transferTests (some r)))
           unfolding theRecord
           past-7 = past-6 ∙ passes 7 _ _ adjustable
@@ -140,7 +134,6 @@ module _ (rs ps : List ℤ) (id suffix from to series : ℤ) where
           transfer-refused-8 e = past-7 ∙ refuses 8 _ _ e
 
           module _ (opens : isToClose (r .side) ≡ false) where
-
             past-8 : theVerdict ≡ verdictBy (drop 5 (transferTests (some r)))
             unfolding theRecord
             past-8 = past-7 ∙ passes 8 _ _ opens
@@ -150,7 +143,6 @@ module _ (rs ps : List ℤ) (id suffix from to series : ℤ) where
             transfer-refused-12 e = past-8 ∙ refuses 12 _ _ e
 
             module _ (holds : holdsTooLittle r (positionRead ps from series) ≡ false) where
-
               past-12 : theVerdict ≡ verdictBy (drop 6 (transferTests (some r)))
               unfolding theRecord
               past-12 = past-8 ∙ passes 12 _ _ holds
@@ -159,7 +151,6 @@ module _ (rs ps : List ℤ) (id suffix from to series : ℤ) where
               transfer-refused-13 e = past-12 ∙ refuses 13 _ _ e
 
               module _ (suffixes : ltZ greatestOfSuffixes (next +ℤ pos 1) ≡ false) where
-
                 past-13 : theVerdict ≡ verdictBy (drop 7 (transferTests (some r)))
                 past-13 = past-12 ∙ passes 13 _ _ suffixes
 
@@ -167,16 +158,14 @@ module _ (rs ps : List ℤ) (id suffix from to series : ℤ) where
                 transfer-refused-14 e = past-13 ∙ refuses 14 _ _ e
 
                 module _ (records-room : ltb (roomOf recordsLayout rs) (length (rowsOf recordsLayout rs) + 2) ≡ false) where
-
                   past-14 : theVerdict ≡ verdictBy (drop 8 (transferTests (some r)))
                   past-14 = past-13 ∙ passes 14 _ _ records-room
 
                   pub transfer-refused-15 : ltb (roomOf positionsLayout ps) (length (rowsOf positionsLayout ps) + (absentPosition ps from series + absentPosition ps to series)) ≡ true
-                    → theVerdict ≡ Refused (pos 15) (pos 0)
+                      → theVerdict ≡ Refused (pos 15) (pos 0)
                   transfer-refused-15 e = past-14 ∙ refuses 15 _ _ e
 
                   module _ (positions-room : ltb (roomOf positionsLayout ps) (length (rowsOf positionsLayout ps) + (absentPosition ps from series + absentPosition ps to series)) ≡ false) where
-
                     past-15 : theVerdict ≡ verdictBy (drop 9 (transferTests (some r)))
                     past-15 = past-14 ∙ passes 15 _ _ positions-room
 
@@ -185,9 +174,8 @@ module _ (rs ps : List ℤ) (id suffix from to series : ℤ) where
                     transfer-refused-16-old e = past-15 ∙ refuses 16 _ _ (ap (λ (b : Bool). not (b && soundPosition (transferNew ps r to series))) e)
 
                     module _ (old-sound : soundPosition (transferOld ps r from series) ≡ true) where
-
                       both-sound : (b : Bool) → soundPosition (transferNew ps r to series) ≡ b
-                        → not (soundPosition (transferOld ps r from series) && soundPosition (transferNew ps r to series)) ≡ not b
+                          → not (soundPosition (transferOld ps r from series) && soundPosition (transferNew ps r to series)) ≡ not b
                       both-sound b e = rw (old-sound, e)
 
                       pub transfer-refused-16-new : soundPosition (transferNew ps r to series) ≡ false → theVerdict ≡ Refused (pos 16) (pos 0)
@@ -201,11 +189,11 @@ module _ (rs ps : List ℤ) (id suffix from to series : ℤ) where
   -- ---- the booking
 
   pub transfer-booked : (r : Record) → find recordKey (keyOf id suffix) (rowsOf recordsLayout rs) ≡ some r → acceptedOn rs ps (transfer id suffix from to series)
-    ≡ answered (Booked (pos 2) (pos 0))
+      ≡ answered (Booked (pos 2) (pos 0))
       (write recordsLayout rs (upsertAll recordKey (transferRows r next to) (rowsOf recordsLayout rs)))
       (write positionsLayout ps (upsertAll positionKey (transferOld ps r from series ∷ transferNew ps r to series ∷ []) (rowsOf positionsLayout ps)))
   unfolding acceptedOn planOf transferPlan viewOf booksOf planReply planTables writeBooks booked upsertAll theRecord
   transfer-booked r named = λ i. answered (Booked (pos 2) (pos 0))
       (write recordsLayout rs (upsertAll recordKey (transferRows (theRecord (named i)) next to) (rowsOf recordsLayout rs)))
       (write positionsLayout ps
-        (upsertAll positionKey (transferOld ps (theRecord (named i)) from series ∷ transferNew ps (theRecord (named i)) to series ∷ []) (rowsOf positionsLayout ps)))
+      (upsertAll positionKey (transferOld ps (theRecord (named i)) from series ∷ transferNew ps (theRecord (named i)) to series ∷ []) (rowsOf positionsLayout ps)))

@@ -40,9 +40,8 @@ use Rattle.verdict.proofs.Transfer.{transferInverse, transferArrived, t
 -- ---- what is required
 
 module _ (rs ps : List ℤ) (id suffix from to series : ℤ)
-  (records-sound : soundRecords rs ≡ true) (positions-sound : soundPositions ps ≡ true)
-  (accepted : verdictOn rs ps (transfer id suffix from to series) ≡ Accepted) where
-
+    (records-sound : soundRecords rs ≡ true) (positions-sound : soundPositions ps ≡ true)
+    (accepted : verdictOn rs ps (transfer id suffix from to series) ≡ Accepted) where
   accepts : Accepts (booksOf (tablesOf rs ps)) (transfer id suffix from to series)
   accepts = accepted-accepts rs ps (transfer id suffix from to series) accepted
 
@@ -55,7 +54,6 @@ module _ (rs ps : List ℤ) (id suffix from to series : ℤ)
   transfer-found e = clash (has-passed .record-found) (ap (λ (o : Option Record). isSome o) e ∙ isSome-none Record)
 
   module _ (r : Record) (named : find recordKey (keyOf id suffix) (rowsOf recordsLayout rs) ≡ some r) where
-
     abbrev next : ℤ
     next = nextOf (rowsOf recordsLayout rs) id
 
@@ -68,20 +66,20 @@ module _ (rs ps : List ℤ) (id suffix from to series : ℤ)
     transfer-ready =
         subst
         (λ (o : Option Record). Ready rs ps (adjustedRecord (theRecord o) ∷ []) (transferInverse (theRecord o) next ∷ transferArrived (theRecord o) next to ∷ [])
-          (transferOld ps (theRecord o) from series ∷ transferNew ps (theRecord o) to series ∷ []))
+        (transferOld ps (theRecord o) from series ∷ transferNew ps (theRecord o) to series ∷ []))
         named
         (ready rs ps _ _ (transfer-facts (booksOf (tablesOf rs ps)) (sound-books rs ps records-sound positions-sound) id suffix from to series accepts) accepts)
 
     pub transfer-next : (pos 0 ≤ℤ next) × ((next +ℤ pos 1) ≤ℤ greatestOfSuffixes)
     unfolding adjustableRecord
-    transfer-next =
-        (next-range rs records-sound id .0,
-        suffix-range (next +ℤ pos 1)
-        (record-sound (transferArrived r next to)
-        (allOf-head (soundRecord (transferArrived r next to)) [] (allOf-tail (soundRecord (transferInverse r next)) (soundRecord (transferArrived r next to) ∷ []) (transfer-ready .added-sound))) .suffix) .1)
+    transfer-next = (
+      next-range rs records-sound id .0,
+      suffix-range (next +ℤ pos 1)
+          (record-sound (transferArrived r next to)
+          (allOf-head (soundRecord (transferArrived r next to)) [] (allOf-tail (soundRecord (transferInverse r next)) (soundRecord (transferArrived r next to) ∷ []) (transfer-ready .added-sound))) .suffix) .1,
+    )
 
     module _ (rs₁ : List ℤ) (e₁ : rs₁ ≡ putOne recordsLayout recordKey rs (adjustedRecord r)) where
-
       adjusted-put : rs₁ ≡ putAll recordsLayout recordKey rs (adjustedRecord r ∷ [])
       adjusted-put = e₁ ∙ put-one recordsLayout recordKey rs (adjustedRecord r)
 
@@ -99,7 +97,7 @@ module _ (rs ps : List ℤ) (id suffix from to series : ℤ)
         ps (put-none positionsLayout positionKey positions-lawful ps (positions-known ps positions-sound .count-sound)) positions-sound
 
     pub transfer-put-new : (ps₁ : List ℤ) → ps₁ ≡ putOne positionsLayout positionKey ps (transferOld ps r from series) → soundPositions ps₁ ≡ true
-      → PutReady ps₁ (transferNew ps r to series)
+        → PutReady ps₁ (transferNew ps r to series)
     transfer-put-new ps₁ e sound =
         put-ready rs ps _ _ (transferOld ps r from series ∷ []) [] (transferNew ps r to series) transfer-ready positions-sound
         ps₁ (e ∙ put-one positionsLayout positionKey ps (transferOld ps r from series)) sound
@@ -107,21 +105,20 @@ module _ (rs ps : List ℤ) (id suffix from to series : ℤ)
 -- ---- what it comes to
 
 module _ (rs ps : List ℤ) (id suffix from to series : ℤ) (r : Record) (named : find recordKey (keyOf id suffix) (rowsOf recordsLayout rs) ≡ some r) where
-
   abbrev after : ℤ
   after = nextOf (rowsOf recordsLayout rs) id
 
   pub transfer-returns : (rs₁ rs₂ ps₁ ps₂ : List ℤ)
-    → rs₁ ≡ putOne recordsLayout recordKey rs (adjustedRecord r)
-    → rs₂ ≡ putAll recordsLayout recordKey rs₁ (transferInverse r after ∷ transferArrived r after to ∷ [])
-    → ps₁ ≡ putOne positionsLayout positionKey ps (transferOld ps r from series)
-    → ps₂ ≡ putOne positionsLayout positionKey ps₁ (transferNew ps r to series)
-    → answered (Booked (pos 2) (pos 0)) rs₂ ps₂ ≡ acceptedOn rs ps (transfer id suffix from to series)
+      → rs₁ ≡ putOne recordsLayout recordKey rs (adjustedRecord r)
+      → rs₂ ≡ putAll recordsLayout recordKey rs₁ (transferInverse r after ∷ transferArrived r after to ∷ [])
+      → ps₁ ≡ putOne positionsLayout positionKey ps (transferOld ps r from series)
+      → ps₂ ≡ putOne positionsLayout positionKey ps₁ (transferNew ps r to series)
+      → answered (Booked (pos 2) (pos 0)) rs₂ ps₂ ≡ acceptedOn rs ps (transfer id suffix from to series)
   transfer-returns rs₁ rs₂ ps₁ ps₂ e₁ e₂ f₁ f₂ =
       let adjusted : rs₁ ≡ putAll recordsLayout recordKey rs (adjustedRecord r ∷ []) = e₁ ∙ put-one recordsLayout recordKey rs (adjustedRecord r) in
       let arrived : rs₂ ≡ putAll recordsLayout recordKey rs (transferRows r after to) =
-            put-more recordsLayout recordKey records-lawful rs rs₁ (adjustedRecord r ∷ []) adjusted rs₂ (transferInverse r after ∷ transferArrived r after to ∷ []) e₂ in
+      put-more recordsLayout recordKey records-lawful rs rs₁ (adjustedRecord r ∷ []) adjusted rs₂ (transferInverse r after ∷ transferArrived r after to ∷ []) e₂ in
       let moved : ps₂ ≡ putAll positionsLayout positionKey ps (transferOld ps r from series ∷ transferNew ps r to series ∷ []) =
-            put-next positionsLayout positionKey positions-lawful ps ps₁ (transferOld ps r from series ∷ []) (f₁ ∙ put-one positionsLayout positionKey ps (transferOld ps r from series))
-            ps₂ (transferNew ps r to series) f₂ in
+      put-next positionsLayout positionKey positions-lawful ps ps₁ (transferOld ps r from series ∷ []) (f₁ ∙ put-one positionsLayout positionKey ps (transferOld ps r from series))
+      ps₂ (transferNew ps r to series) f₂ in
       (λ i. answered (Booked (pos 2) (pos 0)) (arrived i) (moved i)) ∙ sym (transfer-booked rs ps id suffix from to series r named)

@@ -10,22 +10,24 @@ use Rattle.worked.specs.Examples.{Example, minus, mergeOfTwo, row, posit
 -- Quantity 1,000,000 is accepted.
 abbrev pub mostAccepted : Example
 mostAccepted = record {
-    start = tables (table 0 [] 13) (table 0 [] 5);
-    requests = trade (pos 7) (pos 1) (pos 1) (pos 2) (pos 1000000) (minus 1000000000000) ∷ [];
-    replies = Booked (pos 1) (pos 0) ∷ [];
-    finish = tables
-        (table 1
-            (row (pos 7) (pos 0) (pos 0) (pos 0) (pos 0) (pos 1) (pos 1) (pos 2) (pos 1000000) (minus 1000000000000) (pos 0) (pos 1000000) (pos 0) ∷ [])
-            0)
-        (table 1 (position (pos 1) (pos 1) (pos 0) (pos 1000000) (pos 0) ∷ []) 0) }
+  start = tables (table 0 [] 13) (table 0 [] 5);
+  requests = trade (pos 7) (pos 1) (pos 1) (pos 2) (pos 1000000) (minus 1000000000000) ∷ [];
+  replies = Booked (pos 1) (pos 0) ∷ [];
+  finish = tables
+      (table 1
+      (row (pos 7) (pos 0) (pos 0) (pos 0) (pos 0) (pos 1) (pos 1) (pos 2) (pos 1000000) (minus 1000000000000) (pos 0) (pos 1000000) (pos 0) ∷ [])
+      0)
+      (table 1 (position (pos 1) (pos 1) (pos 0) (pos 1000000) (pos 0) ∷ []) 0);
+}
 
 -- A request that is refused and leaves the tables as they are.
 abbrev pub refusedOn : List ℤ → List ℤ → Request → ℤ → ℤ → Example
 refusedOn records positions request number place = record {
-    start = tables records positions;
-    requests = request ∷ [];
-    replies = Refused number place ∷ [];
-    finish = tables records positions }
+  start = tables records positions;
+  requests = request ∷ [];
+  replies = Refused number place ∷ [];
+  finish = tables records positions;
+}
 
 -- 1,000,001 is refused 3.
 abbrev pub moreRefused : Example
@@ -47,27 +49,28 @@ belowZero = mergeOfTwo (pos 1) (pos 3) (minus 1) (pos 1) (pos 0) (pos 3) (pos 0)
 -- second part has one link; that of a suffix which the id does not have is refused 5.
 abbrev pub sharedId : Example
 sharedId = record {
-    start = tables (table 0 [] 91) (table 0 [] 5);
-    requests =
-        trade (pos 5) (pos 1) (pos 1) (pos 1) (pos 4) (minus 1)
-        ∷ separate (pos 5) (pos 0) (pos 1) (pos 1) (pos 3 ∷ pos 1 ∷ [])
-        ∷ merge (pos 6) (pos 1) (pos 1) (pos 5 ∷ pos 2 ∷ pos 5 ∷ pos 3 ∷ [])
-        ∷ lineage (pos 5) (pos 3)
-        ∷ lineage (pos 5) (pos 6)
-        ∷ [];
-    replies = Booked (pos 1) (pos 0) ∷ Booked (pos 3) (pos 0) ∷ Booked (pos 3) (pos 0) ∷ Lineage (minus 1) (pos 1) ∷ Refused (pos 5) (pos 0) ∷ [];
-    finish = tables
-        (table 7
-            (row (pos 5) (pos 0) (pos 0) (pos 0) (pos 1) (pos 1) (pos 1) (pos 1) (pos 4) (minus 1) (pos 4) (pos 0) (pos 0)
-            ∷ row (pos 5) (pos 1) (pos 0) (pos 6) (pos 2) (pos 1) (pos 1) (pos 1) (minus 4) (minus 1) (pos 0) (pos 0) (pos 0)
-            ∷ row (pos 5) (pos 2) (pos 0) (pos 6) (pos 1) (pos 1) (pos 1) (pos 1) (pos 3) (minus 1) (pos 0) (pos 0) (pos 0)
-            ∷ row (pos 5) (pos 3) (pos 0) (pos 6) (pos 1) (pos 1) (pos 1) (pos 1) (pos 1) (minus 1) (pos 0) (pos 0) (pos 0)
-            ∷ row (pos 5) (pos 4) (pos 2) (pos 901) (pos 2) (pos 1) (pos 1) (pos 1) (minus 3) (minus 1) (pos 0) (pos 0) (pos 6)
-            ∷ row (pos 5) (pos 5) (pos 3) (pos 901) (pos 2) (pos 1) (pos 1) (pos 1) (minus 1) (minus 1) (pos 0) (pos 0) (pos 6)
-            ∷ row (pos 6) (pos 0) (pos 0) (pos 901) (pos 0) (pos 1) (pos 1) (pos 1) (pos 4) (minus 1) (pos 0) (pos 0) (pos 0)
-            ∷ [])
-            0)
-        (table 1 (position (pos 1) (pos 1) (pos 4) (pos 0) (pos 0) ∷ []) 0) }
+  start = tables (table 0 [] 91) (table 0 [] 5);
+  requests =
+      trade (pos 5) (pos 1) (pos 1) (pos 1) (pos 4) (minus 1)
+      ∷ separate (pos 5) (pos 0) (pos 1) (pos 1) (pos 3 ∷ pos 1 ∷ [])
+      ∷ merge (pos 6) (pos 1) (pos 1) (pos 5 ∷ pos 2 ∷ pos 5 ∷ pos 3 ∷ [])
+      ∷ lineage (pos 5) (pos 3)
+      ∷ lineage (pos 5) (pos 6)
+      ∷ [];
+  replies = Booked (pos 1) (pos 0) ∷ Booked (pos 3) (pos 0) ∷ Booked (pos 3) (pos 0) ∷ Lineage (minus 1) (pos 1) ∷ Refused (pos 5) (pos 0) ∷ [];
+  finish = tables
+      (table 7
+      (row (pos 5) (pos 0) (pos 0) (pos 0) (pos 1) (pos 1) (pos 1) (pos 1) (pos 4) (minus 1) (pos 4) (pos 0) (pos 0)
+      ∷ row (pos 5) (pos 1) (pos 0) (pos 6) (pos 2) (pos 1) (pos 1) (pos 1) (minus 4) (minus 1) (pos 0) (pos 0) (pos 0)
+      ∷ row (pos 5) (pos 2) (pos 0) (pos 6) (pos 1) (pos 1) (pos 1) (pos 1) (pos 3) (minus 1) (pos 0) (pos 0) (pos 0)
+      ∷ row (pos 5) (pos 3) (pos 0) (pos 6) (pos 1) (pos 1) (pos 1) (pos 1) (pos 1) (minus 1) (pos 0) (pos 0) (pos 0)
+      ∷ row (pos 5) (pos 4) (pos 2) (pos 901) (pos 2) (pos 1) (pos 1) (pos 1) (minus 3) (minus 1) (pos 0) (pos 0) (pos 6)
+      ∷ row (pos 5) (pos 5) (pos 3) (pos 901) (pos 2) (pos 1) (pos 1) (pos 1) (minus 1) (minus 1) (pos 0) (pos 0) (pos 6)
+      ∷ row (pos 6) (pos 0) (pos 0) (pos 901) (pos 0) (pos 1) (pos 1) (pos 1) (pos 4) (minus 1) (pos 0) (pos 0) (pos 0)
+      ∷ [])
+      0)
+      (table 1 (position (pos 1) (pos 1) (pos 4) (pos 0) (pos 0) ∷ []) 0);
+}
 
 abbrev pub others : List Example
 others = mostAccepted ∷ moreRefused ∷ emptySlice ∷ loneZeros ∷ belowZero ∷ sharedId ∷ []

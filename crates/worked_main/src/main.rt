@@ -55,9 +55,26 @@ fn p11() {
     let mut positions = [-1; 16];
     records[0] = 0;
     positions[0] = 0;
-    show::reply(book::trade(&mut records, &mut positions, 456_789, 1, 1, 1, 100, 1_250_000_000));
+    show::reply(book::trade(
+        &mut records,
+        &mut positions,
+        456_789,
+        1,
+        1,
+        1,
+        100,
+        1_250_000_000,
+    ));
     show::reply(book::transfer(&mut records, &mut positions, 456_789, 0, 1, 2, 1));
-    show::reply(book::separate(&mut records, &mut positions, 456_789, 2, 2, 1, &[50, 25, 25]));
+    show::reply(book::separate(
+        &mut records,
+        &mut positions,
+        456_789,
+        2,
+        2,
+        1,
+        &[50, 25, 25],
+    ));
     show::tables(&records, &positions);
 }
 
@@ -68,7 +85,16 @@ fn others() {
     let mut positions = [-1; 6];
     records[0] = 0;
     positions[0] = 0;
-    show::reply(book::trade(&mut records, &mut positions, 7, 1, 1, 2, 1_000_000, -1_000_000_000_000));
+    show::reply(book::trade(
+        &mut records,
+        &mut positions,
+        7,
+        1,
+        1,
+        2,
+        1_000_000,
+        -1_000_000_000_000,
+    ));
     show::reply(book::trade(&mut records, &mut positions, 8, 1, 1, 2, 1_000_001, 5));
     show::tables(&records, &positions);
     show::title(b"An empty slice");

@@ -21,31 +21,34 @@ returns-3 : tie.Need-returns-3
 unfolding validKind
 returns-3 c =
     let s : tie.Start = c .before .before .before in
-    simp
-    (not-literal 0 (s .fits .z) (c .before .before .if1 .left),
-    not-literal 4 (s .fits .z) (c .before .if2 .left),
-    is-literal 6 tt (s .fits .z) (c .if3 .taken))
+    simp (
+      not-literal 0 (s .fits .z) (c .before .before .if1 .left),
+      not-literal 4 (s .fits .z) (c .before .if2 .left),
+      is-literal 6 tt (s .fits .z) (c .if3 .taken),
+    )
 
 returns-4 : tie.Need-returns-4
 unfolding validKind
 returns-4 c =
     let s : tie.Start = c .before .before .before .before in
-    simp
-    (not-literal 0 (s .fits .z) (c .before .before .before .if1 .left),
-    not-literal 4 (s .fits .z) (c .before .before .if2 .left),
-    not-literal 6 (s .fits .z) (c .before .if3 .left),
-    is-literal 10 tt (s .fits .z) (c .if4 .taken))
+    simp (
+      not-literal 0 (s .fits .z) (c .before .before .before .if1 .left),
+      not-literal 4 (s .fits .z) (c .before .before .if2 .left),
+      not-literal 6 (s .fits .z) (c .before .if3 .left),
+      is-literal 10 tt (s .fits .z) (c .if4 .taken),
+    )
 
 returns-5 : tie.Need-returns-5
 unfolding validKind
 returns-5 c =
     let s : tie.Start = c .before .before .before .before in
-    simp
-    (not-literal 0 (s .fits .z) (c .before .before .before .if1 .left),
-    not-literal 4 (s .fits .z) (c .before .before .if2 .left),
-    not-literal 6 (s .fits .z) (c .before .if3 .left),
-    not-literal 10 (s .fits .z) (c .if4 .left),
-    literal-test 901 tt (s .fits .z))
+    simp (
+      not-literal 0 (s .fits .z) (c .before .before .before .if1 .left),
+      not-literal 4 (s .fits .z) (c .before .before .if2 .left),
+      not-literal 6 (s .fits .z) (c .before .if3 .left),
+      not-literal 10 (s .fits .z) (c .if4 .left),
+      literal-test 901 tt (s .fits .z),
+    )
 
 pub valid-kind-spec : {M : Type 1} → statement M
 valid-kind-spec = tie.close (tie.spec returns returns-2 returns-3 returns-4 returns-5)

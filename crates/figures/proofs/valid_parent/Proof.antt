@@ -27,10 +27,11 @@ returns-3 : tie.Need-returns-3
 unfolding validParent
 returns-3 c =
     let s : tie.Start = c .before .before in
-    simp
-    (not-below (c .before),
-    is-literal 0 tt (s .fits .parent) (c .if2 .left),
-    literal-test 0 tt (s .fits .suffix))
+    simp (
+      not-below (c .before),
+      is-literal 0 tt (s .fits .parent) (c .if2 .left),
+      literal-test 0 tt (s .fits .suffix),
+    )
 
 pub valid-parent-spec : {M : Type 1} → statement M
 valid-parent-spec = tie.close (tie.spec returns returns-2 returns-3)

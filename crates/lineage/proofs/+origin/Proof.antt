@@ -53,7 +53,6 @@ claims t = (find-record-reads.Asked, find-record-reads.Learnt, read-record-reads
 -- ---- what is known at the places
 
 module _ (t : ℕ) where
-
   abbrev Start : Type 0
   Start = origin-lts.Start (claims t) (origin-at t) origin.Post
 
@@ -129,7 +128,7 @@ module _ (t : ℕ) where
     parent-fits = let range : (pos 0 ≤ℤ parent) × (parent ≤ℤ greatestOfSuffixes) = suffix-range parent parent-is-valid in omega zarith
 
   followed : (c : Followed)
-    → c .origin .result ≡ originFound (cells (from (c .before .before))) (id (from (c .before .before))) (parent (c .before .before))
+      → c .origin .result ≡ originFound (cells (from (c .before .before))) (id (from (c .before .before))) (parent (c .before .before))
   followed c = simp (toZ-ofZ (from (c .before .before) .fits .id), toZ-ofZ (parent-fits (c .before .before))) at (c .origin .ensures)
 
   module _ (c : Linked) where
@@ -182,10 +181,11 @@ origin-origin-requires : (t : ℕ) → origin-lts.Need-origin-requires (claims t
 origin-origin-requires t c κs =
     let o : Onward t = c .before in
     let s : Start t = from t o in
-    simp (toZ-ofZ (parent-fits t o))
-    (subst (λ (n : ℕ). natAbs (parent t o) < n) (s .pre .0)
-      (parent-nearer (cells t s) (id t s) (suffix t s) (o .before .read-record .result) (named t (o .before)) (sound t s) (not-zero t o)),
-    (sound t s, parent-is-valid t o))
+    simp (toZ-ofZ (parent-fits t o)) (
+      subst (λ (n : ℕ). natAbs (parent t o) < n) (s .pre .0)
+          (parent-nearer (cells t s) (id t s) (suffix t s) (o .before .read-record .result) (named t (o .before)) (sound t s) (not-zero t o)),
+      (sound t s, parent-is-valid t o),
+    )
 
 origin-enum-known-price : (t : ℕ) → origin-lts.Need-enum-known-price (claims t) (origin-at t) origin.Post
 origin-enum-known-price t c = search needs

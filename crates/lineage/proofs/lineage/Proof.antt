@@ -77,7 +77,7 @@ returns-3 c =
     let s : tie.Start = c .before .before .before .before .before .before in
     let e : tie.Else2 = c .before .before in
     sym (ap (λ (a : Answer). a .reply)
-      (lineage-refused-suffix (cells s) [] (id s) (suffix s) (sound (e .before .before)) (id-valid e) (failed (suffix-answer (c .before)) (c .if3 .taken))))
+    (lineage-refused-suffix (cells s) [] (id s) (suffix s) (sound (e .before .before)) (id-valid e) (failed (suffix-answer (c .before)) (c .if3 .taken))))
 
 origin-requires : tie.Need-origin-requires
 origin-requires c κs = simp (toZ-ofZ (start c .fits .suffix)) (sound (c .before .before .before .before), suffix-valid c)
@@ -97,8 +97,8 @@ returns-4 c =
     let links : ℤ = c .before .price .given .0 .1 .0 in
     simp (read-back price (c .known-told .given .0 .1), read-back links (c .known-told .given .1 .0 .1))
     (sym (ap (λ (a : Answer). a .reply)
-      (lineage-answered (cells s) [] (id s) (suffix s) (sound (e .before .before .before .before)) (id-valid (e .before .before)) (suffix-valid e) _
-        (found-from (cells s) (id s) (suffix s) price links (sym (traced o) ∙ c .before .price .given .1)))))
+    (lineage-answered (cells s) [] (id s) (suffix s) (sound (e .before .before .before .before)) (id-valid (e .before .before)) (suffix-valid e) _
+    (found-from (cells s) (id s) (suffix s) price links (sym (traced o) ∙ c .before .price .given .1)))))
 
 returns-5 : tie.Need-returns-5
 returns-5 c =
@@ -106,8 +106,8 @@ returns-5 c =
     let e : tie.Else3 = o .before in
     let s : tie.Start = start e in
     sym (ap (λ (a : Answer). a .reply)
-      (lineage-refused-missing (cells s) [] (id s) (suffix s) (sound (e .before .before .before .before)) (id-valid (e .before .before)) (suffix-valid e)
-        (found-missing (cells s) (id s) (suffix s) (sym (traced o) ∙ c .enum-told .given .1))))
+    (lineage-refused-missing (cells s) [] (id s) (suffix s) (sound (e .before .before .before .before)) (id-valid (e .before .before)) (suffix-valid e)
+    (found-missing (cells s) (id s) (suffix s) (sym (traced o) ∙ c .enum-told .given .1))))
 
 pub lineage-spec : {M : Type 1} → statement M
 lineage-spec =

@@ -33,12 +33,12 @@ at-place : (c : tie.Then1) → 1 + c .before .place-of .result * c .before .befo
 at-place c = row-in (c .before .before) (c .before .place-of .result) (c .if1 .taken)
 
 read : (c : tie.Joined1) → place (c .before .before) < c .before .before .args .count
-  → SFits w64 (getD (c .before .before .args .cells .now) (1 + place (c .before .before) * c .before .before .args .width + 1) (pos 0))
+    → SFits w64 (getD (c .before .before .args .cells .now) (1 + place (c .before .before) * c .before .before .args .width + 1) (pos 0))
 read c h =
     ⊎-elim
     (λ w.
-      let f : SFits w64 (getD (c .before .before .args .cells .now) (1 + c .before .place-of .result * c .before .before .args .width + 1) (pos 0)) = sfits-of (w .1 .given) in
-      subst (λ (p : ℕ). SFits w64 (getD (c .before .before .args .cells .now) (1 + p * c .before .before .args .width + 1) (pos 0))) (placed (c .before)) f)
+    let f : SFits w64 (getD (c .before .before .args .cells .now) (1 + c .before .place-of .result * c .before .before .args .width + 1) (pos 0)) = sfits-of (w .1 .given) in
+    subst (λ (p : ℕ). SFits w64 (getD (c .before .before .args .cells .now) (1 + p * c .before .before .args .width + 1) (pos 0))) (placed (c .before)) f)
     (λ w. absurd (omega (arith, placed (c .before), w .left)))
     (c .if1 .came)
 

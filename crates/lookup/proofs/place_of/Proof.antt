@@ -81,9 +81,11 @@ returns c =
     let i : tie.In-loop Inv-loop μ-loop = inside (c .before) in
     let s : tie.Start Inv-loop μ-loop = start i in
     let placed : i .before .loop .place ≡ rowPlace (s .args .width) (sought s) (s .args .count) (s .args .cells .now) =
-          omega
-          (arith, i .before .loop .inv,
-          place-to (s .args .cells .now) (s .args .width) (s .args .count) (sought s) (i .before .loop .place) (one-of i) (sym (tested (c .before)) ∙ c .if1 .taken)) in
+    omega (
+      arith,
+      i .before .loop .inv,
+      place-to (s .args .cells .now) (s .args .width) (s .args .count) (sought s) (i .before .loop .place) (one-of i) (sym (tested (c .before)) ∙ c .if1 .taken),
+    ) in
     simp (toZ-ofZ (s .fits .major), toZ-ofZ (s .fits .minor)) at placed
 
 add-place : tie.Need-add-place Inv-loop μ-loop
@@ -96,15 +98,16 @@ loop-again : tie.Need-loop-again Inv-loop μ-loop
 loop-again c =
     let i : tie.In-loop Inv-loop μ-loop = inside (c .before) in
     let s : tie.Start Inv-loop μ-loop = start i in
-    omega
-    (arith,
-    place-past (s .args .cells .now) (s .args .width) (s .args .count) (sought s) (i .before .loop .place) (one-of i) (s .pre .2) (sym (tested (c .before)) ∙ c .if1 .left))
+    omega (
+      arith,
+      place-past (s .args .cells .now) (s .args .width) (s .args .count) (sought s) (i .before .loop .place) (one-of i) (s .pre .2) (sym (tested (c .before)) ∙ c .if1 .left),
+    )
 
 returns-2 : tie.Need-returns-2 Inv-loop μ-loop
 returns-2 c =
     let s : tie.Start Inv-loop μ-loop = c .before .before .before in
     let placed : c .before .loop .place ≡ rowPlace (s .args .width) (sought s) (s .args .count) (s .args .cells .now) =
-          omega (arith, c .before .loop .inv, place-at-most (s .args .cells .now) (s .args .width) (s .args .count) (sought s)) in
+    omega (arith, c .before .loop .inv, place-at-most (s .args .cells .now) (s .args .width) (s .args .count) (sought s)) in
     simp (toZ-ofZ (s .fits .major), toZ-ofZ (s .fits .minor)) at placed
 
 pub place-of-spec : {M : Type 1} → statement M

@@ -11,18 +11,19 @@ returns c =
     let s : tie.Start = c .before in
     let r = s .args .r in
     let known = c .struct-told .given in
-    simp
-    (read-back (r .id) (known .0 .1),
-    read-back (r .suffix) (known .1 .0 .1),
-    read-back (r .series) (known .1 .1 .1 .1 .1 .1 .0 .1),
-    read-back (r .side) (known .1 .1 .1 .1 .1 .1 .1 .0 .1),
-    read-back (r .price) (known .1 .1 .1 .1 .1 .1 .1 .1 .1 .0 .1),
-    toZ-ofZ (s .fits .suffix),
-    toZ-ofZ (s .fits .kind),
-    toZ-ofZ (s .fits .account),
-    toZ-ofZ (s .fits .quantity),
-    toZ-ofZ (s .fits .long),
-    toZ-ofZ (s .fits .short))
+    simp (
+      read-back (r .id) (known .0 .1),
+      read-back (r .suffix) (known .1 .0 .1),
+      read-back (r .series) (known .1 .1 .1 .1 .1 .1 .0 .1),
+      read-back (r .side) (known .1 .1 .1 .1 .1 .1 .1 .0 .1),
+      read-back (r .price) (known .1 .1 .1 .1 .1 .1 .1 .1 .1 .0 .1),
+      toZ-ofZ (s .fits .suffix),
+      toZ-ofZ (s .fits .kind),
+      toZ-ofZ (s .fits .account),
+      toZ-ofZ (s .fits .quantity),
+      toZ-ofZ (s .fits .long),
+      toZ-ofZ (s .fits .short),
+    )
 
 pub adjustable-record-spec : {M : Type 1} → statement M
 adjustable-record-spec = tie.close (tie.spec returns)

@@ -37,18 +37,19 @@ returns c =
     let r = s .args .r in
     let known = c .struct-told2 .given in
     simp (negated (r .quantity) (known .1 .1 .1 .1 .1 .1 .1 .1 .0 .1) (s .pre))
-    (simp
-    (read-back (r .id) (known .0 .1),
-    read-back (r .suffix) (known .1 .0 .1),
-    read-back (r .account) (known .1 .1 .1 .1 .1 .0 .1),
-    read-back (r .series) (known .1 .1 .1 .1 .1 .1 .0 .1),
-    read-back (r .side) (known .1 .1 .1 .1 .1 .1 .1 .0 .1),
-    read-back (r .price) (known .1 .1 .1 .1 .1 .1 .1 .1 .1 .0 .1),
-    toZ-ofZ (s .fits .suffix),
-    toZ-ofZ (s .fits .kind),
-    toZ-ofZ (s .fits .long),
-    toZ-ofZ (s .fits .short),
-    toZ-ofZ (s .fits .into)))
+    (simp (
+      read-back (r .id) (known .0 .1),
+      read-back (r .suffix) (known .1 .0 .1),
+      read-back (r .account) (known .1 .1 .1 .1 .1 .0 .1),
+      read-back (r .series) (known .1 .1 .1 .1 .1 .1 .0 .1),
+      read-back (r .side) (known .1 .1 .1 .1 .1 .1 .1 .0 .1),
+      read-back (r .price) (known .1 .1 .1 .1 .1 .1 .1 .1 .1 .0 .1),
+      toZ-ofZ (s .fits .suffix),
+      toZ-ofZ (s .fits .kind),
+      toZ-ofZ (s .fits .long),
+      toZ-ofZ (s .fits .short),
+      toZ-ofZ (s .fits .into),
+    ))
 
 pub inverse-record-spec : {M : Type 1} → statement M
 inverse-record-spec = tie.close (tie.spec sub-t7 returns)

@@ -28,7 +28,7 @@ unfolding isElsewhere
 returns-2 c =
     let s : tie.Start = c .before .before .before .before .before in
     let here : eqZ (s .args .r .account) (s .args .account) ≡ true
-          = true-eqZ (s .args .r .account) (s .args .account) (ofZ-inj (account-fits (c .before .before .before)) (s .fits .account) (c .before .before .if1 .left)) in
+    = true-eqZ (s .args .r .account) (s .args .account) (ofZ-inj (account-fits (c .before .before .before)) (s .fits .account) (c .before .before .if1 .left)) in
     let series : SFits w64 (s .args .r .series) = sfits-of {w = w64} {z = s .args .r .series} (c .struct-told2 .given .1 .1 .1 .1 .1 .1 .0 .1) in
     simp (here, eqb-ofZ series (s .fits .series))
 

@@ -30,18 +30,19 @@ returns c =
     let s : tie.Start = c .before .before .before .before .before .before .before in
     let p = s .args .p in
     let known = c .struct-told4 .given in
-    simp
-    (read-back (p .account) (known .0 .1),
-    read-back (p .series) (known .1 .0 .1),
-    read-back (p .long) (known .1 .1 .0 .1),
-    read-back (p .short) (known .1 .1 .1 .0 .1),
-    read-back (p .cash) (known .1 .1 .1 .1 .0 .1),
-    toZ-ofZ (s .fits .long),
-    toZ-ofZ (s .fits .short),
-    toZ-ofZ (s .fits .cash),
-    toZ-ofZ (long-fits p (s .pre .0) (s .args .long) (s .pre .1)),
-    toZ-ofZ (short-fits p (s .pre .0) (s .args .short) (s .pre .2)),
-    toZ-ofZ (moved-cash-fits p (s .pre .0) (s .args .cash) (s .pre .3)))
+    simp (
+      read-back (p .account) (known .0 .1),
+      read-back (p .series) (known .1 .0 .1),
+      read-back (p .long) (known .1 .1 .0 .1),
+      read-back (p .short) (known .1 .1 .1 .0 .1),
+      read-back (p .cash) (known .1 .1 .1 .1 .0 .1),
+      toZ-ofZ (s .fits .long),
+      toZ-ofZ (s .fits .short),
+      toZ-ofZ (s .fits .cash),
+      toZ-ofZ (long-fits p (s .pre .0) (s .args .long) (s .pre .1)),
+      toZ-ofZ (short-fits p (s .pre .0) (s .args .short) (s .pre .2)),
+      toZ-ofZ (moved-cash-fits p (s .pre .0) (s .args .cash) (s .pre .3)),
+    )
 
 pub moved-spec : {M : Type 1} → statement M
 moved-spec = tie.close (tie.spec add-t5 add-t6 add-t7 returns)

@@ -82,8 +82,8 @@ module _ (c : tie.After-row) where
   found-at = recordAt (rs found) (1 + c .row .given .0 .0 * 13)
 
   there : (c .row .given .0 .0 < length (rowsOf recordsLayout (rs found)))
-    × (find recordKey (keyOf (found .args .id) (found .args .suffix)) (rowsOf recordsLayout (rs found)) ≡ some found-at)
-    × (recordKey found-at ≡ keyOf (found .args .id) (found .args .suffix))
+      × (find recordKey (keyOf (found .args .id) (found .args .suffix)) (rowsOf recordsLayout (rs found)) ≡ some found-at)
+      × (recordKey found-at ≡ keyOf (found .args .id) (found .args .suffix))
   there = record-found (rs found) (found .args .id) (found .args .suffix) (c .row .given .0 .0) (sym (answer (c .before .before)) ∙ c .row .given .1)
 
 module _ (c : tie.After-read-record) where
@@ -146,10 +146,12 @@ adjusted c =
 adjust-record-requires : tie.Need-adjust-record-requires
 adjust-record-requires c κs =
     let p : tie.After-row = row-place (read (c .before)) in
-    let t : tie.Start = found p in
-    (t .pre .0, there p .0,
-    separation-status (rs t) (t .args .positions .now) (t .args .id) (t .args .suffix) (t .args .account) (t .args .series) (parts t) (t .pre .0) (t .pre .1) (t .pre .2)
-    (found-at p) (there p .1))
+    let t : tie.Start = found p in (
+      t .pre .0,
+      there p .0,
+      separation-status (rs t) (t .args .positions .now) (t .args .id) (t .args .suffix) (t .args .account) (t .args .series) (parts t) (t .pre .0) (t .pre .1) (t .pre .2)
+          (found-at p) (there p .1),
+    )
 
 -- ---- the gap
 
@@ -174,7 +176,7 @@ module _ (a : tie.After-adjust-record) where
       (r (read1 a)) (named (read1 a)) (a .adjust-record .last .0) (adjusted a)
 
   room : length (rowsOf recordsLayout (a .adjust-record .last .0)) + length (separationInverse (r (read1 a)) (next (s (read1 a))) ∷ partRecords (r (read1 a)) (next (s (read1 a)) +ℤ pos 1) (parts (s (read1 a))))
-    ≤ roomOf recordsLayout (a .adjust-record .last .0)
+      ≤ roomOf recordsLayout (a .adjust-record .last .0)
   room =
       let t : tie.Start = s (read1 a) in
       separation-room (rs t) (t .args .positions .now) (t .args .id) (t .args .suffix) (t .args .account) (t .args .series) (parts t) (t .pre .0) (t .pre .1) (t .pre .2)
@@ -184,7 +186,7 @@ module _ (a : tie.After-adjust-record) where
   own = found-record (rs (s (read1 a))) (s (read1 a) .pre .0) (s (read1 a) .args .id) (s (read1 a) .args .suffix) (r (read1 a)) (named (read1 a)) .id-is
 
 there-are : (c : tie.After-open-rows)
-  → (c .open-rows .result ≤ length (rowsOf recordsLayout (rs₁ c)))
+    → (c .open-rows .result ≤ length (rowsOf recordsLayout (rs₁ c)))
     × (1 + (length (rowsOf recordsLayout (rs₁ c)) + (length (parts (s (read2 c))) + 1)) * 13 ≤ length (rs₁ c))
     × (length (rowsOf recordsLayout (rs₁ c)) + (length (parts (s (read2 c))) + 1) ≤ 4096)
 there-are c =
@@ -242,16 +244,17 @@ add-write-parts-2 c = rw (next-is (adjusting (opened c) .before .before)) (first
 write-parts-requires : tie.Need-write-parts-requires
 write-parts-requires c κs =
     let t : tie.Start = s (read3 c) in
-    let range : (pos 0 ≤ℤ next t) × ((next t +ℤ pos (length (parts t))) ≤ℤ greatestOfSuffixes) = suffixes t in
-    (omega (arith, there-are (opened c), opened c .open-rows .kept .0, writing c .write-record .kept .0),
-    rw (first c) (omega (zarith, +-lin (next t) (pos 1))),
-    rw (first c) (omega (zarith, +-lin (next t) (pos 1), +-lin (next t) (pos (length (parts t))))),
-    few t)
+    let range : (pos 0 ≤ℤ next t) × ((next t +ℤ pos (length (parts t))) ≤ℤ greatestOfSuffixes) = suffixes t in (
+      omega (arith, there-are (opened c), opened c .open-rows .kept .0, writing c .write-record .kept .0),
+      rw (first c) (omega (zarith, +-lin (next t) (pos 1))),
+      rw (first c) (omega (zarith, +-lin (next t) (pos 1), +-lin (next t) (pos (length (parts t))))),
+      few t,
+    )
 
 parts-put : (c : tie.After-write-parts)
-  → c .write-parts .last .0
+    → c .write-parts .last .0
     ≡ putAll recordsLayout recordKey (rs₁ (opened (c .before)))
-      (separationInverse (r (read3 (c .before))) (next (s (read3 (c .before)))) ∷ partRecords (r (read3 (c .before))) (next (s (read3 (c .before))) +ℤ pos 1) (parts (s (read3 (c .before)))))
+    (separationInverse (r (read3 (c .before))) (next (s (read3 (c .before)))) ∷ partRecords (r (read3 (c .before))) (next (s (read3 (c .before))) +ℤ pos 1) (parts (s (read3 (c .before)))))
 parts-put c =
     let i : tie.After-write-parts-arg = c .before in
     let o : tie.After-open-rows = opened i in
@@ -286,7 +289,7 @@ returns-2 c =
     let t : tie.Start = s p in
     ap (λ (z : ℤ). answered (Booked z (pos 0)) (q .write-parts .last .0) (t .args .positions .now)) (rows t)
     ∙ separation-returns (rs t) (t .args .positions .now) (t .args .id) (t .args .suffix) (t .args .account) (t .args .series) (parts t) (t .pre .1) (r p) (named p)
-      (a .adjust-record .last .0) (q .write-parts .last .0) (adjusted a) (parts-put q)
+    (a .adjust-record .last .0) (q .write-parts .last .0) (adjusted a) (parts-put q)
 
 pub book-spec : {M : Type 1} → statement M
 book-spec =

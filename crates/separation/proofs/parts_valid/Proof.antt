@@ -21,7 +21,7 @@ abbrev μ-loop : tie.MeasureT-loop
 
 -- The test of the next part.
 answer : (c : tie.After-valid-quantity Inv-loop μ-loop)
-  → c .valid-quantity .result ≡ validQuantity (getD (c .before .before .before .before .args .parts .now) (c .before .before .before .loop .i) (pos 0))
+    → c .valid-quantity .result ≡ validQuantity (getD (c .before .before .before .before .args .parts .now) (c .before .before .before .loop .i) (pos 0))
 answer c =
     simp (read-back (getD (c .before .before .before .before .args .parts .now) (c .before .before .before .loop .i) (pos 0)) (c .before .valid-quantity-arg .given))
     at (c .valid-quantity .ensures)
@@ -52,10 +52,11 @@ loop-less c = omega arith
 
 loop-again : tie.Need-loop-again Inv-loop μ-loop
 loop-again c =
-    let l : tie.At-loop Inv-loop μ-loop = c .before .before .before .before in
-    (omega arith,
-    sym (part-valid (l .before .args .parts .now) (l .loop .i) (c .before .before .before .loop-test .taken) (passed (answer (c .before)) (c .if1 .left)))
-    ∙ l .loop .inv .1)
+    let l : tie.At-loop Inv-loop μ-loop = c .before .before .before .before in (
+      omega arith,
+      sym (part-valid (l .before .args .parts .now) (l .loop .i) (c .before .before .before .loop-test .taken) (passed (answer (c .before)) (c .if1 .left)))
+          ∙ l .loop .inv .1,
+    )
 
 returns-2 : tie.Need-returns-2 Inv-loop μ-loop
 returns-2 c = none-invalid (c .before .before .args .parts .now) (c .before .loop .i) (c .loop-test .left) ∙ c .before .loop .inv .1

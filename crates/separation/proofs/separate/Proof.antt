@@ -108,9 +108,11 @@ returns-3 c =
 book-requires : tie.Need-book-requires
 book-requires c κs =
     let v : tie.After-verdict = c .before .before .before .before in
-    let s : tie.Start = start v in
-    (records-known (sound v .before .before .before), positions-known (sound v),
-    simp (toZ-ofZ (s .fits .id), toZ-ofZ (s .fits .suffix), toZ-ofZ (s .fits .account), toZ-ofZ (s .fits .series)) (sym (answer v) ∙ c .before .before .enum-told .given .1))
+    let s : tie.Start = start v in (
+      records-known (sound v .before .before .before),
+      positions-known (sound v),
+      simp (toZ-ofZ (s .fits .id), toZ-ofZ (s .fits .suffix), toZ-ofZ (s .fits .account), toZ-ofZ (s .fits .series)) (sym (answer v) ∙ c .before .before .enum-told .given .1),
+    )
 
 same-length-6 : tie.Need-same-length-6
 same-length-6 c = search needs
@@ -125,7 +127,7 @@ returns-4 c =
     let v : tie.After-verdict = e .before .before in
     let s : tie.Start = start v in
     let done : answered (b .book .result) (b .book .last .0) (ps s) ≡ acceptedOn (rs s) (ps s) (request s) =
-          simp (toZ-ofZ (s .fits .id), toZ-ofZ (s .fits .suffix), toZ-ofZ (s .fits .account), toZ-ofZ (s .fits .series)) at (b .book .ensures) in
+    simp (toZ-ofZ (s .fits .id), toZ-ofZ (s .fits .suffix), toZ-ofZ (s .fits .account), toZ-ofZ (s .fits .series)) at (b .book .ensures) in
     done ∙ sym (handled-accepted (rs s) (ps s) (request s) (records-known (sound v .before .before .before)) (positions-known (sound v)) (sym (answer v) ∙ e .enum-told .given .1))
 
 pub separate-spec : {M : Type 1} → statement M

@@ -53,10 +53,11 @@ loop-less : tie.Need-loop-less Inv-loop μ-loop
 loop-less c = omega arith
 
 loop-again : tie.Need-loop-again Inv-loop μ-loop
-loop-again c =
-    (omega arith,
-    simp (part-read c) (simp (toZ-ofZ (fits c))
-    (sum-next (turn c .before .args .parts .now) (turn c .loop .i) (toZ w64 (turn c .loop .sum)) (turn c .loop .inv .1) (c .before .loop-test .taken))))
+loop-again c = (
+  omega arith,
+  simp (part-read c) (simp (toZ-ofZ (fits c))
+      (sum-next (turn c .before .args .parts .now) (turn c .loop .i) (toZ w64 (turn c .loop .sum)) (turn c .loop .inv .1) (c .before .loop-test .taken))),
+)
 
 returns : tie.Need-returns Inv-loop μ-loop
 returns c = sum-end (c .before .before .args .parts .now) (c .before .loop .i) (toZ w64 (c .before .loop .sum)) (c .before .loop .inv .1) (c .loop-test .left)

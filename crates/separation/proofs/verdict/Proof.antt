@@ -38,7 +38,7 @@ use Rattle.separation.proofs.verdict.Tie as tie
 -- ---- 3: the figures
 
 answer3 : (c : tie.After-figures-valid)
-  → c .figures-valid .result ≡ separationFigures (c .before .args .id) (c .before .args .suffix) (c .before .args .account) (c .before .args .series) (c .before .args .parts .now)
+    → c .figures-valid .result ≡ separationFigures (c .before .args .id) (c .before .args .suffix) (c .before .args .account) (c .before .args .series) (c .before .args .parts .now)
 answer3 c =
     let s : tie.Start = c .before in
     simp (toZ-ofZ (s .fits .id), toZ-ofZ (s .fits .suffix), toZ-ofZ (s .fits .account), toZ-ofZ (s .fits .series)) at (c .figures-valid .ensures)
@@ -47,7 +47,7 @@ abbrev tested : tie.Else1 → tie.Start
 tested c = c .before .before
 
 valid : (c : tie.Else1)
-  → separationFigures (tested c .args .id) (tested c .args .suffix) (tested c .args .account) (tested c .args .series) (tested c .args .parts .now) ≡ true
+    → separationFigures (tested c .args .id) (tested c .args .suffix) (tested c .args .account) (tested c .args .series) (tested c .args .parts .now) ≡ true
 valid c = passed (answer3 (c .before)) (c .if1 .left)
 
 parts : (c : tie.Else1) → (length (tested c .args .parts .now) ≤ 1000) × (allOf (map validQuantity (tested c .args .parts .now)) ≡ true)
@@ -78,8 +78,8 @@ module _ (c : tie.After-row) where
   found-at = recordAt (sought search-place .args .records .now) (1 + c .row .given .0 .0 * 13)
 
   there : (c .row .given .0 .0 < length (rowsOf recordsLayout (sought search-place .args .records .now)))
-    × (find recordKey (keyOf (sought search-place .args .id) (sought search-place .args .suffix)) (rowsOf recordsLayout (sought search-place .args .records .now)) ≡ some found-at)
-    × (recordKey found-at ≡ keyOf (sought search-place .args .id) (sought search-place .args .suffix))
+      × (find recordKey (keyOf (sought search-place .args .id) (sought search-place .args .suffix)) (rowsOf recordsLayout (sought search-place .args .records .now)) ≡ some found-at)
+      × (recordKey found-at ≡ keyOf (sought search-place .args .id) (sought search-place .args .suffix))
   there =
       record-found (sought search-place .args .records .now) (sought search-place .args .id) (sought search-place .args .suffix) (c .row .given .0 .0)
       (sym (answer5 search-place) ∙ c .row .given .1)

@@ -74,10 +74,11 @@ adjustable-record-requires c κs = search needs
 
 write-record-requires : tie.Need-write-record-requires Inv-loop μ-loop
 write-record-requires c κs =
-    omega
-    (arith,
-    row-fits (start c .args .records .now) (start c .args .place) (start c .args .r) _ (start c .args .parts .now) (turn c .loop .records) (suffix c) (turn c .loop .at) (turn c .loop .inv)
-    (start c .pre .0) (more (c .before .before .before)))
+    omega (
+      arith,
+      row-fits (start c .args .records .now) (start c .args .place) (start c .args .r) _ (start c .args .parts .now) (turn c .loop .records) (suffix c) (turn c .loop .at) (turn c .loop .inv)
+          (start c .pre .0) (more (c .before .before .before)),
+    )
 
 add-suffix : tie.Need-add-suffix Inv-loop μ-loop
 add-suffix c = next-fits (c .before .before)
@@ -92,7 +93,7 @@ loop-again : tie.Need-loop-again Inv-loop μ-loop
 loop-again c =
     let a : tie.After-adjustable-record Inv-loop μ-loop = c .before .before in
     let put : c .before .write-record .last .0 ≡ replaced (recordCells (partRecord (start a .args .r) (suffix a) (part a))) (start a .args .place + turn a .loop .at) (turn a .loop .records) =
-          rw (row a) at (c .before .write-record .ensures) in
+    rw (row a) at (c .before .write-record .ensures) in
     subst
     (λ (z : ℤ). WrittenSoFar (start a .args .records .now) (start a .args .place) (start a .args .r) (toZ w64 (ofZ w64 (start a .args .first))) (start a .args .parts .now) (c .before .write-record .last .0) z (turn a .loop .at + 1))
     (sym (toZ-ofZ (next-fits a)))
@@ -107,7 +108,7 @@ returns c =
     let l : tie.At-loop Inv-loop μ-loop = c .before in
     let s : tie.Start Inv-loop μ-loop = l .before .before in
     let so-far : WrittenSoFar (s .args .records .now) (s .args .place) (s .args .r) (s .args .first) (s .args .parts .now) (l .loop .records) (toZ w64 (l .loop .suffix)) (l .loop .at) =
-          simp (toZ-ofZ (s .fits .first)) at (l .loop .inv) in
+    simp (toZ-ofZ (s .fits .first)) at (l .loop .inv) in
     written-end (s .args .records .now) (s .args .place) (s .args .r) (s .args .first) (s .args .parts .now) (l .loop .records) (toZ w64 (l .loop .suffix)) (l .loop .at) so-far (c .loop-test .left)
 
 pub write-parts-spec : {M : Type 1} → statement M

@@ -30,10 +30,12 @@ module _ (c : tie.After-row) where
 
   small : c .row .given .0 .0 < 4096
   small =
-      omega
-      (arith,
-      record-found (start tested .args .cells .now) (start tested .args .id) (start tested .args .suffix) (c .row .given .0 .0) (sym answer ∙ c .row .given .1) .0,
-      records-known (start tested .args .cells .now) (sound tested) .rows-fit, room-most recordsLayout (start tested .args .cells .now))
+      omega (
+        arith,
+        record-found (start tested .args .cells .now) (start tested .args .id) (start tested .args .suffix) (c .row .given .0 .0) (sym answer ∙ c .row .given .1) .0,
+        records-known (start tested .args .cells .now) (sound tested) .rows-fit,
+        room-most recordsLayout (start tested .args .cells .now),
+      )
 
 records-sound-requires : tie.Need-records-sound-requires
 records-sound-requires c κs = search needs

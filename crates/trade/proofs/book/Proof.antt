@@ -109,26 +109,27 @@ module _ (c : tie.After-struct-told) where
       (c .before .if1 .came)
 
   row : record {
-      id = toZ w64 (ofZ w64 (s b .args .id));
-      suffix = pos 0;
-      parent = pos 0;
-      kind = toZ w64 (c .before .if1 .kind);
-      status = pos 0;
-      account = toZ w64 (ofZ w64 (s b .args .account));
-      series = toZ w64 (ofZ w64 (s b .args .series));
-      side = toZ w64 (ofZ w64 (s b .args .side));
-      quantity = toZ w64 (ofZ w64 (s b .args .quantity));
-      price = toZ w64 (ofZ w64 (s b .args .price));
-      long = toZ w64 (ofZ w64 (b .booking-of .result .long));
-      short = toZ w64 (ofZ w64 (b .booking-of .result .short));
-      into = pos 0 } ≡ rowOf (s b)
+    id = toZ w64 (ofZ w64 (s b .args .id));
+    suffix = pos 0;
+    parent = pos 0;
+    kind = toZ w64 (c .before .if1 .kind);
+    status = pos 0;
+    account = toZ w64 (ofZ w64 (s b .args .account));
+    series = toZ w64 (ofZ w64 (s b .args .series));
+    side = toZ w64 (ofZ w64 (s b .args .side));
+    quantity = toZ w64 (ofZ w64 (s b .args .quantity));
+    price = toZ w64 (ofZ w64 (s b .args .price));
+    long = toZ w64 (ofZ w64 (b .booking-of .result .long));
+    short = toZ w64 (ofZ w64 (b .booking-of .result .short));
+    into = pos 0;
+  } ≡ rowOf (s b)
   unfolding newRecord
   row =
       let kind-is : toZ w64 (c .before .if1 .kind) ≡ tradeKind (errorOf (s b)) = kind ∙ ap tradeKind (error b) in
       let long-is : toZ w64 (ofZ w64 (b .booking-of .result .long)) ≡ rowOf (s b) .long
-            = read-back (b .booking-of .result .long) (c .struct-told .given .1 .0 .1) ∙ long b in
+      = read-back (b .booking-of .result .long) (c .struct-told .given .1 .0 .1) ∙ long b in
       let short-is : toZ w64 (ofZ w64 (b .booking-of .result .short)) ≡ rowOf (s b) .short
-            = read-back (b .booking-of .result .short) (c .struct-told .given .1 .1 .0 .1) ∙ short b in
+      = read-back (b .booking-of .result .short) (c .struct-told .given .1 .1 .0 .1) ∙ short b in
       λ i. record {
         id = toZ-ofZ (s b .fits .id) i;
         suffix = pos 0;
@@ -142,7 +143,8 @@ module _ (c : tie.After-struct-told) where
         price = toZ-ofZ (s b .fits .price) i;
         long = long-is i;
         short = short-is i;
-        into = pos 0 }
+        into = pos 0;
+      }
 
 -- The row inserted.
 module _ (c : tie.After-insert-record) where
@@ -182,7 +184,7 @@ module _ (c : tie.After-struct-told4) where
   excess : (toZ w64 (ofZ w64 (s f .args .quantity)) -ℤ toZ w64 (ofZ w64 (f .booking-of .result .closed))) ≡ s f .args .quantity -ℤ closedOf (s f)
   excess =
       let closed-back : toZ w64 (ofZ w64 (f .booking-of .result .closed)) ≡ closedOf (s f)
-            = read-back (f .booking-of .result .closed) (c .struct-told4 .given .0 .1) ∙ closed f in
+      = read-back (f .booking-of .result .closed) (c .struct-told4 .given .0 .1) ∙ closed f in
       λ i. toZ-ofZ (s f .fits .quantity) i -ℤ closed-back i
 
 position-of-requires : tie.Need-position-of-requires
@@ -218,11 +220,11 @@ returns : tie.Need-returns
 returns c =
     let s : tie.Start = s (f c) in
     let excess-back : toZ w64 (ofZ w64 (toZ w64 (ofZ w64 (s .args .quantity)) -ℤ toZ w64 (ofZ w64 (f c .booking-of .result .closed)))) ≡ s .args .quantity -ℤ closedOf s
-          = ap (λ (z : ℤ). toZ w64 (ofZ w64 z)) (excess c) ∙ toZ-ofZ (excess-fits c) in
+    = ap (λ (z : ℤ). toZ w64 (ofZ w64 z)) (excess c) ∙ toZ-ofZ (excess-fits c) in
     let i : tie.After-insert-record = p c .before .before .before .before .before .before in
     ap (λ (z : ℤ). answered (ClosingError z) (i .insert-record .last .0) (p c .put-position .last .0)) excess-back
     ∙ trade-returns-error (rs s) (ps s) (s .args .id) (s .args .account) (s .args .series) (s .args .side) (s .args .quantity) (s .args .price)
-      (i .insert-record .last .0) (p c .put-position .last .0) (inserted i) (put (p c)) (sym (error (f c)) ∙ c .before .before .if2 .taken)
+    (i .insert-record .last .0) (p c .put-position .last .0) (inserted i) (put (p c)) (sym (error (f c)) ∙ c .before .before .if2 .taken)
 
 same-length-3 : tie.Need-same-length-3
 same-length-3 c = search needs

@@ -45,11 +45,11 @@ returns c =
     let b : tie.After-booking-of = c .before .before .before in
     let t : tie.Start = s (b .before) in
     let left : c .moved .result ≡ moved (b .before .position-of .result) (b .booking-of .result .long) (b .booking-of .result .short) (pos 0)
-          = simp (read-back (b .booking-of .result .long) (c .before .before .struct-told .given .1 .0 .1), read-back (b .booking-of .result .short) (c .before .struct-told2 .given .1 .1 .0 .1))
-            at (c .moved .ensures) in
+    = simp (read-back (b .booking-of .result .long) (c .before .before .struct-told .given .1 .0 .1), read-back (b .booking-of .result .short) (c .before .struct-told2 .given .1 .1 .0 .1))
+    at (c .moved .ensures) in
     left
     ∙ moved-is (t .args .cells .now) (t .args .account) (t .args .series) (t .args .side) (t .args .quantity)
-      (b .before .position-of .result) (b .booking-of .result) (read (b .before)) (booked b)
+    (b .before .position-of .result) (b .booking-of .result) (read (b .before)) (booked b)
     ∙ sym (after-is (t .args .cells .now) (t .args .account) (t .args .series) (t .args .side) (t .args .quantity))
 
 pub position-after-spec : {M : Type 1} → statement M

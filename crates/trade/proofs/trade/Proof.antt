@@ -97,10 +97,12 @@ book-requires : tie.Need-book-requires
 book-requires c κs =
     let a : tie.After-enum-told = c .before .before in
     let k : tie.Else2 = both (a .before .before) in
-    let s : tie.Start = second k in
-    (records-pass (k .before .before .before), positions-pass k,
-    simp (toZ-ofZ (s .fits .id), toZ-ofZ (s .fits .account), toZ-ofZ (s .fits .series), toZ-ofZ (s .fits .side), toZ-ofZ (s .fits .quantity), toZ-ofZ (s .fits .price))
-    (accepted a))
+    let s : tie.Start = second k in (
+      records-pass (k .before .before .before),
+      positions-pass k,
+      simp (toZ-ofZ (s .fits .id), toZ-ofZ (s .fits .account), toZ-ofZ (s .fits .series), toZ-ofZ (s .fits .side), toZ-ofZ (s .fits .quantity), toZ-ofZ (s .fits .price))
+          (accepted a),
+    )
 
 same-length-4 : tie.Need-same-length-4
 same-length-4 c = search needs
@@ -132,8 +134,8 @@ returns-4 c =
     let k : tie.Else2 = both (a .before .before) in
     let s : tie.Start = second k in
     let booked : answered (c .before .before .book .result) (c .before .before .book .last .0) (c .before .before .book .last .1 .0) ≡ acceptedOn (rs s) (ps s) (asked s)
-          = simp (toZ-ofZ (s .fits .id), toZ-ofZ (s .fits .account), toZ-ofZ (s .fits .series), toZ-ofZ (s .fits .side), toZ-ofZ (s .fits .quantity), toZ-ofZ (s .fits .price))
-            at (c .before .before .book .ensures) in
+    = simp (toZ-ofZ (s .fits .id), toZ-ofZ (s .fits .account), toZ-ofZ (s .fits .series), toZ-ofZ (s .fits .side), toZ-ofZ (s .fits .quantity), toZ-ofZ (s .fits .price))
+    at (c .before .before .book .ensures) in
     booked ∙ sym (handled-accepted (rs s) (ps s) (asked s) (records-pass (k .before .before .before)) (positions-pass k) (accepted a))
 
 pub trade-spec : {M : Type 1} → statement M

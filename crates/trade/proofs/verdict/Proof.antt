@@ -94,8 +94,8 @@ answer16 : (c : tie.After-sound-position) → c .sound-position .result ≡ stay
 answer16 c =
     let s : tie.Start = at16 c in
     let left : c .before .position-after .result ≡ tradePosition (s .args .positions .now) (s .args .account) (s .args .series) (s .args .side) (s .args .quantity)
-          = (simp (toZ-ofZ (s .fits .account), toZ-ofZ (s .fits .series), toZ-ofZ (s .fits .side), toZ-ofZ (s .fits .quantity)) at (c .before .position-after .ensures))
-            ∙ after-is (s .args .positions .now) (s .args .account) (s .args .series) (s .args .side) (s .args .quantity) in
+    = (simp (toZ-ofZ (s .fits .account), toZ-ofZ (s .fits .series), toZ-ofZ (s .fits .side), toZ-ofZ (s .fits .quantity)) at (c .before .position-after .ensures))
+    ∙ after-is (s .args .positions .now) (s .args .account) (s .args .series) (s .args .side) (s .args .quantity) in
     c .sound-position .ensures ∙ ap soundPosition left
 
 figures-valid-requires : tie.Need-figures-valid-requires
@@ -143,10 +143,11 @@ returns-4 c =
 position-after-requires : tie.Need-position-after-requires
 position-after-requires c κs =
     let s : tie.Start = at15 (c .before .before) in
-    simp (toZ-ofZ (s .fits .quantity))
-    (s .pre .1,
-    figures-quantity (s .args .id) (s .args .account) (s .args .series) (s .args .side) (s .args .quantity) (s .args .price)
-    (past3 (c .before .before .before .before .before .before .before .before)))
+    simp (toZ-ofZ (s .fits .quantity)) (
+      s .pre .1,
+      figures-quantity (s .args .id) (s .args .account) (s .args .series) (s .args .side) (s .args .quantity) (s .args .price)
+          (past3 (c .before .before .before .before .before .before .before .before)),
+    )
 
 sound-position-requires : tie.Need-sound-position-requires
 sound-position-requires c κs = search needs

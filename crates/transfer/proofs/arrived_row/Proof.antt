@@ -19,9 +19,10 @@ long c =
     let known = c .before .struct-told2 .given in
     let f : SFits w64 (c .in-long .result) = sfits-of (c .in-long .ok) in
     simp (toZ-ofZ f)
-    (simp
-    (read-back (r .side) (known .1 .1 .1 .1 .1 .1 .1 .0 .1),
-    read-back (r .quantity) (known .1 .1 .1 .1 .1 .1 .1 .1 .0 .1)) at (c .in-long .ensures))
+    (simp (
+      read-back (r .side) (known .1 .1 .1 .1 .1 .1 .1 .0 .1),
+      read-back (r .quantity) (known .1 .1 .1 .1 .1 .1 .1 .1 .0 .1),
+    ) at (c .in-long .ensures))
 
 short : (c : tie.After-in-short)
     → toZ w64 (ofZ w64 (c .in-short .result)) ≡ inShort (start (c .before .before .before) .args .r .side) (start (c .before .before .before) .args .r .quantity)
@@ -30,9 +31,10 @@ short c =
     let known = c .before .struct-told4 .given in
     let f : SFits w64 (c .in-short .result) = sfits-of (c .in-short .ok) in
     simp (toZ-ofZ f)
-    (simp
-    (read-back (r .side) (known .1 .1 .1 .1 .1 .1 .1 .0 .1),
-    read-back (r .quantity) (known .1 .1 .1 .1 .1 .1 .1 .1 .0 .1)) at (c .in-short .ensures))
+    (simp (
+      read-back (r .side) (known .1 .1 .1 .1 .1 .1 .1 .0 .1),
+      read-back (r .quantity) (known .1 .1 .1 .1 .1 .1 .1 .1 .0 .1),
+    ) at (c .in-short .ensures))
 
 in-long-requires : tie.Need-in-long-requires
 in-long-requires c κs = search needs
@@ -48,10 +50,11 @@ returns c =
     let t : tie.After-in-short = c .before .before in
     let l : tie.After-in-long = t .before .before .before in
     let s : tie.Start = start l in
-    simp
-    (toZ-ofZ (s .fits .suffix),
-    toZ-ofZ (s .fits .to),
-    read-back (s .args .r .quantity) (c .before .struct-told5 .given .1 .1 .1 .1 .1 .1 .1 .1 .0 .1)) at
+    simp (
+      toZ-ofZ (s .fits .suffix),
+      toZ-ofZ (s .fits .to),
+      read-back (s .args .r .quantity) (c .before .struct-told5 .given .1 .1 .1 .1 .1 .1 .1 .1 .0 .1),
+    ) at
     (rw (long l, short t) at (c .adjustable-record .ensures))
 
 pub arrived-row-spec : {M : Type 1} → statement M

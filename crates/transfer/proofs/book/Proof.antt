@@ -49,10 +49,12 @@ position-of-requires-2 c κs = search needs
 adjust-record-requires : tie.Need-adjust-record-requires
 adjust-record-requires c κs =
     let p : tie.After-position-of2 = c .before in
-    let s : tie.Start = s p in
-    (s .pre .0, row-there (known p),
-    ap (λ (x : Record). x .status) (sym (at-read p .read-record .ensures))
-    ∙ transfer-status (rs s) (ps s) (id s) (suffix s) (from s) (to s) (series s) (s .pre .0) (s .pre .1) (s .pre .2) (r p) (named p))
+    let s : tie.Start = s p in (
+      s .pre .0,
+      row-there (known p),
+      ap (λ (x : Record). x .status) (sym (at-read p .read-record .ensures))
+          ∙ transfer-status (rs s) (ps s) (id s) (suffix s) (from s) (to s) (series s) (s .pre .0) (s .pre .1) (s .pre .2) (r p) (named p),
+    )
 
 open-rows-requires : tie.Need-open-rows-requires
 open-rows-requires c κs =

@@ -11,9 +11,10 @@ returns : tie.Need-returns
 returns c =
     let r = c .before .before .before .args .r in
     let known = c .before .struct-told2 .given in
-    simp
-    (read-back (r .side) (known .1 .1 .1 .1 .1 .1 .1 .0 .1),
-    read-back (r .quantity) (known .1 .1 .1 .1 .1 .1 .1 .1 .0 .1)) at (c .shifted .ensures)
+    simp (
+      read-back (r .side) (known .1 .1 .1 .1 .1 .1 .1 .0 .1),
+      read-back (r .quantity) (known .1 .1 .1 .1 .1 .1 .1 .1 .0 .1),
+    ) at (c .shifted .ensures)
 
 pub given-to-spec : {M : Type 1} → statement M
 given-to-spec = tie.close (tie.spec shifted-requires returns)

@@ -17,18 +17,20 @@ returns : tie.Need-returns
 returns c =
     let b : tie.Then1 = c .before .before .before .before in
     let s : tie.Start = b .before .before .before in
-    simp
-    (read-back (s .args .p .long) (c .before .before .struct-told2 .given .1 .1 .0 .1),
-    read-back (s .args .r .quantity) (c .struct-told3 .given .1 .1 .1 .1 .1 .1 .1 .1 .0 .1))
+    simp (
+      read-back (s .args .p .long) (c .before .before .struct-told2 .given .1 .1 .0 .1),
+      read-back (s .args .r .quantity) (c .struct-told3 .given .1 .1 .1 .1 .1 .1 .1 .1 .0 .1),
+    )
     (holds-buy (s .args .r) (s .args .p) (sym (answer (b .before)) ∙ b .if1 .taken))
 
 returns-2 : tie.Need-returns-2
 returns-2 c =
     let b : tie.Else1 = c .before .before .before .before in
     let s : tie.Start = b .before .before .before in
-    simp
-    (read-back (s .args .p .short) (c .before .before .struct-told4 .given .1 .1 .1 .0 .1),
-    read-back (s .args .r .quantity) (c .struct-told5 .given .1 .1 .1 .1 .1 .1 .1 .1 .0 .1))
+    simp (
+      read-back (s .args .p .short) (c .before .before .struct-told4 .given .1 .1 .1 .0 .1),
+      read-back (s .args .r .quantity) (c .struct-told5 .given .1 .1 .1 .1 .1 .1 .1 .1 .0 .1),
+    )
     (holds-sell (s .args .r) (s .args .p) (sym (answer (b .before)) ∙ b .if1 .left))
 
 pub holds-too-little-spec : {M : Type 1} → statement M

@@ -124,8 +124,8 @@ returns-4 c =
     let s : tie.Start = s v in
     (simp (toZ-ofZ (s .fits .id), toZ-ofZ (s .fits .suffix), toZ-ofZ (s .fits .from), toZ-ofZ (s .fits .to), toZ-ofZ (s .fits .series)) at (c .before .before .book .ensures))
     ∙ sym
-      (handled-accepted (rs s) (ps s) (request s) (records-are-sound (past v .before .before .before)) (positions-are-sound (past v))
-      (sym (verdict-is v) ∙ t .enum-told .given .1))
+    (handled-accepted (rs s) (ps s) (request s) (records-are-sound (past v .before .before .before)) (positions-are-sound (past v))
+    (sym (verdict-is v) ∙ t .enum-told .given .1))
 
 pub transfer-spec : {M : Type 1} → statement M
 transfer-spec =

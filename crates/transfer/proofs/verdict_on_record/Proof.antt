@@ -113,7 +113,7 @@ records-room c = sym (c .before .lacks-records-room .ensures) ∙ c .if3 .left
 
 absent-is : (c : tie.After-absent-position2) → c .before .absent-position .result + c .absent-position2 .result
     ≡ absentPosition (ps (start3 (c .before .before))) (from (start3 (c .before .before))) (series (start3 (c .before .before)))
-      + absentPosition (ps (start3 (c .before .before))) (to (start3 (c .before .before))) (series (start3 (c .before .before)))
+    + absentPosition (ps (start3 (c .before .before))) (to (start3 (c .before .before))) (series (start3 (c .before .before)))
 absent-is c =
     let s : tie.Start = start3 (c .before .before) in
     ap₂ _+_
@@ -125,7 +125,7 @@ start4 c = start3 (c .before .before .before)
 
 room-answer : (c : tie.After-lacks-positions-room) → c .lacks-positions-room .result
     ≡ ltb (roomOf positionsLayout (ps (start4 c)))
-      (length (rowsOf positionsLayout (ps (start4 c))) + (absentPosition (ps (start4 c)) (from (start4 c)) (series (start4 c)) + absentPosition (ps (start4 c)) (to (start4 c)) (series (start4 c))))
+    (length (rowsOf positionsLayout (ps (start4 c))) + (absentPosition (ps (start4 c)) (from (start4 c)) (series (start4 c)) + absentPosition (ps (start4 c)) (to (start4 c)) (series (start4 c))))
 room-answer c = rw (absent-is (c .before)) at (c .lacks-positions-room .ensures)
 
 -- ---- test 16

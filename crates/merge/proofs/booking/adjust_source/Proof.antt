@@ -76,10 +76,11 @@ same-length-2 c = search needs
 
 returns-2 : tie.Need-returns-2
 returns-2 c =
-    let w : tie.After-row = c .before .before .before .before in
-    (c .before .adjust-record .ensures .0
-    ∙ ap (λ (r : Record). write recordsLayout (cells (start w)) (upsert recordKey (adjustedRecord r) (rowsOf recordsLayout (cells (start w))))) (sym (named w)),
-    c .before .adjust-record .ensures .1)
+    let w : tie.After-row = c .before .before .before .before in (
+      c .before .adjust-record .ensures .0
+          ∙ ap (λ (r : Record). write recordsLayout (cells (start w)) (upsert recordKey (adjustedRecord r) (rowsOf recordsLayout (cells (start w))))) (sym (named w)),
+      c .before .adjust-record .ensures .1,
+    )
 
 pub adjust-source-spec : {M : Type 1} → statement M
 adjust-source-spec =

@@ -57,8 +57,8 @@ module _ (c : tie.After-adjust-source-arg3 Inv-loop μ-loop) where
 
 put : (c : tie.After-adjust-source Inv-loop μ-loop) → c .adjust-source .last .0
     ≡ write recordsLayout (a (turn (c .before)) .loop .records)
-      (upsert recordKey (adjustedRecord (recordNamed (a (turn (c .before)) .loop .records) (pairAt (list (turn (c .before))) (a (turn (c .before)) .loop .i))))
-      (rowsOf recordsLayout (a (turn (c .before)) .loop .records)))
+    (upsert recordKey (adjustedRecord (recordNamed (a (turn (c .before)) .loop .records) (pairAt (list (turn (c .before))) (a (turn (c .before)) .loop .i))))
+    (rowsOf recordsLayout (a (turn (c .before)) .loop .records)))
 unfolding pairAt
 put c = simp (toZ-ofZ (id-fits (c .before)), toZ-ofZ (suffix-fits (c .before))) at (c .adjust-source .ensures .0)
 
@@ -91,10 +91,11 @@ unfolding pairAt
 adjust-source-requires c κs =
     let k : tie.In-loop Inv-loop μ-loop = turn c in
     let p = a k .before .pre in
-    simp (toZ-ofZ (id-fits c), toZ-ofZ (suffix-fits c))
-    (a k .loop .inv .sound,
-    adjust-found (cells k) (list k) (p .1) (p .2) (p .3) (a k .loop .records) (a k .loop .i) (a k .loop .inv) (more k),
-    adjust-status (cells k) (list k) (p .1) (p .2) (p .3) (a k .loop .records) (a k .loop .i) (a k .loop .inv) (more k))
+    simp (toZ-ofZ (id-fits c), toZ-ofZ (suffix-fits c)) (
+      a k .loop .inv .sound,
+      adjust-found (cells k) (list k) (p .1) (p .2) (p .3) (a k .loop .records) (a k .loop .i) (a k .loop .inv) (more k),
+      adjust-status (cells k) (list k) (p .1) (p .2) (p .3) (a k .loop .records) (a k .loop .i) (a k .loop .inv) (more k),
+    )
 
 add-i : tie.Need-add-i Inv-loop μ-loop
 add-i c = omega (arith, fit (turn (c .before .before)))

@@ -143,8 +143,8 @@ merged-is c =
     let q : ℤ = sumOfQuantities (sources s) in
     let p : ℤ = averageOf (sumOfValues (sources s)) q in
     let e : c .merged-row .result ≡ newRecord (id s) mergeKind (a .source-record .result .account) (a .source-record .result .series) (a .source-record .result .side)
-          (toZ w64 (ofZ w64 (v .before .before .sum-of-quantities .result))) (toZ w64 (ofZ w64 (c .before .before .before .before .average .result))) (pos 0) (pos 0)
-          = simp (toZ-ofZ (s .fits .id)) at (c .merged-row .ensures) in
+    (toZ w64 (ofZ w64 (v .before .before .sum-of-quantities .result))) (toZ w64 (ofZ w64 (c .before .before .before .before .average .result))) (pos 0) (pos 0)
+    = simp (toZ-ofZ (s .fits .id)) at (c .merged-row .ensures) in
     e
     ∙ ap (λ (z : ℤ). newRecord (id s) mergeKind (a .source-record .result .account) (a .source-record .result .series) (a .source-record .result .side) z
     (toZ w64 (ofZ w64 (c .before .before .before .before .average .result))) (pos 0) (pos 0)) (sum-is (v .before .before))
@@ -185,7 +185,7 @@ inserted-is c =
     let s : tie.Start = start6 c in
     let before : List ℤ = c .before .before .before .adjust-sources .last .0 in
     let e : c .insert-inverses .last .0 ≡ write recordsLayout before (upsertAll recordKey (mergeInverses (id s) [] (sourcesIn before (list s))) (rowsOf recordsLayout before))
-          = simp (toZ-ofZ (s .fits .id)) at (c .insert-inverses .ensures .0) in
+    = simp (toZ-ofZ (s .fits .id)) at (c .insert-inverses .ensures .0) in
     e ∙ ap (λ (xs : List ℤ). write recordsLayout xs (upsertAll recordKey (mergeInverses (id s) [] (sourcesIn xs (list s))) (rowsOf recordsLayout xs))) (adjusted-is (c .before .before .before))
 
 abbrev start7 : tie.After-insert-record → tie.Start
@@ -258,38 +258,41 @@ insert-inverses-requires : tie.Need-insert-inverses-requires
 insert-inverses-requires c κs =
     let a : tie.After-adjust-sources = c .before .before in
     let s : tie.Start = start5 a in
-    let e : sourcesAdjusted (rs s) (id s) (list s) ≡ a .adjust-sources .last .0 = sym (adjusted-is a) in
-    (a .adjust-sources .ensures .1,
-    subst (λ (xs : List ℤ). allFound xs (list s) ≡ true) e (found-adjusted (rs s) (ps s) (id s) (account s) (series s) (list s) (s .pre .0) (facts s)),
-    simp (toZ-ofZ (s .fits .id))
-    (subst (λ (xs : List ℤ). allOf (map soundRecord (mergeInverses (id s) [] (sourcesIn xs (list s)))) ≡ true) e
-    (inverses-sound (rs s) (ps s) (id s) (account s) (series s) (list s) (s .pre .0) (facts s))),
-    subst (λ (xs : List ℤ). length (rowsOf recordsLayout xs) + length (pairsOf (list s)) ≤ roomOf recordsLayout xs) e
-    (inverses-room (rs s) (ps s) (id s) (account s) (series s) (list s) (s .pre .0) (facts s)))
+    let e : sourcesAdjusted (rs s) (id s) (list s) ≡ a .adjust-sources .last .0 = sym (adjusted-is a) in (
+      a .adjust-sources .ensures .1,
+      subst (λ (xs : List ℤ). allFound xs (list s) ≡ true) e (found-adjusted (rs s) (ps s) (id s) (account s) (series s) (list s) (s .pre .0) (facts s)),
+      simp (toZ-ofZ (s .fits .id))
+          (subst (λ (xs : List ℤ). allOf (map soundRecord (mergeInverses (id s) [] (sourcesIn xs (list s)))) ≡ true) e
+          (inverses-sound (rs s) (ps s) (id s) (account s) (series s) (list s) (s .pre .0) (facts s))),
+      subst (λ (xs : List ℤ). length (rowsOf recordsLayout xs) + length (pairsOf (list s)) ≤ roomOf recordsLayout xs) e
+          (inverses-room (rs s) (ps s) (id s) (account s) (series s) (list s) (s .pre .0) (facts s)),
+    )
 
 insert-record-requires : tie.Need-insert-record-requires
 insert-record-requires c κs =
     let i : tie.After-insert-inverses = c .before .before in
     let s : tie.Start = start6 i in
     let e : inversesInserted (rs s) (id s) (list s) ≡ i .insert-inverses .last .0 = sym (inserted-is i) in
-    let m : mergedRecord (id s) (sources s) ≡ made i .merged-row .result = sym (merged-is (made i)) in
-    (i .insert-inverses .ensures .1,
-    subst (λ (r : Record). soundRecord r ≡ true) m (merged-sound (rs s) (ps s) (id s) (account s) (series s) (list s) (s .pre .0) (facts s)),
-    subst (λ (r : Record). find recordKey (recordKey r) (rowsOf recordsLayout (i .insert-inverses .last .0)) ≡ none) m
-    (subst (λ (xs : List ℤ). find recordKey (recordKey (mergedRecord (id s) (sources s))) (rowsOf recordsLayout xs) ≡ none) e
-    (merged-absent (rs s) (ps s) (id s) (account s) (series s) (list s) (s .pre .0) (facts s))),
-    subst (λ (xs : List ℤ). length (rowsOf recordsLayout xs) < roomOf recordsLayout xs) e
-    (merged-room (rs s) (ps s) (id s) (account s) (series s) (list s) (s .pre .0) (facts s)))
+    let m : mergedRecord (id s) (sources s) ≡ made i .merged-row .result = sym (merged-is (made i)) in (
+      i .insert-inverses .ensures .1,
+      subst (λ (r : Record). soundRecord r ≡ true) m (merged-sound (rs s) (ps s) (id s) (account s) (series s) (list s) (s .pre .0) (facts s)),
+      subst (λ (r : Record). find recordKey (recordKey r) (rowsOf recordsLayout (i .insert-inverses .last .0)) ≡ none) m
+          (subst (λ (xs : List ℤ). find recordKey (recordKey (mergedRecord (id s) (sources s))) (rowsOf recordsLayout xs) ≡ none) e
+          (merged-absent (rs s) (ps s) (id s) (account s) (series s) (list s) (s .pre .0) (facts s))),
+      subst (λ (xs : List ℤ). length (rowsOf recordsLayout xs) < roomOf recordsLayout xs) e
+          (merged-room (rs s) (ps s) (id s) (account s) (series s) (list s) (s .pre .0) (facts s)),
+    )
 
 put-position-requires : tie.Need-put-position-requires
 put-position-requires c κs =
     let s : tie.Start = start7 (c .before .before) in
     let m : tie.After-moved = moved-at (c .before .before) in
-    let e : mergePosition (ps s) (account s) (series s) (sources s) ≡ m .moved .result = sym (left-is m) in
-    (s .pre .1,
-    subst (λ (p : Position). soundPosition p ≡ true) e (facts s .position-sound),
-    subst (λ (p : Position). length (rowsOf positionsLayout (ps s)) + absentFrom positionKey (rowsOf positionsLayout (ps s)) (p ∷ []) ≤ roomOf positionsLayout (ps s)) e
-    (facts s .positions-room))
+    let e : mergePosition (ps s) (account s) (series s) (sources s) ≡ m .moved .result = sym (left-is m) in (
+      s .pre .1,
+      subst (λ (p : Position). soundPosition p ≡ true) e (facts s .position-sound),
+      subst (λ (p : Position). length (rowsOf positionsLayout (ps s)) + absentFrom positionKey (rowsOf positionsLayout (ps s)) (p ∷ []) ≤ roomOf positionsLayout (ps s)) e
+          (facts s .positions-room),
+    )
 
 cast-added : tie.Need-cast-added
 cast-added c = record { sfits = omega (arith, count (start8 c) .1) }
@@ -309,10 +312,10 @@ returns c =
     let j : tie.After-insert-record = c .before .before .before .before in
     let m : tie.After-moved = moved-at j in
     let rows : toZ w64 (ofZ w64 (toZ w64 (length (list s) / 2) +ℤ pos 1)) ≡ pos (length (list s) / 2) +ℤ pos 1
-          = ap (λ (z : ℤ). toZ w64 (ofZ w64 (z +ℤ pos 1))) (rows-bits s) ∙ toZ-ofZ (rows-fit s) in
+    = ap (λ (z : ℤ). toZ w64 (ofZ w64 (z +ℤ pos 1))) (rows-bits s) ∙ toZ-ofZ (rows-fit s) in
     let residual : toZ w64 (ofZ w64 (m .before .before .before .before .residual .result)) ≡ mergeResidual (sources s) = residual-is (m .before .before .before .before) in
     let positions : c .before .put-position .last .0 ≡ write positionsLayout (ps s) (upsert positionKey (mergePosition (ps s) (account s) (series s) (sources s)) (rowsOf positionsLayout (ps s)))
-          = c .before .put-position .ensures .0 ∙ ap (λ (p : Position). write positionsLayout (ps s) (upsert positionKey p (rowsOf positionsLayout (ps s)))) (left-is m) in
+    = c .before .put-position .ensures .0 ∙ ap (λ (p : Position). write positionsLayout (ps s) (upsert positionKey p (rowsOf positionsLayout (ps s)))) (left-is m) in
     (λ i. answered (Booked (rows i) (residual i)) (records-are j i) (positions i))
     ∙ sym (merge-booked (rs s) (ps s) (id s) (account s) (series s) (list s) (s .pre .0) (facts s))
 

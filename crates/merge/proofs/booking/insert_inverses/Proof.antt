@@ -64,8 +64,8 @@ module _ (c : tie.After-insert-inverse-arg3 Inv-loop μ-loop) where
 
 put : (c : tie.After-insert-inverse Inv-loop μ-loop) → c .insert-inverse .last .0
     ≡ write recordsLayout (a (turn (c .before)) .loop .records)
-      (upsert recordKey (inverseNamed (a (turn (c .before)) .loop .records) (pairAt (list (a (turn (c .before)))) (a (turn (c .before)) .loop .i)) (into (a (turn (c .before)))))
-      (rowsOf recordsLayout (a (turn (c .before)) .loop .records)))
+    (upsert recordKey (inverseNamed (a (turn (c .before)) .loop .records) (pairAt (list (a (turn (c .before)))) (a (turn (c .before)) .loop .i)) (into (a (turn (c .before)))))
+    (rowsOf recordsLayout (a (turn (c .before)) .loop .records)))
 unfolding pairAt
 put c =
     simp (toZ-ofZ (id-fits (c .before)), toZ-ofZ (suffix-fits (c .before)), toZ-ofZ (a (turn (c .before)) .before .fits .into)) at (c .insert-inverse .ensures .0)
@@ -100,11 +100,12 @@ insert-inverse-requires c κs =
     let k : tie.In-loop Inv-loop μ-loop = turn c in
     let l : tie.At-loop Inv-loop μ-loop = a k in
     let p = l .before .pre in
-    simp (toZ-ofZ (id-fits c), toZ-ofZ (suffix-fits c), toZ-ofZ (l .before .fits .into))
-    (l .loop .inv .sound,
-    insert-found (into l) (cells l) (list l) (p .1) (p .2) (p .3) (l .loop .records) (l .loop .i) (so-far l) (more k),
-    insert-sound (into l) (cells l) (list l) (p .1) (p .2) (p .3) (l .loop .records) (l .loop .i) (so-far l) (more k),
-    insert-room (into l) (cells l) (list l) (p .1) (p .2) (p .3) (l .loop .records) (l .loop .i) (so-far l) (more k))
+    simp (toZ-ofZ (id-fits c), toZ-ofZ (suffix-fits c), toZ-ofZ (l .before .fits .into)) (
+      l .loop .inv .sound,
+      insert-found (into l) (cells l) (list l) (p .1) (p .2) (p .3) (l .loop .records) (l .loop .i) (so-far l) (more k),
+      insert-sound (into l) (cells l) (list l) (p .1) (p .2) (p .3) (l .loop .records) (l .loop .i) (so-far l) (more k),
+      insert-room (into l) (cells l) (list l) (p .1) (p .2) (p .3) (l .loop .records) (l .loop .i) (so-far l) (more k),
+    )
 
 add-i : tie.Need-add-i Inv-loop μ-loop
 add-i c = omega (arith, fit (turn (c .before .before)))

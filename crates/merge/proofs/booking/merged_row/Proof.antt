@@ -12,13 +12,14 @@ returns c =
     let s : tie.Start = c .before in
     let r = s .args .first in
     let known = c .struct-told .given in
-    simp
-    (read-back (r .account) (known .1 .1 .1 .1 .1 .0 .1),
-    read-back (r .series) (known .1 .1 .1 .1 .1 .1 .0 .1),
-    read-back (r .side) (known .1 .1 .1 .1 .1 .1 .1 .0 .1),
-    toZ-ofZ (s .fits .id),
-    toZ-ofZ (s .fits .quantity),
-    toZ-ofZ (s .fits .price))
+    simp (
+      read-back (r .account) (known .1 .1 .1 .1 .1 .0 .1),
+      read-back (r .series) (known .1 .1 .1 .1 .1 .1 .0 .1),
+      read-back (r .side) (known .1 .1 .1 .1 .1 .1 .1 .0 .1),
+      toZ-ofZ (s .fits .id),
+      toZ-ofZ (s .fits .quantity),
+      toZ-ofZ (s .fits .price),
+    )
     refl
 
 pub merged-row-spec : {M : Type 1} → statement M

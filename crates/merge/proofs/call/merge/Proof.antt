@@ -108,11 +108,13 @@ book-requires : tie.Need-book-requires
 book-requires c κs =
     let a : tie.After-enum-told = c .before .before .before in
     let k : tie.Else2 = both (decided a) in
-    let s : tie.Start = second k in
-    (records-pass (k .before .before .before), positions-pass k,
-    simp (toZ-ofZ (s .fits .id), toZ-ofZ (s .fits .account), toZ-ofZ (s .fits .series))
-    (accepted a),
-    decided a .verdict .ensures .1 (a .enum-told .given .1))
+    let s : tie.Start = second k in (
+      records-pass (k .before .before .before),
+      positions-pass k,
+      simp (toZ-ofZ (s .fits .id), toZ-ofZ (s .fits .account), toZ-ofZ (s .fits .series))
+          (accepted a),
+      decided a .verdict .ensures .1 (a .enum-told .given .1),
+    )
 
 same-length-4 : tie.Need-same-length-4
 same-length-4 c = search needs
@@ -144,8 +146,8 @@ returns-4 c =
     let k : tie.Else2 = both (decided a) in
     let s : tie.Start = second k in
     let booked : answered (c .before .before .book .result) (c .before .before .book .last .0) (c .before .before .book .last .1 .0) ≡ acceptedOn (rs s) (ps s) (asked s)
-          = simp (toZ-ofZ (s .fits .id), toZ-ofZ (s .fits .account), toZ-ofZ (s .fits .series))
-            at (c .before .before .book .ensures) in
+    = simp (toZ-ofZ (s .fits .id), toZ-ofZ (s .fits .account), toZ-ofZ (s .fits .series))
+    at (c .before .before .book .ensures) in
     booked ∙ sym (handled-accepted (rs s) (ps s) (asked s) (records-pass (k .before .before .before)) (positions-pass k) (accepted a))
 
 pub merge-spec : {M : Type 1} → statement M

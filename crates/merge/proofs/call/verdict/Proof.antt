@@ -21,9 +21,10 @@ figures-valid-requires : tie.Need-figures-valid-requires
 figures-valid-requires c κs = search needs
 
 returns : tie.Need-returns
-returns c =
-    (sym (merge-refused-3 _ _ _ _ _ _ (failed (answer3 (c .before)) (c .if1 .taken))),
-    λ e. let z : _≡_ {A = ℕ} 0 1 = cc in absurd (omega arith))
+returns c = (
+  sym (merge-refused-3 _ _ _ _ _ _ (failed (answer3 (c .before)) (c .if1 .taken))),
+  λ e. let z : _≡_ {A = ℕ} 0 1 = cc in absurd (omega arith),
+)
 
 -- ---- test 4
 
@@ -38,9 +39,10 @@ enum-told-2 c = search needs
 
 returns-2 : tie.Need-returns-2
 returns-2 c =
-    let g : tie.After-greatest-suffix = c .before .before in
-    (sym (merge-refused-4 _ _ _ _ _ _ (past3 (g .before)) _ (suffix-greatest _ _ _ (sym (answer4 g) ∙ c .enum-told2 .given .1))),
-    λ e. let z : _≡_ {A = ℕ} 0 1 = cc in absurd (omega arith))
+    let g : tie.After-greatest-suffix = c .before .before in (
+      sym (merge-refused-4 _ _ _ _ _ _ (past3 (g .before)) _ (suffix-greatest _ _ _ (sym (answer4 g) ∙ c .enum-told2 .given .1))),
+      λ e. let z : _≡_ {A = ℕ} 0 1 = cc in absurd (omega arith),
+    )
 
 -- ---- test 5
 
@@ -63,10 +65,11 @@ same-length c = search needs
 
 returns-3 : tie.Need-returns-3
 returns-3 c =
-    let a : tie.After-locate = c .before .before .before .before .before .before in
-    (c .refused-at .ensures
-    ∙ sym (merge-refused-5 _ _ _ _ _ _ (past3 (figured a)) (past4 (fresh a)) _ (sym (a .locate .ensures .0) ∙ c .before .before .i .given .1)),
-    λ e. let z : _≡_ {A = ℕ} 0 1 = cc in absurd (omega arith))
+    let a : tie.After-locate = c .before .before .before .before .before .before in (
+      c .refused-at .ensures
+          ∙ sym (merge-refused-5 _ _ _ _ _ _ (past3 (figured a)) (past4 (fresh a)) _ (sym (a .locate .ensures .0) ∙ c .before .before .i .given .1)),
+      λ e. let z : _≡_ {A = ℕ} 0 1 = cc in absurd (omega arith),
+    )
 
 enum-told-3 : tie.Need-enum-told-3
 enum-told-3 c = search needs
@@ -86,9 +89,10 @@ same-length-2 c = search needs
 returns-4 : tie.Need-returns-4
 returns-4 c =
     let d : tie.After-enum-told3 = c .before .before in
-    let s : tie.Start = at5 (located d) in
-    (simp (toZ-ofZ (s .fits .id), toZ-ofZ (s .fits .account), toZ-ofZ (s .fits .series)) at (c .verdict-on-sources .ensures),
-    λ e. located d .locate .ensures .1 (d .enum-told3 .given .1))
+    let s : tie.Start = at5 (located d) in (
+      simp (toZ-ofZ (s .fits .id), toZ-ofZ (s .fits .account), toZ-ofZ (s .fits .series)) at (c .verdict-on-sources .ensures),
+      λ e. located d .locate .ensures .1 (d .enum-told3 .given .1),
+    )
 
 pub verdict-spec : {M : Type 1} → statement M
 verdict-spec =

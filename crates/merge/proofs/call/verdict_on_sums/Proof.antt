@@ -101,7 +101,7 @@ start4 c = start3 (c .before .before)
 
 room-answer : (c : tie.After-lacks-positions-room) → c .lacks-positions-room .result
     ≡ ltb (roomOf positionsLayout (ps (start4 c)))
-      (length (rowsOf positionsLayout (ps (start4 c))) + absentPosition (ps (start4 c)) (account (start4 c)) (series (start4 c)))
+    (length (rowsOf positionsLayout (ps (start4 c))) + absentPosition (ps (start4 c)) (account (start4 c)) (series (start4 c)))
 room-answer c = rw (absent-is (c .before)) at (c .lacks-positions-room .ensures)
 
 positions-room : (c : tie.Else4) → ltb (roomOf positionsLayout (ps (start4 (c .before))))

@@ -92,10 +92,11 @@ loop-less c = omega arith
 loop-again : tie.Need-loop-again Inv-loop μ-loop
 loop-again c =
     let k : tie.In-loop Inv-loop μ-loop = c .before .before .before in
-    let s : tie.Start Inv-loop μ-loop = k .before .before .before in
-    (omega arith,
-    simp (toZ-ofZ (s .fits .number), toZ-ofZ (s .fits .account), toZ-ofZ (s .fits .series))
-    (none-next (all s) (k .before .loop .i) (omega (arith, many s, k .loop-test .taken)) (so-far (k .before)) (tested (c .before) ∙ c .if1 .left)))
+    let s : tie.Start Inv-loop μ-loop = k .before .before .before in (
+      omega arith,
+      simp (toZ-ofZ (s .fits .number), toZ-ofZ (s .fits .account), toZ-ofZ (s .fits .series))
+          (none-next (all s) (k .before .loop .i) (omega (arith, many s, k .loop-test .taken)) (so-far (k .before)) (tested (c .before) ∙ c .if1 .left)),
+    )
 
 returns-2 : tie.Need-returns-2 Inv-loop μ-loop
 returns-2 c =

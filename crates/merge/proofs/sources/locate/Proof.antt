@@ -53,10 +53,11 @@ same-length c = turn (c .before .before) .loop .inv .2
 returns : tie.Need-returns Inv-loop μ-loop
 returns c =
     let k : tie.In-loop Inv-loop μ-loop = c .before .before .before .before .before in
-    let a : tie.At-loop Inv-loop μ-loop = k .before in
-    (sym (place-here (missing (cells a) (list a)) (a .loop .i) (omega (arith, many a, k .loop-test .taken)) (a .loop .inv .1)
-    (is-missing (cells a) (list a) (a .loop .i) (k .loop-test .taken) (absent c))),
-    λ e. let z : _≡_ {A = ℕ} 0 1 = cc in absurd (omega arith))
+    let a : tie.At-loop Inv-loop μ-loop = k .before in (
+      sym (place-here (missing (cells a) (list a)) (a .loop .i) (omega (arith, many a, k .loop-test .taken)) (a .loop .inv .1)
+          (is-missing (cells a) (list a) (a .loop .i) (k .loop-test .taken) (absent c))),
+      λ e. let z : _≡_ {A = ℕ} 0 1 = cc in absurd (omega arith),
+    )
 
 cast-rows : tie.Need-cast-rows Inv-loop μ-loop
 cast-rows c = record { fits = small c }
@@ -76,21 +77,23 @@ loop-less c = omega arith
 loop-again : tie.Need-loop-again Inv-loop μ-loop
 loop-again c =
     let k : tie.In-loop Inv-loop μ-loop = c .before .before .before .before .before .before in
-    let a : tie.At-loop Inv-loop μ-loop = k .before in
-    (omega arith,
-    none-next (missing (cells a) (list a)) (a .loop .i) (omega (arith, many a, k .loop-test .taken)) (a .loop .inv .1)
-    (isn't-missing (cells a) (list a) (a .loop .i) (k .loop-test .taken) _ (row-record (cells a) (list a) (a .loop .i) (row c) (found c))),
-    length-set (a .loop .rows) (a .loop .i) (row c) ∙ a .loop .inv .2,
-    known-next (cells a) (list a) (a .loop .rows) (a .loop .i) (row c) (room c) (a .loop .inv .3) (found c))
+    let a : tie.At-loop Inv-loop μ-loop = k .before in (
+      omega arith,
+      none-next (missing (cells a) (list a)) (a .loop .i) (omega (arith, many a, k .loop-test .taken)) (a .loop .inv .1)
+          (isn't-missing (cells a) (list a) (a .loop .i) (k .loop-test .taken) _ (row-record (cells a) (list a) (a .loop .i) (row c) (found c))),
+      length-set (a .loop .rows) (a .loop .i) (row c) ∙ a .loop .inv .2,
+      known-next (cells a) (list a) (a .loop .rows) (a .loop .i) (row c) (room c) (a .loop .inv .3) (found c),
+    )
 
 same-length-2 : tie.Need-same-length-2 Inv-loop μ-loop
 same-length-2 c = c .before .loop .inv .2
 
 returns-2 : tie.Need-returns-2 Inv-loop μ-loop
 returns-2 c =
-    let a : tie.At-loop Inv-loop μ-loop = c .before in
-    (sym (place-at-last (missing (cells a) (list a)) (a .loop .i) (omega (arith, many a, c .loop-test .left)) (a .loop .inv .1)),
-    λ e. known-all (cells a) (list a) (a .loop .rows) (a .loop .i) (omega (arith, start a .pre .1, a .loop .inv .2)) (c .loop-test .left) (a .loop .inv .3))
+    let a : tie.At-loop Inv-loop μ-loop = c .before in (
+      sym (place-at-last (missing (cells a) (list a)) (a .loop .i) (omega (arith, many a, c .loop-test .left)) (a .loop .inv .1)),
+      λ e. known-all (cells a) (list a) (a .loop .rows) (a .loop .i) (omega (arith, start a .pre .1, a .loop .inv .2)) (c .loop-test .left) (a .loop .inv .3),
+    )
 
 pub locate-spec : {M : Type 1} → statement M
 locate-spec =

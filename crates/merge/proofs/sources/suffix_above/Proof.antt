@@ -143,10 +143,11 @@ loop-less c = omega arith
 loop-again : tie.Need-loop-again Inv-loop μ-loop
 loop-again c =
     let a : tie.At-loop Inv-loop μ-loop = turn (c .before) in
-    let k : tie.In-loop Inv-loop μ-loop = c .before .before .before .before in
-    (omega arith,
-    none-next (above (cells a) (list a)) (a .loop .i) (omega (arith, suffix-count (cells a) (list a), k .loop-test .taken)) (a .loop .inv .1)
-    (sym (compared (c .before)) ∙ c .if1 .left))
+    let k : tie.In-loop Inv-loop μ-loop = c .before .before .before .before in (
+      omega arith,
+      none-next (above (cells a) (list a)) (a .loop .i) (omega (arith, suffix-count (cells a) (list a), k .loop-test .taken)) (a .loop .inv .1)
+          (sym (compared (c .before)) ∙ c .if1 .left),
+    )
 
 returns-2 : tie.Need-returns-2 Inv-loop μ-loop
 returns-2 c =

@@ -48,10 +48,11 @@ loop-less c = omega arith
 
 loop-again : tie.Need-loop-again Inv-loop μ-loop
 loop-again c =
-    let a : tie.At-loop Inv-loop μ-loop = c .before .before .before in
-    (omega arith,
-    none-next (repeats (list a)) (a .loop .i) (omega (arith, repeat-count (list a))) (a .loop .inv .1)
-    (repeat-at (list a) (a .loop .i) (c .before .before .loop-test .taken) ∙ sym (c .before .stands-earlier .ensures) ∙ c .if1 .left))
+    let a : tie.At-loop Inv-loop μ-loop = c .before .before .before in (
+      omega arith,
+      none-next (repeats (list a)) (a .loop .i) (omega (arith, repeat-count (list a))) (a .loop .inv .1)
+          (repeat-at (list a) (a .loop .i) (c .before .before .loop-test .taken) ∙ sym (c .before .stands-earlier .ensures) ∙ c .if1 .left),
+    )
 
 returns-2 : tie.Need-returns-2 Inv-loop μ-loop
 unfolding repeatedPlace

@@ -85,10 +85,11 @@ loop-less c = omega arith
 
 loop-again : tie.Need-loop-again Inv-loop μ-loop
 loop-again c =
-    let e : tie.Else1 Inv-loop μ-loop = c .before .before .before in
-    (omega arith,
-    pair-in-range _ (e .before .before .before .before .loop .i) (e .before .before .before .loop-test .taken) (e .before .before .before .before .loop .inv .1)
-    (passed (id-test (e .before)) (e .if1 .left)) (passed (suffix-test (c .before)) (c .if2 .left)))
+    let e : tie.Else1 Inv-loop μ-loop = c .before .before .before in (
+      omega arith,
+      pair-in-range _ (e .before .before .before .before .loop .i) (e .before .before .before .loop-test .taken) (e .before .before .before .before .loop .inv .1)
+          (passed (id-test (e .before)) (e .if1 .left)) (passed (suffix-test (c .before)) (c .if2 .left)),
+    )
 
 returns-3 : tie.Need-returns-3 Inv-loop μ-loop
 returns-3 c = sym (pairs-in-range _ (c .before .loop .i) (c .loop-test .left) (c .before .loop .inv .1))

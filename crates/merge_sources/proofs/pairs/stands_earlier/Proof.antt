@@ -108,9 +108,10 @@ loop-less c = omega arith
 
 loop-again : tie.Need-loop-again Inv-loop μ-loop
 loop-again c =
-    let a : tie.At-loop Inv-loop μ-loop = turn (c .before) in
-    (omega arith,
-    sym (earlier-there (pairAt (list a) (place a)) (list a) (a .loop .j) (omega arith) (sym (compared (c .before)) ∙ c .if1 .left)) ∙ a .loop .inv .1)
+    let a : tie.At-loop Inv-loop μ-loop = turn (c .before) in (
+      omega arith,
+      sym (earlier-there (pairAt (list a) (place a)) (list a) (a .loop .j) (omega arith) (sym (compared (c .before)) ∙ c .if1 .left)) ∙ a .loop .inv .1,
+    )
 
 returns-2 : tie.Need-returns-2 Inv-loop μ-loop
 returns-2 c =

@@ -115,20 +115,22 @@ loop-again : tie.Need-loop-again Inv-loop μ-loop
 loop-again c =
     let a : tie.At-loop Inv-loop μ-loop = c .before .before .before in
     let low : pos 0 ≤ℤ counted a = a .loop .inv .1 in
-    rw (toZ-ofZ (raised-fits a))
-    (omega arith,
-    omega (zarith, +-lin (counted a) (pos 1)),
-    times-here (list a) (a .loop .j) (idAt (list a) (place a)) (counted a) (c .before .before .loop-test .taken) (same-id c) ∙ a .loop .inv .2)
+    rw (toZ-ofZ (raised-fits a)) (
+      omega arith,
+      omega (zarith, +-lin (counted a) (pos 1)),
+      times-here (list a) (a .loop .j) (idAt (list a) (place a)) (counted a) (c .before .before .loop-test .taken) (same-id c) ∙ a .loop .inv .2,
+    )
 
 loop-less-2 : tie.Need-loop-less-2 Inv-loop μ-loop
 loop-less-2 c = omega arith
 
 loop-again-2 : tie.Need-loop-again-2 Inv-loop μ-loop
 loop-again-2 c =
-    let a : tie.At-loop Inv-loop μ-loop = c .before .before .before in
-    (omega arith,
-    a .loop .inv .1,
-    times-there (list a) (a .loop .j) (idAt (list a) (place a)) (counted a) (c .before .before .loop-test .taken) (other-id c) ∙ a .loop .inv .2)
+    let a : tie.At-loop Inv-loop μ-loop = c .before .before .before in (
+      omega arith,
+      a .loop .inv .1,
+      times-there (list a) (a .loop .j) (idAt (list a) (place a)) (counted a) (c .before .before .loop-test .taken) (other-id c) ∙ a .loop .inv .2,
+    )
 
 returns : tie.Need-returns Inv-loop μ-loop
 returns c =

@@ -10,12 +10,13 @@ unfolding positionCells
 returns c =
     let p = c .before .args .p in
     let known = c .struct-told .given in
-    simp
-    (read-back (p .account) (known .0 .1),
-    read-back (p .series) (known .1 .0 .1),
-    read-back (p .long) (known .1 .1 .0 .1),
-    read-back (p .short) (known .1 .1 .1 .0 .1),
-    read-back (p .cash) (known .1 .1 .1 .1 .0 .1))
+    simp (
+      read-back (p .account) (known .0 .1),
+      read-back (p .series) (known .1 .0 .1),
+      read-back (p .long) (known .1 .1 .0 .1),
+      read-back (p .short) (known .1 .1 .1 .0 .1),
+      read-back (p .cash) (known .1 .1 .1 .1 .0 .1),
+    )
 
 pub position-cells-spec : {M : Type 1} → statement M
 position-cells-spec = tie.close (tie.spec returns)

@@ -45,7 +45,8 @@ all-remain : (r : Record) → After 0 r
 unfolding soundRecord
 all-remain r =
     record {
-      is = taken-last (validId (r .id) && validSuffix (r .suffix) && validSuffix (r .parent)) (validKind (r .kind)) (drop 3 (tests-but-kind r)) }
+      is = taken-last (validId (r .id) && validSuffix (r .suffix) && validSuffix (r .parent)) (validKind (r .kind)) (drop 3 (tests-but-kind r));
+    }
 
 -- test 1: id
 answer1 : (c : tie.After-valid-id) → c .valid-id .result ≡ validId (c .before .before .args .r .id)

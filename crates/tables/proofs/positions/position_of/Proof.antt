@@ -30,7 +30,7 @@ module _ (c : tie.After-row) where
   within : 1 + suc (c .row .given .0 .0) * 5 ≤ length (s .args .cells .now)
   within =
       let below : c .row .given .0 .0 < length (rowsOf positionsLayout (s .args .cells .now))
-            = position-found (s .args .cells .now) (s .args .account) (s .args .series) (c .row .given .0 .0) found .0 in
+      = position-found (s .args .cells .now) (s .args .account) (s .args .series) (c .row .given .0 .0) found .0 in
       omega (arith, positions-known (s .args .cells .now) (s .pre) .rows-within, mul-le-mul-right 5 below)
 
 find-position-requires : tie.Need-find-position-requires

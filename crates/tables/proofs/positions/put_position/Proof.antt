@@ -29,10 +29,11 @@ table s = positions-known (s .args .cells .now) (s .pre .0)
 searched : (c : tie.After-count) → let cells = c .before .before .before .before .args .cells .now in
     (2 ≤ 5) × (1 + c .count .result * 5 ≤ length cells) × (keysRise 5 (c .count .result) cells ≡ true)
 searched c =
-    let s : tie.Start = c .before .before .before .before in
-    (omega arith,
+    let s : tie.Start = c .before .before .before .before in (
+      omega arith,
       omega (arith, table s .rows-within, c .count .ensures),
-      table-rises positionsLayout positionKey positions-first (s .args .cells .now) (table s .rows-rise) (c .count .result) (c .count .ensures))
+      table-rises positionsLayout positionKey positions-first (s .args .cells .now) (table s .rows-rise) (c .count .result) (c .count .ensures),
+    )
 
 -- What the lookup answered.
 module _ (c : tie.After-find-row) where
@@ -90,12 +91,13 @@ replace-row-requires : tie.Need-replace-row-requires
 replace-row-requires c κs =
     let a : tie.After-at = c .before .before .before in
     let f : tie.After-find-row = a .before .before in
-    omega
-    (arith,
-    replacement-fits positionsLayout positions-lawful positionKey positions-first soundPosition (start f .args .cells .now) (table (start f))
-    (counted f .count .result) (counted f .count .ensures) (positionKey (start f .args .p))
-    (f .before .before .position-cells .result) (start f .args .p) (f .before .before .position-cells .ensures)
-    (a .at .given .0 .0) (there a))
+    omega (
+      arith,
+      replacement-fits positionsLayout positions-lawful positionKey positions-first soundPosition (start f .args .cells .now) (table (start f))
+          (counted f .count .result) (counted f .count .ensures) (positionKey (start f .args .p))
+          (f .before .before .position-cells .result) (start f .args .p) (f .before .before .position-cells .ensures)
+          (a .at .given .0 .0) (there a),
+    )
 
 enum-told : tie.Need-enum-told
 enum-told c = search needs
@@ -110,12 +112,13 @@ insert-row-requires : tie.Need-insert-row-requires
 insert-row-requires c κs =
     let p : tie.After-place-of = c .before .before in
     let f : tie.After-find-row = p .before .before .before .before in
-    omega
-    (arith,
-    insertion-fits positionsLayout positions-lawful positionKey positions-first soundPosition (start f .args .cells .now) (table (start f))
-    (counted f .count .result) (counted f .count .ensures) (positionKey (start f .args .p))
-    (f .before .before .position-cells .result) (start f .args .p) (f .before .before .position-cells .ensures)
-    (omega arith) (room (p .before .before)) (p .place-of .result) (placed p))
+    omega (
+      arith,
+      insertion-fits positionsLayout positions-lawful positionKey positions-first soundPosition (start f .args .cells .now) (table (start f))
+          (counted f .count .result) (counted f .count .ensures) (positionKey (start f .args .p))
+          (f .before .before .position-cells .result) (start f .args .p) (f .before .before .position-cells .ensures)
+          (omega arith) (room (p .before .before)) (p .place-of .result) (placed p),
+    )
 
 same-length : tie.Need-same-length
 same-length c = search needs

@@ -45,12 +45,13 @@ insert-row-requires : tie.Need-insert-row-requires
 insert-row-requires c κs =
     let p : tie.After-place-of = c .before .before .before in
     let s : tie.Start = p .before .before .before .before .before .before in
-    omega
-    (arith,
-    insertion-fits recordsLayout records-lawful recordKey records-first soundRecord (s .args .cells .now) (table s)
-    (p .before .before .before .before .count .result) (p .before .before .before .before .count .ensures) (recordKey (s .args .r))
-    (c .before .before .record-cells .result) (s .args .r) (c .before .before .record-cells .ensures)
-    (omega arith) (s .pre .3) (p .place-of .result) (placed p))
+    omega (
+      arith,
+      insertion-fits recordsLayout records-lawful recordKey records-first soundRecord (s .args .cells .now) (table s)
+          (p .before .before .before .before .count .result) (p .before .before .before .before .count .ensures) (recordKey (s .args .r))
+          (c .before .before .record-cells .result) (s .args .r) (c .before .before .record-cells .ensures)
+          (omega arith) (s .pre .3) (p .place-of .result) (placed p),
+    )
 
 same-length : tie.Need-same-length
 same-length c = search needs

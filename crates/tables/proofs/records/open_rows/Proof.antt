@@ -51,9 +51,10 @@ same-length c = search needs
 returns : tie.Need-returns
 returns c =
     let p : tie.After-place-of = c .before .before .before in
-    let s : tie.Start = start p in
-    (placed p ∙ ap (λ (n : ℕ). rowPlace 13 (keyOf (s .args .id) (s .args .suffix)) n (s .args .cells .now)) (counted p .count .ensures),
-    c .before .open-gap .ensures ∙ ap (λ (n : ℕ). gapped 13 n (p .place-of .result) (s .args .added) (s .args .cells .now)) (counted p .count .ensures))
+    let s : tie.Start = start p in (
+      placed p ∙ ap (λ (n : ℕ). rowPlace 13 (keyOf (s .args .id) (s .args .suffix)) n (s .args .cells .now)) (counted p .count .ensures),
+      c .before .open-gap .ensures ∙ ap (λ (n : ℕ). gapped 13 n (p .place-of .result) (s .args .added) (s .args .cells .now)) (counted p .count .ensures),
+    )
 
 pub open-rows-spec : {M : Type 1} → statement M
 open-rows-spec = tie.close (tie.spec count-requires place-of-requires open-gap-requires same-length returns)

@@ -34,7 +34,8 @@ new s =
       series = read (s .args .series);
       long = read (s .args .long);
       short = read (s .args .short);
-      cash = read (s .args .cash) }
+      cash = read (s .args .cash);
+    }
 
 -- Rows, with the new one where its key is absent.
 abbrev wanted : tie.Start → ℕ
@@ -62,23 +63,28 @@ module _ (c : tie.After-find-position) where
 over-fits : (c : tie.After-enum-told) → wanted (start (tested (c .before .before))) ≤ roomOf positionsLayout (start (tested (c .before .before)) .args .cells .now)
 over-fits c =
     let s : tie.Start = start (tested (c .before .before)) in
-    omega
-    (arith,
-    positions-known (s .args .cells .now) (table-sound (tested (c .before .before))) .rows-fit,
-    absentFrom-old positionKey (rowsOf positionsLayout (s .args .cells .now)) (new s) (positionAt (s .args .cells .now) (1 + c .enum-told .given .0 .0 * 5)) []
-    (position-found (s .args .cells .now) (new s .account) (new s .series) (c .enum-told .given .0 .0) (sym (answer (c .before .before)) ∙ c .enum-told .given .1) .1),
-    absentFrom-nil positionKey (rowsOf positionsLayout (s .args .cells .now)))
+    omega (
+      arith,
+      positions-known (s .args .cells .now) (table-sound (tested (c .before .before))) .rows-fit,
+      absentFrom-old positionKey (rowsOf positionsLayout (s .args .cells .now)) (new s) (positionAt (s .args .cells .now) (1 + c .enum-told .given .0 .0 * 5)) []
+          (position-found (s .args .cells .now) (new s .account) (new s .series) (c .enum-told .given .0 .0) (sym (answer (c .before .before)) ∙ c .enum-told .given .1) .1),
+      absentFrom-nil positionKey (rowsOf positionsLayout (s .args .cells .now)),
+    )
 
 -- A row is made.
 made-fits : (c : tie.Else3) → wanted (start (tested (c .before .before .before))) ≤ roomOf positionsLayout (start (tested (c .before .before .before)) .args .cells .now)
 made-fits c =
     let f : tie.After-find-position = c .before .before .before in
     let s : tie.Start = start (tested f) in
-    omega
-    (arith, c .if3 .left, f .before .before .room .ensures, f .before .before .before .before .count .ensures,
-    absentFrom-new positionKey (rowsOf positionsLayout (s .args .cells .now)) (new s) []
-    (position-absent (s .args .cells .now) (new s .account) (new s .series) (sym (answer f) ∙ c .before .enum-told2 .given .1)),
-    absentFrom-nil positionKey (rowsOf positionsLayout (s .args .cells .now)))
+    omega (
+      arith,
+      c .if3 .left,
+      f .before .before .room .ensures,
+      f .before .before .before .before .count .ensures,
+      absentFrom-new positionKey (rowsOf positionsLayout (s .args .cells .now)) (new s) []
+          (position-absent (s .args .cells .now) (new s .account) (new s .series) (sym (answer f) ∙ c .before .enum-told2 .given .1)),
+      absentFrom-nil positionKey (rowsOf positionsLayout (s .args .cells .now)),
+    )
 
 positions-sound-requires : tie.Need-positions-sound-requires
 positions-sound-requires c κs = search needs

@@ -104,7 +104,7 @@ module _ (c : tie.After-position-of2) where
   pub next-fits : SFits w64 (next s +ℤ pos 1)
   next-fits =
       let range : (pos 0 ≤ℤ next s) × ((next s +ℤ pos 1) ≤ℤ greatestOfSuffixes)
-            = transfer-next (rs s) (ps s) (id s) (suffix s) (from s) (to s) (series s) (s .pre .0) (s .pre .1) (s .pre .2) r named in
+      = transfer-next (rs s) (ps s) (id s) (suffix s) (from s) (to s) (series s) (s .pre .0) (s .pre .1) (s .pre .2) r named in
       omega (zarith, +-lin (next s) (pos 1))
 
   pub old-is : c .before .before .position-of .result ≡ positionRead (ps s) (from s) (series s)

@@ -65,7 +65,7 @@ module _ (c : tie.After-open-rows) where
       ∙ (λ i. rowPlace 13 (keyOf (toZ-ofZ (s read2 .fits .id) i) (next-is read2 i)) (length (rowsOf recordsLayout rs₁)) rs₁)
 
   pub fit : (1 + suc (c .open-rows .result) * 13 ≤ length (c .open-rows .last .0)) × (1 + suc (c .open-rows .result + 1) * 13 ≤ length (c .open-rows .last .0))
-    × (c .open-rows .result < 4096)
+      × (c .open-rows .result < 4096)
   fit =
       rows-fit rs₁ (adjusted1 .adjust-record .ensures .1) (id (s read2)) (next (s read2)) (c .open-rows .result) (room-left adjusted1) place-is
       (c .open-rows .last .0) (c .open-rows .kept .0)
@@ -91,7 +91,7 @@ module _ (c : tie.After-arrived-row) where
   arrived-is =
       c .arrived-row .ensures
       ∙ (λ i. adjustableRecord (r read3) (last-is i) transferKind (toZ-ofZ (s read3 .fits .to) i) (r read3 .quantity)
-        (inLong (r read3 .side) (r read3 .quantity)) (inShort (r read3 .side) (r read3 .quantity)))
+      (inLong (r read3 .side) (r read3 .quantity)) (inShort (r read3 .side) (r read3 .quantity)))
 
 -- Both rows written into the gap.
 module _ (c : tie.After-write-record2) where
@@ -105,7 +105,7 @@ module _ (c : tie.After-write-record2) where
   read = read2 gap
 
   pub both-put : c .write-record2 .last .0
-    ≡ putAll recordsLayout recordKey (rs₁ gap) (transferInverse (r read) (next (s read)) ∷ transferArrived (r read) (next (s read)) (to (s read)) ∷ [])
+      ≡ putAll recordsLayout recordKey (rs₁ gap) (transferInverse (r read) (next (s read)) ∷ transferArrived (r read) (next (s read)) (to (s read)) ∷ [])
   both-put =
       two-rows (rs₁ gap) (adjusted1 gap .adjust-record .ensures .1) (id (s read)) (next (s read)) (gap .open-rows .result) (room-left (adjusted1 gap)) (place-is gap)
       (gap .open-rows .last .0) (gap .open-rows .kept .0) (free-from (adjusted1 gap)) (gap .open-rows .ensures .1)
@@ -130,7 +130,7 @@ module _ (c : tie.After-taken-from) where
 
 module _ (c : tie.After-put-position) where
   pub old-put : c .put-position .last .0
-    ≡ putOne positionsLayout positionKey (ps (s (read4 (c .before)))) (transferOld (ps (s (read4 (c .before)))) (r (read4 (c .before))) (from (s (read4 (c .before)))) (series (s (read4 (c .before)))))
+      ≡ putOne positionsLayout positionKey (ps (s (read4 (c .before)))) (transferOld (ps (s (read4 (c .before)))) (r (read4 (c .before))) (from (s (read4 (c .before)))) (series (s (read4 (c .before)))))
   old-put = rw (taken-is (c .before)) at (c .put-position .ensures .0)
 
 module _ (c : tie.After-given-to) where
@@ -145,5 +145,5 @@ module _ (c : tie.After-given-to) where
 
 module _ (c : tie.After-put-position2) where
   pub new-put : c .put-position2 .last .0
-    ≡ putOne positionsLayout positionKey (put (c .before) .put-position .last .0) (transferNew (ps (s (read5 (c .before)))) (r (read5 (c .before))) (to (s (read5 (c .before)))) (series (s (read5 (c .before)))))
+      ≡ putOne positionsLayout positionKey (put (c .before) .put-position .last .0) (transferNew (ps (s (read5 (c .before)))) (r (read5 (c .before))) (to (s (read5 (c .before)))) (series (s (read5 (c .before)))))
   new-put = rw (given-is (c .before)) at (c .put-position2 .ensures .0)
