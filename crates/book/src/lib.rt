@@ -4,8 +4,8 @@ use rules::Reply;
 ghost use mathlib.Core.Path.{_≡_};
 ghost use mathlib.Core.List.{[]};
 ghost use Rattle.rules.specs.Request as Request;
-ghost use Rattle.rules.specs.Handle.{handle};
-ghost use Rattle.verdict.specs.Verdict.{tablesOf, answered};
+ghost use Rattle.rules.specs.Handle.{handle, answered};
+ghost use Rattle.rules.specs.Tables.{tablesOf};
 
 pub fn trade(
     records: &mut [i64],

@@ -2,26 +2,23 @@
 -- its tests hold of the rows. Only a question is accepted on tables that are not both sound, and it writes nothing. Assumes nothing.
 use mathlib.Core.Path.{_≡_, refl, sym, _∙_, ap}
 use mathlib.Core.Bool.{true, false, not}
-use mathlib.Core.List.{[]}
+use mathlib.Core.List.{List, []}
 use mathlib.Core.Logic.{_⊎_, inl, inr}
 use mathlib.Core.Option.{Option, none, some}
 use borrow.Author.Tests.{not-true, not-false}
 use Rattle.rules.specs.Keyed.{isSome}
 use Rattle.rules.specs.Refusal.{Test, firstRefusal}
 use Rattle.rules.specs.Request.{Request}
-use Rattle.rules.specs.Plan.{Plan, booking, question, planTests, planReply}
+use Rattle.rules.specs.Reply.{refusedBy}
+use Rattle.rules.specs.Plan.{Effects, Plan, booking, question, planTests, planReply}
 use Rattle.rules.specs.Tables.{Tables, soundRecords, soundPositions, booksOf}
 use Rattle.rules.specs.Handle.{soundnessTests, refusals, planTables, answer, handle}
 use Rattle.soundness.specs.SoundBooks.{planOn, Accepts}
+use Rattle.soundness.specs.SoundTables.{SoundTables}
 use Rattle.keys.proofs.Counts.{isSome-absent, isSome-present}
 use Rattle.keys.proofs.Clauses.{isSome-none}
-use Rattle.history.specs.History.{isAccepted}
+use Rattle.history.specs.History.{refusalOf, isAccepted}
 use Rattle.history.proofs.Refusals.{no-refusal, test-passes, rest-passes, passes-test, left-passes, right-passes, both-pass}
-
--- Both tables are sound.
-pub record SoundTables (t : Tables) : Type 0 where
-  pub records : soundRecords (t .records) ≡ true
-  pub positions : soundPositions (t .positions) ≡ true
 
 module _ (t : Tables) (r : Request) where
   abbrev pub planAt : Plan
@@ -35,13 +32,19 @@ module _ (t : Tables) (r : Request) where
   unfolding isAccepted
   none-accepted h = ap (λ (o : Option Test). not (isSome o)) h ∙ ap not (isSome-none Test)
 
+  pub refused-some : isAccepted t r ≡ false → (x : Test) × (refusalOf t r ≡ some x)
+  unfolding isAccepted
+  refused-some h = isSome-present (refusalOf t r) (not-false (isSome (refusalOf t r)) h)
+
   -- "A refused request changes nothing."
   pub refused-tables : isAccepted t r ≡ false → handle t r .tables ≡ t
-  unfolding isAccepted handle answer
-  refused-tables h =
-      let w : (x : Test) × (firstRefusal (refusals t planAt) ≡ some x) =
-      isSome-present (firstRefusal (refusals t planAt)) (not-false (isSome (firstRefusal (refusals t planAt))) h) in
-      ap (λ (o : Option Test). answer o t (record { reply = planReply planAt; tables = planTables planAt t }) .tables) (w .1)
+  unfolding handle answer
+  refused-tables h = ap (λ (o : Option Test). answer o t (record { reply = planReply planAt; tables = planTables planAt t }) .tables) (refused-some h .1)
+
+  -- "refused, with number and place": those of the first test that applies.
+  pub refused-reply : (x : Test) → refusalOf t r ≡ some x → handle t r .reply ≡ refusedBy x
+  unfolding handle answer
+  refused-reply x e = ap (λ (o : Option Test). answer o t (record { reply = planReply planAt; tables = planTables planAt t }) .reply) e
 
   pub accepted-reply : isAccepted t r ≡ true → handle t r .reply ≡ planReply planAt
   unfolding handle answer
@@ -64,17 +67,22 @@ module _ (t : Tables) (r : Request) where
           passes-test 1 (not (soundRecords (t .records))) _ (ap not (sound .records)) (passes-test 2 (not (soundPositions (t .positions))) [] (ap not (sound .positions)) no-refusal)
       go (question tests reply) = passes-test 1 (not (soundRecords (t .records))) [] (ap not (sound .records)) no-refusal
 
+  -- A request that books is accepted on sound tables alone.
+  pub booked-on-sound : (tests : List Test) (e : Effects) → planAt ≡ booking tests e → isAccepted t r ≡ true → SoundTables t
+  unfolding refusals soundnessTests
+  booked-on-sound tests e q h =
+      let s : firstRefusal (soundnessTests t (booking tests e)) ≡ none =
+      ap (λ (p : Plan). firstRefusal (soundnessTests t p)) (sym q) ∙ left-passes (soundnessTests t planAt) (planTests (booksOf t) planAt) (accepted-none h) in
+      record {
+        records = not-false (soundRecords (t .records)) (test-passes 1 _ _ s);
+        positions = not-false (soundPositions (t .positions)) (test-passes 2 _ _ (rest-passes _ _ s));
+      }
+
   -- Where a request is accepted, both tables are sound or it leaves them as they were.
   pub sound-or-same : isAccepted t r ≡ true → (SoundTables t) ⊎ (handle t r .tables ≡ t)
-  unfolding refusals soundnessTests planTables
+  unfolding planTables
   sound-or-same h = go planAt refl
     where
       go : (p : Plan) → planAt ≡ p → (SoundTables t) ⊎ (handle t r .tables ≡ t)
-      go (booking tests e) q =
-          let s : firstRefusal (soundnessTests t (booking tests e)) ≡ none =
-          ap (λ (p : Plan). firstRefusal (soundnessTests t p)) (sym q) ∙ left-passes (soundnessTests t planAt) (planTests (booksOf t) planAt) (accepted-none h) in
-          inl (record {
-            records = not-false (soundRecords (t .records)) (test-passes 1 _ _ s);
-            positions = not-false (soundPositions (t .positions)) (test-passes 2 _ _ (rest-passes _ _ s));
-          })
+      go (booking tests e) q = inl (booked-on-sound tests e q h)
       go (question tests reply) q = inr (accepted-tables h ∙ ap (λ (p : Plan). planTables p t) q)

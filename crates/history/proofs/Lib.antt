@@ -15,3 +15,5 @@ pub mod Demand3
 pub mod ByPlaces
 pub mod Samples
 pub mod OnTables
+pub mod Answers
+pub mod LineageAlone

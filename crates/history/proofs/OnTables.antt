@@ -1,7 +1,7 @@
 -- Demands 1 and 2 on the cells of the two tables: a refusal changes nothing; sound tables stay sound, whatever the request; cell 0 of the records table grows by the rows that
 -- the answer names; and a merge keeps the margin. Assumes nothing.
 use mathlib.Core.Path.{_≡_, refl, sym, _∙_, ap, subst}
-use mathlib.Core.Bool.{Bool, true, false}
+use mathlib.Core.Bool.{true, false}
 use mathlib.Core.List.{List}
 use mathlib.Core.Logic.{_⊎_, inl, inr}
 use lib.IntN.{ℤ, pos, _+ℤ_}
@@ -11,19 +11,21 @@ use Rattle.rules.specs.Books.{Books}
 use Rattle.rules.specs.Plan.{planReply}
 use Rattle.rules.specs.Layout.{countOf}
 use Rattle.rules.specs.Tables.{Tables, booksOf}
-use Rattle.rules.specs.Handle.{Answer, handle}
+use Rattle.rules.specs.Merge.{mergePlan}
+use Rattle.rules.specs.Handle.{planOf, handle}
 use Rattle.rules.specs.declared.Record.{Record}
 use Rattle.rules.specs.declared.Reply.{Reply}
 use Rattle.cells.proofs.SoundCells.{records-known}
 use Rattle.cells.proofs.BookCells.{books-records}
 use Rattle.soundness.specs.RowsAnswered.{rowsAnswered}
 use Rattle.soundness.specs.SoundBooks.{planOn, after}
+use Rattle.soundness.specs.SoundTables.{SoundTables}
 use Rattle.soundness.proofs.Growth.{answered-growth}
 use Rattle.margin.specs.Margin.{MergeKeepsMargin}
 use Rattle.margin.proofs.MergeMargin.{merge-keeps-margin}
 use Rattle.keys.proofs.Split.{split}
 use Rattle.history.specs.History.{isAccepted}
-use Rattle.history.proofs.Accepted.{SoundTables, refused-tables, accepted-rows, accepted-reply}
+use Rattle.history.proofs.Accepted.{refused-tables, accepted-rows, accepted-reply, booked-on-sound}
 use Rattle.history.proofs.Step.{sound-books, step-books, step-sound}
 
 -- From tables that pass tests 1 and 2, whatever the request, the tables afterwards pass them.
@@ -48,9 +50,17 @@ count-grows t sound r ok =
     ∙ ap (λ (c : ℤ). c +ℤ rowsAnswered (planReply (planOn (booksOf t) r))) (sym (count-is t sound))
     ∙ ap (λ (reply : Reply). countOf (t .records) +ℤ rowsAnswered reply) (sym (accepted-reply t r ok))
 
--- For each accepted merge the margin of the sources, as they stand in the tables before, equals that of the merged record, as it stands in the tables afterwards, plus the residual.
-pub margin-kept : (t : Tables) → SoundTables t → (id account series : ℤ) (pairs : List ℤ) → isAccepted t (merge id account series pairs) ≡ true →
-    MergeKeepsMargin (booksOf t) id account series pairs
-    × (booksOf (handle t (merge id account series pairs) .tables) ≡ after (booksOf t) (merge id account series pairs))
-margin-kept t sound id account series pairs ok =
-    (merge-keeps-margin (booksOf t) id account series pairs (accepted-rows t (merge id account series pairs) ok), step-books t sound (merge id account series pairs) ok)
+-- A merge books, so it is accepted on sound tables alone.
+merge-on-sound : (t : Tables) (id account series : ℤ) (pairs : List ℤ) → isAccepted t (merge id account series pairs) ≡ true → SoundTables t
+unfolding planOf mergePlan
+merge-on-sound t id account series pairs ok = booked-on-sound t (merge id account series pairs) _ _ refl ok
+
+-- For each accepted merge, of the call's own reply and tables: the margin of the sources, as they stood before, equals that of the merged record, as it stands afterwards,
+-- plus the residual.
+pub margin-kept : (t : Tables) (id account series : ℤ) (pairs : List ℤ) → isAccepted t (merge id account series pairs) ≡ true →
+    MergeKeepsMargin (booksOf t) (handle t (merge id account series pairs) .reply) (booksOf (handle t (merge id account series pairs) .tables)) id account series pairs
+margin-kept t id account series pairs ok =
+    let r : Request = merge id account series pairs in
+    subst (λ (b : Books). MergeKeepsMargin (booksOf t) (handle t r .reply) b id account series pairs) (sym (step-books t (merge-on-sound t id account series pairs ok) r ok))
+    (subst (λ (reply : Reply). MergeKeepsMargin (booksOf t) reply (after (booksOf t) r) id account series pairs) (sym (accepted-reply t r ok))
+    (merge-keeps-margin (booksOf t) id account series pairs (accepted-rows t r ok)))

@@ -13,13 +13,14 @@ use Rattle.rules.specs.Plan.{Plan, booking, question, booked, planBooks}
 use Rattle.rules.specs.Tables.{Tables, booksOf, writeBooks}
 use Rattle.rules.specs.Handle.{planTables, handle}
 use Rattle.soundness.specs.SoundBooks.{SoundBooks, after}
+use Rattle.soundness.specs.SoundTables.{SoundTables}
 use Rattle.cells.specs.Fitting.{Fitting}
 use Rattle.cells.proofs.BookCells.{books-written}
 use Rattle.cells.proofs.SoundBookCells.{books-records-rise, books-records-sound, books-records-fit, books-positions-rise, books-positions-sound, books-positions-fit, fitting, write-sound-own, sound-written-records, sound-written-positions}
 use Rattle.soundness.proofs.Kept.{kept}
 use Rattle.keys.proofs.Folds.{upsertAll-longer}
 use Rattle.history.specs.History.{isAccepted}
-use Rattle.history.proofs.Accepted.{SoundTables, planAt, accepted-tables, accepted-rows}
+use Rattle.history.proofs.Accepted.{planAt, accepted-tables, accepted-rows}
 
 pub sound-books : (t : Tables) → SoundTables t → SoundBooks (booksOf t)
 sound-books t sound = record {

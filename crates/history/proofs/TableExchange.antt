@@ -11,9 +11,10 @@ use Rattle.rules.specs.Tables.{Tables, booksOf, writeBooks}
 use Rattle.rules.specs.Touching.{touch}
 use Rattle.rules.specs.Handle.{handle}
 use Rattle.soundness.specs.SoundBooks.{planOn, Accepts, after}
+use Rattle.soundness.specs.SoundTables.{SoundTables}
 use Rattle.cells.proofs.BookCells.{write-books-twice}
 use Rattle.history.specs.History.{isAccepted}
-use Rattle.history.proofs.Accepted.{SoundTables, accepted-reply, accepted-rows, rows-accepted, sound-or-same}
+use Rattle.history.proofs.Accepted.{accepted-reply, accepted-rows, rows-accepted, sound-or-same}
 use Rattle.history.proofs.Exchange.{Exchanged, exchange}
 use Rattle.history.proofs.Step.{sound-books, Later, later, step-tables, step-books, step-sound}
 

@@ -3,10 +3,10 @@ use Prim.Native.Nat.{ℕ, _<_}
 use mathlib.Core.Path.{_≡_}
 use mathlib.Core.Bool.{Bool, true, cond, not}
 use mathlib.Core.List.{List, [], _∷_, map}
-use mathlib.Core.Option.{some}
+use mathlib.Core.Option.{Option, some}
 use lib.ListN.{length, getElem?}
 use Rattle.rules.specs.Keyed.{isSome}
-use Rattle.rules.specs.Refusal.{firstRefusal}
+use Rattle.rules.specs.Refusal.{Test, firstRefusal}
 use Rattle.rules.specs.Request.{Request}
 use Rattle.rules.specs.Books.{viewOf}
 use Rattle.rules.specs.Tables.{Tables, booksOf}
@@ -14,9 +14,13 @@ use Rattle.rules.specs.Touching.{touch}
 use Rattle.rules.specs.Handle.{planOf, refusals, handle}
 use Rattle.rules.specs.declared.Reply.{Reply}
 
+-- The first refusal of document 01's table that applies to this request on these tables, where one does.
+abbrev pub refusalOf : Tables → Request → Option Test
+refusalOf t r = firstRefusal (refusals t (planOf (viewOf (booksOf t)) r))
+
 -- "A request is accepted when no refusal number applies to it."
 unfoldable pub isAccepted : Tables → Request → Bool
-isAccepted t r = not (isSome (firstRefusal (refusals t (planOf (viewOf (booksOf t)) r))))
+isAccepted t r = not (isSome (refusalOf t r))
 
 -- An accepted request with its whole answer.
 pub record Entry : Type 0 where

@@ -7,9 +7,8 @@ ghost use mathlib.Core.Bool.{true};
 ghost use mathlib.Core.List.{[]};
 ghost use Rattle.rules.specs.Figures.{validSuffix};
 ghost use Rattle.rules.specs.Request as Request;
-ghost use Rattle.rules.specs.Tables.{soundRecords};
+ghost use Rattle.rules.specs.Tables.{soundRecords, tablesOf};
 ghost use Rattle.rules.specs.Handle.{handle};
-ghost use Rattle.verdict.specs.Verdict.{tablesOf};
 ghost use Rattle.lineage.specs.Origin.{originFound};
 
 // The price of the row with suffix 0 and the links followed to it; or a row on the way is missing.

@@ -24,7 +24,7 @@ use Rattle.keys.proofs.Split.{split}
 use Rattle.keys.proofs.Lookup.{find-upsert}
 use Rattle.keys.proofs.Clauses.{upsertAll-nil, upsertAll-cons}
 use Rattle.keys.proofs.Folds.{upsertAll-append}
-use Rattle.soundness.specs.SoundBooks.{Accepts}
+use Rattle.soundness.specs.SoundBooks.{planOn, Accepts, after}
 use Rattle.soundness.proofs.MergeAccepted.{merge-passed}
 use Rattle.soundness.proofs.ReadPosition.{readAt, read-key, read-put}
 use Rattle.margin.specs.Margin.{marginOf, marginOfAll, MergeKeepsMargin}
@@ -62,7 +62,8 @@ found-last xs ys t r =
     ∙ upsertAll-nil recordKey (upsert recordKey r before))
     ∙ find-upsert recordKey r before
 
-pub merge-keeps-margin : (b : Books) (id account series : ℤ) (pairs : List ℤ) → Accepts b (merge id account series pairs) → MergeKeepsMargin b id account series pairs
+pub merge-keeps-margin : (b : Books) (id account series : ℤ) (pairs : List ℤ) → Accepts b (merge id account series pairs) →
+    MergeKeepsMargin b (planReply (planOn b (merge id account series pairs))) (after b (merge id account series pairs)) id account series pairs
 unfolding planOf mergePlan planReply planBooks booked viewOf mergedRecord newRecord moved
 merge-keeps-margin b id account series pairs accepted =
     let sources : List Source = sourcesOf (viewOf b) (pairsOf pairs) in

@@ -8,13 +8,11 @@ use lib.IntN.{ℤ, pos, negℤ, _+ℤ_, _-ℤ_, _*ℤ_}
 use Rattle.rules.specs.Figures.{isBuy}
 use Rattle.rules.specs.Keyed.{find}
 use Rattle.rules.specs.Rows.{keyOf, recordKey}
-use Rattle.rules.specs.Request.{merge}
 use Rattle.rules.specs.Books.{Books, viewOf}
-use Rattle.rules.specs.Plan.{planReply}
 use Rattle.rules.specs.Merge.{pairsOf, sourcesOf, recordsOf}
 use Rattle.rules.specs.declared.Record.{Record}
+use Rattle.rules.specs.declared.Reply.{Reply}
 use Rattle.rules.specs.declared.Reply.the-variants.{Booked}
-use Rattle.soundness.specs.SoundBooks.{planOn, after}
 
 unfoldable pub signedQuantity : Record → ℤ
 signedQuantity r = cond (isBuy (r .side)) (r .quantity) (negℤ (r .quantity))
@@ -26,13 +24,13 @@ unfoldable pub marginOfAll : ℤ → List Record → ℤ
 marginOfAll s [] = pos 0
 marginOfAll s (r ∷ rest) = marginOf s r +ℤ marginOfAll s rest
 
--- At every settlement price the sources' margin, as they stand in the books before, is that of the merged record, as it stands in the books afterwards,
--- and the residual, which the answer carries and the position's cash has grown by.
-pub record MergeKeepsMargin (b : Books) (id account series : ℤ) (pairs : List ℤ) : Type 0 where
+-- A merge of these pairs into this id, from the books before it to the books afterwards, with this reply: at every settlement price the sources' margin, as they stand in the
+-- books before, is that of the merged record, as it stands in the books afterwards, and the residual, which the reply carries and the position's cash has grown by.
+pub record MergeKeepsMargin (before : Books) (reply : Reply) (afterwards : Books) (id account series : ℤ) (pairs : List ℤ) : Type 0 where
   pub merged : Record
   pub rows : ℤ
   pub residual : ℤ
-  pub stands : find recordKey (keyOf id (pos 0)) (after b (merge id account series pairs) .records) ≡ some merged
-  pub answered : planReply (planOn b (merge id account series pairs)) ≡ Booked rows residual
-  pub grown : viewOf (after b (merge id account series pairs)) .positionAt account series .cash ≡ viewOf b .positionAt account series .cash +ℤ residual
-  pub kept : (s : ℤ) → marginOfAll s (recordsOf (sourcesOf (viewOf b) (pairsOf pairs))) ≡ marginOf s merged +ℤ residual
+  pub stands : find recordKey (keyOf id (pos 0)) (afterwards .records) ≡ some merged
+  pub answered : reply ≡ Booked rows residual
+  pub grown : viewOf afterwards .positionAt account series .cash ≡ viewOf before .positionAt account series .cash +ℤ residual
+  pub kept : (s : ℤ) → marginOfAll s (recordsOf (sourcesOf (viewOf before) (pairsOf pairs))) ≡ marginOf s merged +ℤ residual

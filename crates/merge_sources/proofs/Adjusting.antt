@@ -1,34 +1,32 @@
 -- The sources of a merge adjusted in turn: each is still found as it was when its turn comes, since its pair did not stand earlier; afterwards every key has
 -- what it had but for the status. By the laws of lookups beside puts. Assumes nothing.
-use Prim.Native.Nat.{ℕ, zero, suc, _+_, _/_, _≤_, _<_}
+use Prim.Native.Nat.{ℕ, _/_, _<_}
 use native.Mathlib.Omega.{arith}
-use mathlib.Core.Path.{_≡_, refl, sym, _∙_, ap, subst}
-use mathlib.Core.Bool.{Bool, true, false, not}
-use mathlib.Core.List.{List, [], _∷_, map}
-use mathlib.Core.Option.{Option, none, some}
+use mathlib.Core.Path.{_≡_, refl, sym, _∙_, ap}
+use mathlib.Core.Bool.{true, false, not}
+use mathlib.Core.List.{List, [], map}
+use mathlib.Core.Option.{some}
 use borrow.Author.Tests.{not-false}
-use lib.IntN.{ℤ, pos}
+use lib.IntN.{ℤ}
 use lib.ListN.{length, getD, take, length-map}
 use Rattle.integers.specs.Order.{eqZ}
 use Rattle.integers.proofs.Parts.{eqZ-true}
 use Rattle.rules.specs.Figures.{adjustable}
-use Rattle.rules.specs.Keyed.{Key, same, isSome, rising, find, upsertAll}
-use Rattle.rules.specs.Rows.{recordKey, adjustedRecord, soundRecord}
+use Rattle.rules.specs.Keyed.{Key, find, upsertAll}
+use Rattle.rules.specs.Rows.{recordKey, adjustedRecord}
 use Rattle.rules.specs.NamedRecord.{noRecord, isNotAdjustable}
-use Rattle.rules.specs.Refusal.{anyOf, allOf}
+use Rattle.rules.specs.Refusal.{anyOf}
 use Rattle.rules.specs.Layout.{rowsOf}
 use Rattle.rules.specs.Tables.{recordsLayout}
 use Rattle.rules.specs.Merge.{pairsOf, isAmong}
 use Rattle.rules.specs.declared.Record.{Record}
 use Rattle.keys.proofs.KeyOrder.{eq-same}
-use Rattle.keys.proofs.Clauses.{allOf-nil, allOf-intro, isSome-some}
-use Rattle.keys.proofs.Lookup.{find-key, find-all}
+use Rattle.keys.proofs.Lookup.{find-key}
 use Rattle.keys.proofs.Folds.{find-upsertAll-other}
-use Rattle.keys.proofs.Counts.{hasAll, upsertAll-replaces}
 use Rattle.soundness.proofs.NamedRecord.{recordOf}
-use Rattle.merge_sources.specs.Sources.{sourcesIn, allFound, sourceRecords}
-use Rattle.merge_sources.specs.Pairs.{pairAt, earlierPairs, standsEarlier, repeatsFrom}
-use Rattle.merge_sources.proofs.Each.{Each, each-at}
+use Rattle.merge_sources.specs.Sources.{allFound, sourceRecords}
+use Rattle.merge_sources.specs.Pairs.{pairAt, earlierPairs, repeatsFrom}
+use Rattle.merge_sources.proofs.Each.{each-at}
 use Rattle.merge_sources.proofs.Places.{none-holds}
 use Rattle.merge_sources.proofs.SourceList.{map-at, record-count, record-at, record-test, source-found}
 use Rattle.merge_sources.proofs.Earlier.{repeat-count, repeat-at, stands-earlier, earlier-among}

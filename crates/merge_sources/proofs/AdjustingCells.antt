@@ -3,12 +3,12 @@
 use Prim.Native.Nat.{ℕ, _+_, _/_, _≤_, _<_}
 use native.Mathlib.Omega.{arith}
 use mathlib.Core.Path.{_≡_, refl, sym, _∙_, ap}
-use mathlib.Core.Bool.{Bool, true, false}
+use mathlib.Core.Bool.{true, false}
 use mathlib.Core.List.{List, [], map}
 use mathlib.Core.Option.{Option, some}
 use lib.IntN.{ℤ, pos}
-use lib.ListN.{length, getD, take}
-use Rattle.rules.specs.Keyed.{Key, isSome, find, upsert, upsertAll}
+use lib.ListN.{length}
+use Rattle.rules.specs.Keyed.{isSome, find, upsert, upsertAll}
 use Rattle.rules.specs.Rows.{recordKey, adjustedRecord}
 use Rattle.rules.specs.NamedRecord.{noRecord, isNotAdjustable}
 use Rattle.rules.specs.Refusal.{anyOf}

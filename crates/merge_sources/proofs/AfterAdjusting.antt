@@ -1,12 +1,12 @@
 -- The sources of a merge after they are adjusted: all are found as before, and their inverses are the same rows, since an inverse shows no status. By
 -- induction on the pairs. Assumes nothing.
-use Prim.Native.Nat.{ℕ, _+_, _/_, _<_}
+use Prim.Native.Nat.{_+_, _/_}
 use native.Mathlib.Omega.{arith}
 use mathlib.Core.Path.{_≡_, refl, sym, _∙_, ap}
 use mathlib.Core.Bool.{Bool, true, not}
 use mathlib.Core.List.{List, [], _∷_, map}
 use lib.IntN.{ℤ, pos, _+ℤ_}
-use lib.ListN.{length, getD}
+use lib.ListN.{length}
 use lib.Seq.{ext-getD}
 use Rattle.rules.specs.Figures.{mergeKind}
 use Rattle.rules.specs.Keyed.{Key, find}
@@ -21,7 +21,7 @@ use Rattle.soundness.proofs.NamedRecord.{recordOf}
 use Rattle.merge_sources.specs.Sources.{sourcesIn, allFound}
 use Rattle.merge_sources.specs.Pairs.{pairAt, timesEarlier}
 use Rattle.merge_sources.proofs.SourceList.{sourceOf, sources-map, source-count}
-use Rattle.merge_sources.proofs.Inverses.{inverseAt, inverse-count, inverse-at}
+use Rattle.merge_sources.proofs.Inverses.{inverse-count, inverse-at}
 use Rattle.merge_sources.proofs.Settled.{settled, stands-alike, next-alike, inverse-alike}
 
 -- Cells whose rows agree with these but for the status.

@@ -4,7 +4,7 @@ use Prim.Native.Nat.{ℕ, zero, suc, _+_, _-_, _/_, _≤_, _<_}
 use native.Mathlib.Omega.{arith}
 use mathlib.Core.Path.{_≡_, refl, sym, _∙_, ap, subst}
 use mathlib.Core.Bool.{Bool, true, false, cond, _||_}
-use mathlib.Core.List.{List, [], _∷_, map}
+use mathlib.Core.List.{List, [], _∷_}
 use mathlib.Core.Logic.{_⊎_, inl, inr}
 use borrow.Author.Tests.{ltb-true, ltb-false}
 use lib.Dec.{ltb}
@@ -14,8 +14,7 @@ use lib.Signed.{_≤ℤ_}
 use Rattle.integers.specs.Order.{eqZ}
 use Rattle.integers.proofs.Linear.{zarith, +-lin}
 use Rattle.rules.specs.Keyed.{Key, same}
-use Rattle.rules.specs.Refusal.{anyOf}
-use Rattle.rules.specs.Merge.{Source, pairsOf, isAmong, timesIn, stoodEarlier}
+use Rattle.rules.specs.Merge.{pairsOf, isAmong, timesIn, stoodEarlier}
 use Rattle.rules.specs.declared.Record.{Record}
 use Rattle.keys.proofs.Split.{split, or-left, or-right}
 use Rattle.merge_sources.specs.Sources.{sourcesAt, sourcesIn}

@@ -5,17 +5,17 @@ use native.Mathlib.Numerals.{add-one}
 use native.Mathlib.Omega.{arith}
 use mathlib.Core.Path.{_≡_, refl, sym, _∙_, ap, subst}
 use mathlib.Core.Bool.{Bool, true, false, not, cond}
-use mathlib.Core.List.{List, [], _∷_, map}
+use mathlib.Core.List.{List, []}
 use mathlib.Core.Logic.{_⊎_, inl, inr}
 use mathlib.Core.Option.{Option, none, some}
 use lib.IntN.{ℤ, pos, _+ℤ_}
-use lib.ListN.{length, getD, take}
+use lib.ListN.{length, take}
 use lib.Signed.{_≤ℤ_, ≤ℤ-refl}
 use Rattle.integers.specs.Order.{eqZ}
 use Rattle.integers.proofs.Linear.{zarith, +-lin}
 use Rattle.integers.proofs.Parts.{eqZ-true}
-use Rattle.rules.specs.Keyed.{Key, isSome, find, greatest, upsert, upsertAll}
-use Rattle.rules.specs.Rows.{keyOf, recordKey, inverseRecord}
+use Rattle.rules.specs.Keyed.{Key, isSome, find, upsert, upsertAll}
+use Rattle.rules.specs.Rows.{recordKey, inverseRecord}
 use Rattle.rules.specs.NamedRecord.{noRecord, nextSuffix}
 use Rattle.rules.specs.Layout.{rowsOf}
 use Rattle.rules.specs.Tables.{recordsLayout}
@@ -23,7 +23,7 @@ use Rattle.rules.specs.Merge.{timesIn, mergeInverses}
 use Rattle.rules.specs.declared.Record.{Record}
 use Rattle.keys.proofs.Split.{split, cond-true, cond-false}
 use Rattle.keys.proofs.Clauses.{isSome-none, isSome-some}
-use Rattle.keys.proofs.Lookup.{find-key, greatest-upsert-other}
+use Rattle.keys.proofs.Lookup.{greatest-upsert-other}
 use Rattle.keys.proofs.Rising.{upsert-adds}
 use Rattle.keys.proofs.Folds.{find-upsertAll-other}
 use Rattle.soundness.proofs.NamedRecord.{recordOf, nextOf, free-from-next}

@@ -3,13 +3,13 @@
 use Prim.Native.Nat.{ℕ, _+_, _/_, _≤_, _<_}
 use native.Mathlib.Omega.{arith}
 use mathlib.Core.Path.{_≡_, refl, sym, _∙_, ap}
-use mathlib.Core.Bool.{Bool, true, false}
+use mathlib.Core.Bool.{true}
 use mathlib.Core.List.{List, [], map}
 use mathlib.Core.Option.{Option, some}
 use lib.IntN.{ℤ, pos, _+ℤ_}
-use lib.ListN.{length, getD, take, length-map}
+use lib.ListN.{length, getD, length-map}
 use Rattle.rules.specs.Figures.{mergeKind}
-use Rattle.rules.specs.Keyed.{Key, isSome, find, upsert, upsertAll}
+use Rattle.rules.specs.Keyed.{isSome, find, upsert, upsertAll}
 use Rattle.rules.specs.Rows.{recordKey, inverseRecord, soundRecord}
 use Rattle.rules.specs.NamedRecord.{noRecord}
 use Rattle.rules.specs.Refusal.{allOf}
@@ -28,7 +28,7 @@ use Rattle.merge_sources.specs.Pairs.{pairAt, timesEarlier}
 use Rattle.merge_sources.proofs.PairList.{pair-count}
 use Rattle.merge_sources.proofs.Places.{all-hold}
 use Rattle.merge_sources.proofs.SourceList.{map-at, found-record}
-use Rattle.merge_sources.proofs.Inverses.{inverseAt, inverse-at}
+use Rattle.merge_sources.proofs.Inverses.{inverse-at}
 use Rattle.merge_sources.proofs.InTurn.{cells-at-first, cells-next, cells-at-last}
 use Rattle.merge_sources.proofs.Inserting.{rowsInverted, inverses-count, next-by-now, found-by-now, inverted-length}
 

@@ -1,27 +1,26 @@
 -- The inverse rows of a merge, place by place, and test 13: the suffixes that they would need do not depend on the new id, and the merged row has suffix 0.
 -- By induction on the sources. Assumes nothing.
-use Prim.Native.Nat.{ℕ, zero, suc, _+_, _/_, _≤_, _<_}
+use Prim.Native.Nat.{ℕ, _+_, _/_, _<_}
 use native.Mathlib.Omega.{arith}
-use mathlib.Core.Path.{_≡_, refl, sym, _∙_, ap, ap₂}
-use mathlib.Core.Bool.{Bool, true, false, _||_}
+use mathlib.Core.Path.{_≡_, refl, sym, _∙_, ap}
+use mathlib.Core.Bool.{Bool, false, _||_}
 use mathlib.Core.List.{List, [], _∷_, _++_, map}
 use lib.IntN.{ℤ, pos, _+ℤ_}
 use lib.ListN.{length, getD, length-map}
 use lib.Signed.{ltZ}
 use Rattle.rules.specs.Figures.{greatestOfSuffixes, mergeKind}
-use Rattle.rules.specs.Keyed.{Key, greatest}
-use Rattle.rules.specs.Rows.{recordKey, inverseRecord, newRecord}
+use Rattle.rules.specs.Keyed.{greatest}
+use Rattle.rules.specs.Rows.{inverseRecord, newRecord}
 use Rattle.rules.specs.NamedRecord.{noRecord, theRecord, nextSuffix}
 use Rattle.rules.specs.Refusal.{anyOf}
 use Rattle.rules.specs.Plan.{suffixIsAbove}
 use Rattle.rules.specs.Layout.{rowsOf}
 use Rattle.rules.specs.Tables.{recordsLayout}
-use Rattle.rules.specs.Merge.{Source, pairsOf, timesIn, mergeInverses, mergedRecord}
+use Rattle.rules.specs.Merge.{Source, timesIn, mergeInverses, mergedRecord}
 use Rattle.rules.specs.declared.Record.{Record}
 use Rattle.soundness.proofs.NamedRecord.{recordOf, nextOf}
 use Rattle.merge_sources.specs.Sources.{sourcesIn}
 use Rattle.merge_sources.specs.Pairs.{pairAt, earlierIds, timesEarlier}
-use Rattle.merge_sources.proofs.PairList.{pair-count}
 use Rattle.merge_sources.proofs.Threaded.{threaded, length-threaded, threaded-at}
 use Rattle.merge_sources.proofs.SourceList.{map-at, sourceOf, source-count, source-at}
 

@@ -1,24 +1,23 @@
 -- The booking of an accepted merge, step by step over the cells: the sources adjusted, their inverses inserted, the merged row inserted, the position put.
 -- What each step asks of the tables before it, and that the last leaves what the rules say. By the laws of the single steps. Assumes nothing.
-use Prim.Native.Nat.{ℕ, suc, _+_, _/_, _≤_, _<_}
+use Prim.Native.Nat.{ℕ, _+_, _/_, _≤_, _<_}
 use native.Mathlib.Omega.{arith}
-use mathlib.Core.Path.{_≡_, refl, sym, _∙_, ap, subst}
-use mathlib.Core.Bool.{Bool, true, false, not}
+use mathlib.Core.Path.{_≡_, refl, sym, _∙_, ap}
+use mathlib.Core.Bool.{true, not}
 use mathlib.Core.List.{List, [], _∷_, _++_, map}
-use mathlib.Core.Option.{Option, none, some}
+use mathlib.Core.Option.{none}
 use lib.IntN.{ℤ, pos, _+ℤ_}
 use lib.ListN.{length, length-append}
-use Rattle.integers.specs.Averageable.{Averageable}
-use Rattle.rules.specs.Keyed.{Key, isSome, find, greatest, upsert, upsertAll}
+use Rattle.rules.specs.Keyed.{Key, isSome, find, upsert, upsertAll}
 use Rattle.rules.specs.Rows.{recordKey, positionKey, adjustedRecord, soundRecord}
-use Rattle.rules.specs.Refusal.{anyOf, allOf}
+use Rattle.rules.specs.Refusal.{allOf}
 use Rattle.rules.specs.Request.{merge}
 use Rattle.rules.specs.Books.{viewOf}
 use Rattle.rules.specs.Plan.{planReply, booked}
-use Rattle.rules.specs.Handle.{Answer, planOf, planTables}
+use Rattle.rules.specs.Handle.{Answer, planOf, planTables, answered}
 use Rattle.rules.specs.Layout.{roomOf, rowsOf, write}
-use Rattle.rules.specs.Tables.{booksOf, writeBooks, recordsLayout, positionsLayout, soundRecords, soundPositions}
-use Rattle.rules.specs.Merge.{Source, pairsOf, sourcesOf, recordsOf, sumOfQuantities, sumOfValues, mergeInverses, mergedRecord, mergeResidual, mergePlan}
+use Rattle.rules.specs.Tables.{booksOf, writeBooks, recordsLayout, positionsLayout, soundRecords, tablesOf}
+use Rattle.rules.specs.Merge.{Source, pairsOf, sourcesOf, recordsOf, mergeInverses, mergedRecord, mergeResidual, mergePlan}
 use Rattle.rules.specs.declared.Record.{Record}
 use Rattle.rules.specs.declared.Position.{Position}
 use Rattle.rules.specs.declared.Reply.the-variants.{Booked}
@@ -29,9 +28,8 @@ use Rattle.cells.proofs.Write.{rows-write, length-write, room-write, write-writ
 use Rattle.keys.proofs.Clauses.{allOf-nil, allOf-intro, allOf-head, allOf-tail, upsertAll-nil, upsertAll-cons}
 use Rattle.keys.proofs.Rising.{upsert-longer}
 use Rattle.keys.proofs.Folds.{only-tail, upsertAll-append, upsertAll-longer}
-use Rattle.keys.proofs.Counts.{distinct, distinct-head, distinct-tail, lacksAll, lacksAll-head, lacksAll-upsert, lacksAll-upsertAll, upsertAll-replaces, upsertAll-adds}
-use Rattle.verdict.specs.Verdict.{tablesOf, answered, verdictOn, acceptedOn}
-use Rattle.verdict.specs.declared.Verdict.the-variants.{Accepted}
+use Rattle.keys.proofs.Counts.{distinct, distinct-head, distinct-tail, lacksAll, lacksAll-head, lacksAll-upsert, lacksAll-upsertAll, upsertAll-replaces}
+use Rattle.verdict.specs.Verdict.{acceptedOn}
 use Rattle.merge_sources.specs.Sources.{sourcesIn, allFound, sourceRecords}
 use Rattle.merge_sources.proofs.PairList.{pair-count}
 use Rattle.merge_sources.proofs.SourceList.{sources-in-books, source-count}

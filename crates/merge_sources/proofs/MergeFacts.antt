@@ -1,39 +1,37 @@
 -- What an accepted merge on sound tables has passed and puts, over the cells of the tables: the tests, its rows new, distinct and sound, and room for them.
 -- By the laws of acceptance. Assumes nothing.
-use Prim.Native.Nat.{ℕ, _+_, _/_, _%_, _≤_, _<_}
+use Prim.Native.Nat.{ℕ, _+_, _/_, _%_, _≤_}
 use native.Mathlib.Omega.{arith}
-use mathlib.Core.Path.{_≡_, refl, sym, _∙_, ap, subst}
-use mathlib.Core.Bool.{Bool, true, false, not, _&&_}
+use mathlib.Core.Path.{_≡_, sym, subst}
+use mathlib.Core.Bool.{Bool, true, _&&_}
 use mathlib.Core.List.{List, [], _∷_, _++_, map}
 use borrow.Author.Tests.{leb-true, eqb-true}
 use lib.Dec.{leb, eqb}
-use lib.IntN.{ℤ, pos}
+use lib.IntN.{ℤ}
 use lib.ListN.{length}
-use lib.Signed.{_≤ℤ_}
-use Rattle.integers.specs.Averageable.{Averageable}
-use Rattle.rules.specs.Figures.{validId, validAccount, validSeries, validCount, mostQuantity}
+use Rattle.rules.specs.Figures.{validId, validAccount, validSeries, validCount}
 use Rattle.rules.specs.Keyed.{greatest, absentFrom}
 use Rattle.rules.specs.Rows.{recordKey, positionKey, adjustedRecord, soundRecord, soundPosition}
-use Rattle.rules.specs.Refusal.{anyOf, allOf}
+use Rattle.rules.specs.Refusal.{allOf}
 use Rattle.rules.specs.Request.{merge}
 use Rattle.rules.specs.Books.{Books, viewOf}
 use Rattle.rules.specs.Handle.{planOf}
 use Rattle.rules.specs.Layout.{roomOf, rowsOf}
-use Rattle.rules.specs.Tables.{booksOf, recordsLayout, positionsLayout, soundRecords, soundPositions}
-use Rattle.rules.specs.Merge.{Source, pairsOf, validPair, mergeFigures, sourcesOf, recordsOf, isMissing, sumOfQuantities, sumOfValues, mergeInverses, mergedRecord, mergePlan}
+use Rattle.rules.specs.Tables.{booksOf, recordsLayout, positionsLayout, soundRecords, soundPositions, tablesOf}
+use Rattle.rules.specs.Merge.{Source, pairsOf, validPair, mergeFigures, sourcesOf, recordsOf, mergeInverses, mergedRecord, mergePlan}
 use Rattle.rules.specs.declared.Record.{Record}
 use Rattle.keys.proofs.Split.{and-left, and-right}
 use Rattle.keys.proofs.Clauses.{allOf-head}
 use Rattle.keys.proofs.Counts.{distinct, hasAll, lacksAll}
 use Rattle.soundness.specs.SoundBooks.{SoundBooks, planOn, Accepts}
-use Rattle.soundness.proofs.Accepted.{BookingPassed, booking-passed}
+use Rattle.soundness.proofs.Accepted.{booking-passed}
 use Rattle.soundness.proofs.BookingFacts.{PlanFacts}
 use Rattle.soundness.proofs.Merge.{merge-facts}
 use Rattle.soundness.proofs.MergeAccepted.{MergePassed, merge-passed}
-use Rattle.verdict.specs.Verdict.{tablesOf, verdictOn}
+use Rattle.verdict.specs.Verdict.{verdictOn}
 use Rattle.verdict.specs.declared.Verdict.the-variants.{Accepted}
 use Rattle.verdict.proofs.Acceptance.{sound-books, accepted-accepts}
-use Rattle.merge_sources.specs.Sources.{sourcesIn, allFound, sourceRecords}
+use Rattle.merge_sources.specs.Sources.{sourcesIn}
 use Rattle.merge_sources.proofs.PairList.{pair-count}
 use Rattle.merge_sources.proofs.SourceList.{sources-in-books}
 use Rattle.merge_sources.proofs.MergeVerdict.{mergePosition}

@@ -5,34 +5,33 @@ use native.Mathlib.Omega.{arith}
 use mathlib.Core.Path.{_≡_, refl, sym, _∙_, ap}
 use mathlib.Core.Bool.{Bool, true, false, not, _&&_}
 use mathlib.Core.List.{List, [], _∷_, _++_, map}
-use mathlib.Core.Option.{Option, none, some}
+use mathlib.Core.Option.{none, some}
 use lib.Dec.{ltb}
 use lib.IntN.{ℤ, pos}
 use lib.ListN.{length, drop, length-append}
 use lib.Signed.{ltZ}
 use Rattle.rules.specs.Figures.{mostQuantity}
-use Rattle.rules.specs.Keyed.{find, greatest, isSome, absentFrom}
-use Rattle.rules.specs.Rows.{keyOf, recordKey, positionKey, moved, soundPosition}
+use Rattle.rules.specs.Keyed.{greatest, isSome, absentFrom}
+use Rattle.rules.specs.Rows.{recordKey, positionKey, moved, soundPosition}
 use Rattle.rules.specs.NamedRecord.{isElsewhere, isNotAdjustable}
-use Rattle.rules.specs.Refusal.{Test, test, testEach, anyOf, allOf, firstPlace, firstRefusal}
-use Rattle.rules.specs.Request.{Request, merge}
+use Rattle.rules.specs.Refusal.{Test, test, testEach, anyOf, allOf, firstRefusal}
+use Rattle.rules.specs.Request.{merge}
 use Rattle.rules.specs.Books.{viewOf}
 use Rattle.rules.specs.Plan.{planTests, bookingTests, suffixIsAbove}
 use Rattle.rules.specs.Merge.{Source, pairsOf, mergeFigures, sourcesOf, recordsOf, isMissing, closes, stoodEarlier, firstOf, sideDiffers, sumOfQuantities, mergeInverses, mergedRecord, mergeResidual, mergePlan}
 use Rattle.rules.specs.Layout.{roomOf, rowsOf}
-use Rattle.rules.specs.Tables.{booksOf, recordsLayout, positionsLayout}
+use Rattle.rules.specs.Tables.{booksOf, recordsLayout, positionsLayout, tablesOf}
 use Rattle.rules.specs.Handle.{planOf}
 use Rattle.rules.specs.declared.Record.{Record}
 use Rattle.rules.specs.declared.Position.{Position}
-use Rattle.verdict.specs.Verdict.{tablesOf, verdictOf, verdictOn, absentPosition}
+use Rattle.verdict.specs.Verdict.{verdictOf, verdictOn, absentPosition}
 use Rattle.verdict.specs.declared.Verdict.{Verdict}
 use Rattle.verdict.specs.declared.Verdict.the-variants.{Accepted, Refused}
 use Rattle.verdict.proofs.Chain.{verdictBy, accepts, refuses, passes}
 use Rattle.verdict.proofs.Room.{positionRead, absent-one}
-use Rattle.merge_sources.specs.Sources.{sourcesIn, placeOf, allFound, sourceRecords}
+use Rattle.merge_sources.specs.Sources.{sourcesIn, placeOf, sourceRecords}
 use Rattle.merge_sources.specs.Pairs.{repeatsFrom}
-use Rattle.merge_sources.specs.declared.Place.{Place}
-use Rattle.merge_sources.specs.declared.Place.the-variants.{At, Nowhere}
+use Rattle.merge_sources.specs.declared.Place.the-variants.{At}
 use Rattle.merge_sources.proofs.Places.{place-tells}
 use Rattle.merge_sources.proofs.SourceList.{source-count, sources-in-books}
 use Rattle.merge_sources.proofs.Earlier.{sources-stood-earlier}

@@ -2,7 +2,7 @@
 -- By the laws of lists of tests. Assumes nothing.
 use Prim.Native.Nat.{ℕ, _+_, _*_, _/_, _%_, _≤_, _<_}
 use native.Mathlib.Omega.{arith}
-use mathlib.Core.Path.{_≡_, refl, sym, _∙_, ap}
+use mathlib.Core.Path.{_≡_, _∙_, ap}
 use mathlib.Core.Bool.{Bool, true, false, _&&_}
 use mathlib.Core.List.{List, map}
 use borrow.Author.Tests.{le-leb, lt-leb}
@@ -10,7 +10,6 @@ use lib.Dec.{leb}
 use lib.IntN.{ℤ, pos}
 use lib.ListN.{length, getD, take, length-map}
 use Rattle.rules.specs.Figures.{validId, validSuffix, validCount}
-use Rattle.rules.specs.Keyed.{Key}
 use Rattle.rules.specs.Refusal.{allOf}
 use Rattle.rules.specs.Merge.{pairsOf, validPair}
 use Rattle.keys.proofs.Split.{and-intro}

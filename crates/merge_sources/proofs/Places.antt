@@ -4,14 +4,13 @@ use Prim.Native.Nat.{ℕ, zero, suc, _+_, _≤_, _<_}
 use native.Mathlib.Numerals.{add-one}
 use native.Mathlib.Omega.{arith}
 use mathlib.Core.Path.{_≡_, refl, sym, _∙_, ap, subst}
-use mathlib.Core.Bool.{Bool, true, false, cond, _&&_, _||_}
+use mathlib.Core.Bool.{Bool, true, false}
 use mathlib.Core.List.{List, [], _∷_}
 use lib.ListN.{length, getD, take}
 use lib.Seq.{take-all}
 use Rattle.rules.specs.Refusal.{anyOf, allOf, firstPlace}
 use Rattle.keys.proofs.Split.{clash}
 use Rattle.merge_sources.specs.Sources.{placeOf}
-use Rattle.merge_sources.specs.declared.Place.{Place}
 use Rattle.merge_sources.specs.declared.Place.the-variants.{At, Nowhere}
 
 -- ---- tests of which none may hold

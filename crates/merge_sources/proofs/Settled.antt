@@ -1,19 +1,19 @@
 -- Rows that change their status and nothing else: what is found at every key stays as it was but for the status, so every id keeps its greatest suffix.
 -- By induction on the rows that are put. Assumes nothing.
 use mathlib.Core.Path.{_≡_, refl, sym, _∙_, ap, subst}
-use mathlib.Core.Bool.{Bool, true, false}
+use mathlib.Core.Bool.{true, false}
 use mathlib.Core.List.{List, [], _∷_}
 use mathlib.Core.Logic.{_⊎_, inl, inr}
 use mathlib.Core.Option.{Option, none, some}
 use lib.IntN.{ℤ, pos, _+ℤ_}
 use lib.Signed.{leZ, _≤ℤ_}
-use Rattle.integers.proofs.Linear.{zarith, +-lin}
+use Rattle.integers.proofs.Linear.{zarith}
 use Rattle.rules.specs.Keyed.{Key, same, isSome, find, greatest, upsert, upsertAll}
 use Rattle.rules.specs.Rows.{keyOf, recordKey, adjustedRecord, inverseRecord}
 use Rattle.rules.specs.NamedRecord.{noRecord, theRecord, nextSuffix}
 use Rattle.rules.specs.declared.Record.{Record}
 use Rattle.keys.proofs.Split.{split, clash, none-some, Found, absent, present, found}
-use Rattle.keys.proofs.KeyOrder.{same-eq, same-refl}
+use Rattle.keys.proofs.KeyOrder.{same-eq}
 use Rattle.keys.proofs.Clauses.{upsertAll-nil, upsertAll-cons, isSome-none, isSome-some}
 use Rattle.keys.proofs.Lookup.{find-upsert, find-upsert-other}
 use Rattle.keys.proofs.Greatest.{greatest-found, found-greatest, greatest-bounds, greatest-none}

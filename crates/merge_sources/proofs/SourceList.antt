@@ -1,25 +1,25 @@
 -- The sources of a merge place by place: as many as the pairs, each with what the table has of its pair; their records; and that they are the sources
 -- of the rules. By induction on the pairs. Assumes nothing.
-use Prim.Native.Nat.{ℕ, zero, suc, _+_, _*_, _/_, _≤_, _<_}
+use Prim.Native.Nat.{ℕ, zero, suc, _/_, _<_}
 use native.Mathlib.Omega.{arith}
 use mathlib.Core.Path.{_≡_, refl, sym, _∙_, ap}
 use mathlib.Core.Bool.{Bool, true, false, not}
 use mathlib.Core.List.{List, [], _∷_, map}
 use mathlib.Core.Option.{Option, none, some}
 use borrow.Author.Tests.{not-true, not-false}
-use lib.IntN.{ℤ, pos}
+use lib.IntN.{ℤ}
 use lib.ListN.{length, getD, length-map}
 use Rattle.rules.specs.Keyed.{Key, find, greatest, isSome}
-use Rattle.rules.specs.Rows.{keyOf, recordKey}
+use Rattle.rules.specs.Rows.{recordKey}
 use Rattle.rules.specs.NamedRecord.{noRecord, theRecord}
 use Rattle.rules.specs.Refusal.{anyOf}
 use Rattle.rules.specs.Books.{Books, viewOf}
 use Rattle.rules.specs.Layout.{rowsOf}
-use Rattle.rules.specs.Tables.{Tables, booksOf, recordsLayout}
+use Rattle.rules.specs.Tables.{booksOf, recordsLayout}
 use Rattle.rules.specs.Merge.{Source, pairsOf, sourcesOf, recordsOf, isMissing, firstOf}
 use Rattle.rules.specs.declared.Record.{Record}
 use Rattle.keys.proofs.Clauses.{isSome-none, isSome-some}
-use Rattle.keys.proofs.Counts.{isSome-absent, isSome-present}
+use Rattle.keys.proofs.Counts.{isSome-present}
 use Rattle.soundness.proofs.NamedRecord.{recordOf}
 use Rattle.merge_sources.specs.Sources.{sourcesAt, sourcesIn, allFound, sourceRecords}
 use Rattle.merge_sources.specs.Pairs.{pairAt}

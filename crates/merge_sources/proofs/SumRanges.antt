@@ -2,7 +2,7 @@
 -- Assumes nothing.
 use Prim.Native.Nat.{ℕ, zero, suc, _+_, _*_, _≤_, _<_}
 use native.Mathlib.Omega.{arith}
-use mathlib.Core.Path.{_≡_, refl, sym, _∙_, ap, subst}
+use mathlib.Core.Path.{_≡_}
 use mathlib.Core.Bool.{Bool, true, false, not, _&&_, Bool·beq}
 use mathlib.Core.List.{List, [], _∷_, map}
 use borrow.Author.Tests.{not-false}
@@ -12,7 +12,7 @@ use lib.Signed.{_≤ℤ_, ltZ}
 use Rattle.integers.specs.Order.{eqZ}
 use Rattle.integers.specs.Average.{residualOf}
 use Rattle.integers.specs.Averageable.{Averageable}
-use Rattle.integers.proofs.Linear.{zarith, +-lin, abs-sum, abs-lin}
+use Rattle.integers.proofs.Linear.{zarith, +-lin, abs-lin}
 use Rattle.integers.proofs.Parts.{eqZ-true}
 use Rattle.integers.proofs.Products.{natAbs-+ℤ, natAbs-mul-≤, natAbs-≤, ≤-natAbs}
 use Rattle.integers.proofs.AverageLaws.{residual-bound}

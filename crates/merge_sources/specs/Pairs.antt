@@ -1,9 +1,9 @@
 -- What stood earlier in the list of pairs.
 use Prim.Native.Nat.{ℕ, zero, suc, _+_, _*_}
-use mathlib.Core.Bool.{Bool, cond}
+use mathlib.Core.Bool.{Bool}
 use mathlib.Core.List.{List, [], _∷_}
 use lib.IntN.{ℤ, pos}
-use lib.ListN.{getD, length}
+use lib.ListN.{getD}
 use Rattle.rules.specs.Keyed.{Key}
 use Rattle.rules.specs.Rows.{keyOf}
 use Rattle.rules.specs.Merge.{pairsOf, isAmong, timesIn}

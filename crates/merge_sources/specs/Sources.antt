@@ -1,5 +1,4 @@
 -- The sources of a merge as the code sees them, and what it answers about a list of sources.
-use Prim.Native.Nat.{ℕ}
 use mathlib.Core.Bool.{Bool, cond, not, Bool·beq}
 use mathlib.Core.List.{List, [], _∷_, map}
 use lib.IntN.{ℤ, pos}

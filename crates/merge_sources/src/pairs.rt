@@ -2,14 +2,12 @@
 use super::Place;
 ghost use mathlib.Core.Path.{_≡_};
 ghost use mathlib.Core.Bool.{true};
-ghost use mathlib.Core.List.{[], map};
+ghost use mathlib.Core.List.{map};
 ghost use Prim.Native.Nat.{_+_, _*_, _≤_, _<_, _%_};
-ghost use lib.IntN.{pos};
-ghost use lib.ListN.{length, take, getD};
-ghost use Rattle.rules.specs.Rows.{keyOf};
+ghost use lib.ListN.{length};
 ghost use Rattle.rules.specs.Refusal.{allOf};
 ghost use Rattle.rules.specs.Merge.{pairsOf, validPair, mergeFigures};
-ghost use Rattle.merge_sources.specs.Pairs.{earlierPairs, earlierIds, repeatedPlace, standsEarlier, timesEarlier};
+ghost use Rattle.merge_sources.specs.Pairs.{repeatedPlace, standsEarlier, timesEarlier};
 
 // Every pair's id and suffix in range.
 fn pairs_valid(pairs: &[i64]) -> bool

@@ -4,14 +4,14 @@ use Prim.Native.Nat.{ℕ}
 use mathlib.Core.Path.{_≡_, refl}
 use mathlib.Core.Bool.{true, false}
 use mathlib.Core.List.{List, [], _∷_, _++_, map}
-use lib.IntN.{ℤ, pos, negℤ}
+use lib.IntN.{ℤ, pos}
 use lib.ListN.{replicate}
 use Rattle.integers.specs.Order.{eqZ, inRange}
 use Rattle.integers.specs.Average.{floorDiv, averageOf, residualOf}
 use Rattle.rules.specs.Books.{viewOf}
 use Rattle.rules.specs.Figures.{magnitudeAtMost, validId, validSuffix, validAccount, validSeries, validQuantity, validPrice, validSide, isBuy, isToClose, validCount}
 use Rattle.rules.specs.Handle.{planOf, soundnessTests, refusals, planTables, answer, handle}
-use Rattle.rules.specs.Keyed.{below, same, isSome, atLeast, rising, find, greatest, upsert, upsertAll, absentFrom, Key}
+use Rattle.rules.specs.Keyed.{below, same, isSome, atLeast, rising, find, greatest, upsert, upsertAll, absentFrom}
 use Rattle.rules.specs.Layout.{encode, roomOf, rowsOf, countIsSound, write}
 use Rattle.rules.specs.Lineage.{oneMoreLink, originVia, originOf, lineageReply, lineagePlan}
 use Rattle.rules.specs.Merge.{pairsOf, validPair, mergeFigures, sourcesOf, recordsOf, isMissing, closes, isAmong, stoodEarlier, firstOf, sideDiffers, sumOfQuantities, sumOfValues, timesIn, mergeInverses, mergedRecord, mergeResidual, mergePlan}
@@ -20,7 +20,7 @@ use Rattle.rules.specs.Plan.{suffixIsAbove, bookingTests, planTests, boo
 use Rattle.rules.specs.Refusal.{test, anyOf, allOf, firstPlace, testEach, firstRefusal}
 use Rattle.rules.specs.Reply.{refusedBy}
 use Rattle.rules.specs.Rows.{validKind, validStatus, validSignedQuantity, validBooked, validInto, validParent, soundRecord, soundPosition, zeroPosition, orZeros, moved, adjustedRecord, newRecord, inverseRecord, adjustableRecord}
-use Rattle.rules.specs.Run.{afterReply, run, Run}
+use Rattle.rules.specs.Run.{afterReply, run}
 use Rattle.rules.specs.Separation.{sumOf, separationFigures, partRecords, separationPlan}
 use Rattle.rules.specs.Tables.{recordsLayout, positionsLayout, recordCells, positionCells, soundTable, soundRecords, soundPositions, booksOf, writeBooks, Tables}
 use Rattle.rules.specs.Touching.{idsOf, positionsOf, isNamedIn, shareId, sharePosition, touch}
@@ -29,7 +29,6 @@ use Rattle.rules.specs.Transfer.{transferFigures, inLong, inShort, holds
 use Rattle.rules.specs.Request.{Request, trade, separate, transfer, merge}
 use Rattle.rules.specs.declared.Record.{Record}
 use Rattle.rules.specs.declared.Position.{Position}
-use Rattle.rules.specs.declared.Reply.{Reply}
 use Rattle.rules.specs.declared.Reply.the-variants.{Booked, Refused}
 
 -- Two tables with room for so many rows, none of them used.

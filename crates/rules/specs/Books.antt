@@ -3,7 +3,7 @@ use Prim.Native.Nat.{ℕ}
 use mathlib.Core.List.{List}
 use mathlib.Core.Option.{Option}
 use lib.IntN.{ℤ}
-use Rattle.rules.specs.Keyed.{Key, find, greatest}
+use Rattle.rules.specs.Keyed.{find, greatest}
 use Rattle.rules.specs.Rows.{keyOf, recordKey, positionKey, orZeros}
 use Rattle.rules.specs.declared.Record.{Record}
 use Rattle.rules.specs.declared.Position.{Position}

@@ -13,7 +13,7 @@ use Rattle.rules.specs.Separation.{separationPlan}
 use Rattle.rules.specs.Transfer.{transferPlan}
 use Rattle.rules.specs.Merge.{mergePlan, sourcesOf, pairsOf}
 use Rattle.rules.specs.Lineage.{lineagePlan}
-use Rattle.rules.specs.Tables.{Tables, booksOf, writeBooks, soundRecords, soundPositions}
+use Rattle.rules.specs.Tables.{Tables, tablesOf, booksOf, writeBooks, soundRecords, soundPositions}
 use Rattle.rules.specs.declared.Reply.{Reply}
 
 -- Each request's plan, from what it sees.
@@ -40,6 +40,10 @@ refusals t plan = soundnessTests t plan ++ planTests (booksOf t) plan
 pub record Answer : Type 0 where
   pub reply : Reply
   pub tables : Tables
+
+-- A reply, with the cells of both tables afterwards.
+abbrev pub answered : Reply → List ℤ → List ℤ → Answer
+answered reply records positions = record { reply = reply; tables = tablesOf records positions }
 
 -- The tables that an accepted request leaves. A question never writes.
 unfoldable pub planTables : Plan → Tables → Tables

@@ -1,7 +1,7 @@
 -- Document 01, "Lineage": names id and suffix, follows parent to parent until suffix 0, and never writes.
 use Prim.Native.Nat.{ℕ, zero, suc}
-use mathlib.Core.Bool.{Bool, true, false, cond, not, _&&_}
-use mathlib.Core.List.{List, [], _∷_}
+use mathlib.Core.Bool.{cond, not, _&&_}
+use mathlib.Core.List.{[], _∷_}
 use mathlib.Core.Option.{Option, none, some}
 use lib.IntN.{ℤ, pos, _+ℤ_, natAbs}
 use Rattle.integers.specs.Order.{eqZ}

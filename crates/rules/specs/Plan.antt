@@ -1,10 +1,9 @@
 -- What a request asks of the books and would change in them, and the refusals that come from the change itself.
-use Prim.Native.Nat.{ℕ, _+_}
+use Prim.Native.Nat.{_+_}
 use mathlib.Core.Bool.{Bool, not}
 use mathlib.Core.List.{List, [], _∷_, _++_, map}
 use lib.Dec.{ltb}
 use lib.ListN.{length}
-use lib.IntN.{ℤ, pos}
 use lib.Signed.{ltZ}
 use Rattle.rules.specs.Figures.{greatestOfSuffixes}
 use Rattle.rules.specs.Keyed.{upsertAll, absentFrom}

@@ -1,9 +1,8 @@
 -- Document 01's table of refusals: a row is a number, whether it applies, and the place that it would give.
-use Prim.Native.Nat.{ℕ, zero, suc}
+use Prim.Native.Nat.{ℕ, suc}
 use mathlib.Core.Bool.{Bool, true, false, cond, _&&_, _||_}
 use mathlib.Core.List.{List, [], _∷_}
 use mathlib.Core.Option.{Option, none, some}
-use lib.IntN.{ℤ, pos}
 
 pub record Test : Type 0 where
   pub number : ℕ

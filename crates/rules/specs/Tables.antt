@@ -71,6 +71,9 @@ pub record Tables : Type 0 where
   pub records : List ℤ
   pub positions : List ℤ
 
+abbrev pub tablesOf : List ℤ → List ℤ → Tables
+tablesOf records positions = record { records = records; positions = positions }
+
 -- Their rows and rooms.
 unfoldable pub booksOf : Tables → Books
 booksOf t = record {

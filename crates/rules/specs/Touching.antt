@@ -1,5 +1,5 @@
 -- Document 01, "Touching".
-use mathlib.Core.Bool.{Bool, true, false, _||_}
+use mathlib.Core.Bool.{Bool, false, _||_}
 use mathlib.Core.List.{List, [], _∷_, map}
 use lib.IntN.{ℤ}
 use Rattle.integers.specs.Order.{eqZ}

@@ -1,6 +1,6 @@
 -- Document 01, "Trade": names id, account, series, side code, quantity q, price.
 use mathlib.Core.Bool.{Bool, cond, not, _&&_}
-use mathlib.Core.List.{List, [], _∷_}
+use mathlib.Core.List.{[], _∷_}
 use mathlib.Core.Option.{Option}
 use lib.IntN.{ℤ, pos, negℤ, _-ℤ_}
 use lib.Signed.{ltZ, leZ}

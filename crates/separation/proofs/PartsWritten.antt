@@ -3,7 +3,7 @@
 use Prim.Native.Nat.{ℕ, _+_, _*_, _≤_, _<_}
 use native.Mathlib.Nat.{add-zero}
 use native.Mathlib.Omega.{arith}
-use mathlib.Core.Path.{_≡_, refl, sym, ap, subst, _∙_}
+use mathlib.Core.Path.{_≡_, refl, sym, ap, _∙_}
 use mathlib.Core.List.{List, [], _∷_}
 use lib.IntN.{ℤ, pos, _+ℤ_}
 use lib.ListN.{length, getD, drop, take-append-drop}
@@ -12,7 +12,7 @@ use mir.Syntax.{w64}
 use mir.Val.{SFits}
 use Rattle.integers.proofs.Linear.{zarith, +-lin}
 use Rattle.rules.specs.Figures.{separationKind}
-use Rattle.rules.specs.Rows.{keyOf, adjustableRecord}
+use Rattle.rules.specs.Rows.{adjustableRecord}
 use Rattle.rules.specs.Separation.{partRecords}
 use Rattle.rules.specs.Layout.{encode}
 use Rattle.rules.specs.Tables.{recordCells}

@@ -15,11 +15,11 @@ ghost use Rattle.rules.specs.Figures.{validQuantity};
 ghost use Rattle.rules.specs.Refusal.{allOf};
 ghost use Rattle.rules.specs.Request as Request;
 ghost use Rattle.rules.specs.Layout.{encode};
-ghost use Rattle.rules.specs.Tables.{recordCells, soundRecords, soundPositions};
-ghost use Rattle.rules.specs.Handle.{handle};
+ghost use Rattle.rules.specs.Tables.{recordCells, soundRecords, soundPositions, tablesOf};
+ghost use Rattle.rules.specs.Handle.{handle, answered};
 ghost use Rattle.rules.specs.Separation.{sumOf, separationFigures, partRecords};
 ghost use Rattle.shifter.specs.Insertion.{filled};
-ghost use Rattle.verdict.specs.Verdict.{tablesOf, answered, verdictOn, acceptedOn};
+ghost use Rattle.verdict.specs.Verdict.{verdictOn, acceptedOn};
 ghost use Rattle.verdict.specs.declared.Verdict.the-variants.{Accepted};
 
 fn parts_valid(parts: &[i64]) -> bool

@@ -1,6 +1,6 @@
 // The shifter: the part of a lent table from the insertion row on is lent to it. One for every table; the row's length is its width.
 ghost use mathlib.Core.Path.{_≡_};
-ghost use mathlib.Core.List.{_++_, _∷_};
+ghost use mathlib.Core.List.{_++_};
 ghost use Prim.Native.Nat.{suc, _+_, _-_, _*_, _≤_, _<_};
 ghost use lib.ListN.{length, take, drop};
 ghost use Rattle.shifter.specs.Insertion.{inserted, replaced, gapped};

@@ -1,2 +1,3 @@
 pub mod SoundBooks
+pub mod SoundTables
 pub mod RowsAnswered

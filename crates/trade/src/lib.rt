@@ -10,11 +10,11 @@ ghost use mathlib.Core.Bool.{true};
 ghost use Rattle.rules.specs.Figures.{validQuantity};
 ghost use Rattle.rules.specs.Rows.{soundPosition};
 ghost use Rattle.rules.specs.Request as Request;
-ghost use Rattle.rules.specs.Tables.{soundRecords, soundPositions};
-ghost use Rattle.rules.specs.Handle.{handle};
+ghost use Rattle.rules.specs.Tables.{soundRecords, soundPositions, tablesOf};
+ghost use Rattle.rules.specs.Handle.{handle, answered};
 ghost use Rattle.rules.specs.Trade as Trade;
 ghost use Rattle.rules.specs.Trade.{tradeFigures};
-ghost use Rattle.verdict.specs.Verdict.{tablesOf, answered, verdictOn, acceptedOn};
+ghost use Rattle.verdict.specs.Verdict.{verdictOn, acceptedOn};
 ghost use Rattle.verdict.specs.declared.Verdict.the-variants.{Accepted};
 ghost use Rattle.trade.specs.Booking.{bookingOf, positionAfter};
 

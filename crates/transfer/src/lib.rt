@@ -16,10 +16,10 @@ ghost use Rattle.rules.specs.Rows.{keyOf, recordKey, soundPosition, moved, inve
 ghost use Rattle.rules.specs.NamedRecord.{isElsewhere, isNotAdjustable};
 ghost use Rattle.rules.specs.Layout.{rowsOf};
 ghost use Rattle.rules.specs.Request as Request;
-ghost use Rattle.rules.specs.Tables.{recordsLayout, soundRecords, soundPositions};
-ghost use Rattle.rules.specs.Handle.{handle};
+ghost use Rattle.rules.specs.Tables.{recordsLayout, soundRecords, soundPositions, tablesOf};
+ghost use Rattle.rules.specs.Handle.{handle, answered};
 ghost use Rattle.rules.specs.Transfer.{transferFigures, inLong, inShort, holdsTooLittle};
-ghost use Rattle.verdict.specs.Verdict.{tablesOf, answered, verdictOn, acceptedOn};
+ghost use Rattle.verdict.specs.Verdict.{verdictOn, acceptedOn};
 ghost use Rattle.verdict.specs.declared.Verdict.the-variants.{Accepted};
 
 fn figures_valid(id: i64, suffix: i64, from: i64, to: i64, series: i64) -> bool

@@ -2,11 +2,11 @@
 use mathlib.Core.Path.{_≡_, ap, _∙_}
 use mathlib.Core.List.{List}
 use lib.IntN.{ℤ}
-use Rattle.rules.specs.Reply.{Code, codeOf}
-use Rattle.rules.specs.Handle.{Answer}
+use Rattle.rules.specs.Reply.{codeOf}
+use Rattle.rules.specs.Handle.{Answer, answered}
+use Rattle.rules.specs.Tables.{tablesOf}
 use Rattle.rules.specs.declared.Reply.{Reply}
-use Rattle.verdict.specs.Verdict.{tablesOf, answered}
-use Rattle.velichundam.specs.HandedBack.{HandedBack, inNumbers, codeFrom, handedBack}
+use Rattle.velichundam.specs.HandedBack.{inNumbers, codeFrom, handedBack}
 
 pub handed : {kind first second : ℤ} {reply : Reply} {records positions : List ℤ} {a : Answer}
     → codeFrom kind first second ≡ codeOf reply → answered reply records positions ≡ a

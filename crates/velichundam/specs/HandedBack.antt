@@ -2,9 +2,8 @@
 use mathlib.Core.List.{List}
 use lib.IntN.{ℤ}
 use Rattle.rules.specs.Reply.{Code, codeOf}
-use Rattle.rules.specs.Tables.{Tables}
+use Rattle.rules.specs.Tables.{Tables, tablesOf}
 use Rattle.rules.specs.Handle.{Answer}
-use Rattle.verdict.specs.Verdict.{tablesOf}
 
 pub record HandedBack : Type 0 where
   pub code : Code

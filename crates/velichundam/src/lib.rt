@@ -7,7 +7,7 @@ ghost use mathlib.Core.List.{[]};
 ghost use Rattle.rules.specs.Reply.{codeOf};
 ghost use Rattle.rules.specs.Request as Request;
 ghost use Rattle.rules.specs.Handle.{handle};
-ghost use Rattle.verdict.specs.Verdict.{tablesOf};
+ghost use Rattle.rules.specs.Tables.{tablesOf};
 ghost use Rattle.velichundam.specs.HandedBack.{inNumbers, codeFrom, handedBack};
 
 // An answer as C reads it: which of the four it is, and what it carries.

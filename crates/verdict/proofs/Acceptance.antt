@@ -9,10 +9,10 @@ use lib.IntN.{ℤ}
 use Rattle.rules.specs.Refusal.{Test, firstRefusal}
 use Rattle.rules.specs.Request.{Request}
 use Rattle.rules.specs.Plan.{planTests}
-use Rattle.rules.specs.Tables.{booksOf, soundRecords, soundPositions}
+use Rattle.rules.specs.Tables.{booksOf, soundRecords, soundPositions, tablesOf}
 use Rattle.cells.proofs.SoundBookCells.{books-records-rise, books-records-sound, books-records-fit, books-positions-rise, books-positions-sound, books-positions-fit}
 use Rattle.soundness.specs.SoundBooks.{SoundBooks, planOn, Accepts}
-use Rattle.verdict.specs.Verdict.{tablesOf, verdictOf, verdictOn}
+use Rattle.verdict.specs.Verdict.{verdictOf, verdictOn}
 use Rattle.verdict.specs.declared.Verdict.the-variants.{Accepted}
 
 pub sound-books : (rs ps : List ℤ) → soundRecords rs ≡ true → soundPositions ps ≡ true → SoundBooks (booksOf (tablesOf rs ps))

@@ -15,11 +15,11 @@ use Rattle.rules.specs.Trade.{tradePlan}
 use Rattle.rules.specs.Separation.{separationPlan}
 use Rattle.rules.specs.Transfer.{transferPlan}
 use Rattle.rules.specs.Merge.{mergePlan}
-use Rattle.rules.specs.Tables.{booksOf, soundRecords, soundPositions}
-use Rattle.rules.specs.Handle.{Answer, answer, handle, planOf, planTables, refusals, soundnessTests}
+use Rattle.rules.specs.Tables.{booksOf, soundRecords, soundPositions, tablesOf}
+use Rattle.rules.specs.Handle.{Answer, answer, handle, planOf, planTables, refusals, soundnessTests, answered}
 use Rattle.rules.specs.declared.Reply.{Reply}
 use Rattle.rules.specs.declared.Reply.the-variants as Reply
-use Rattle.verdict.specs.Verdict.{tablesOf, answered, planFor, verdictOf, verdictOn, acceptedOn}
+use Rattle.verdict.specs.Verdict.{planFor, verdictOf, verdictOn, acceptedOn}
 use Rattle.verdict.specs.declared.Verdict.{Verdict}
 use Rattle.verdict.specs.declared.Verdict.the-variants as Verdict
 

@@ -1,7 +1,6 @@
--- What a lineage is answered on a sound records table: its refusals 3 and 5, or the price and links of the origin. The positions table is not looked at, and
--- both tables stay as they are. In a sound records table parents are below their suffixes. By the definitions. Assumes nothing.
+-- What a lineage is answered on a sound records table: its refusals 3 and 5, or the price and links of the origin. In a sound records table parents are below their suffixes. By the definitions. Assumes nothing.
 use Prim.Native.Nat.{suc}
-use mathlib.Core.Path.{_≡_, refl, sym, _∙_, ap, subst}
+use mathlib.Core.Path.{_≡_, refl, _∙_, subst}
 use mathlib.Core.Bool.{true, false, not, _&&_}
 use mathlib.Core.List.{List, [], _∷_}
 use mathlib.Core.Logic.{_⊎_, inl, inr}
@@ -20,14 +19,12 @@ use Rattle.rules.specs.Books.{viewOf}
 use Rattle.rules.specs.Plan.{planTests, planReply}
 use Rattle.rules.specs.Lineage.{Origin, originOf, lineageReply, lineagePlan}
 use Rattle.rules.specs.Layout.{rowsOf}
-use Rattle.rules.specs.Tables.{booksOf, recordsLayout, soundRecords}
-use Rattle.rules.specs.Handle.{Answer, answer, handle, planOf, planTables, refusals, soundnessTests}
+use Rattle.rules.specs.Tables.{booksOf, recordsLayout, soundRecords, tablesOf}
+use Rattle.rules.specs.Handle.{answer, handle, planOf, planTables, refusals, soundnessTests, answered}
 use Rattle.rules.specs.declared.Record.{Record}
-use Rattle.rules.specs.declared.Reply.{Reply}
 use Rattle.rules.specs.declared.Reply.the-variants.{Lineage, Refused}
 use Rattle.keys.proofs.Split.{clash, or-cases, and-right}
 use Rattle.soundness.proofs.FigureRanges.{suffix-range}
-use Rattle.verdict.specs.Verdict.{tablesOf, answered}
 use Rattle.verdict.proofs.SoundReads.{FoundRecord, found-record}
 use Rattle.verdict.proofs.Lineage.{Descending, origin-links}
 
@@ -74,14 +71,6 @@ module _ (rs ps : List ℤ) (id suffix : ℤ) where
   unfolding handle planOf lineagePlan viewOf booksOf refusals soundnessTests planTests planReply planTables
   handle-lineage = refl
 
-  answer-stays : (o : Option Test) (reply : Reply) → answer o (tablesOf rs ps) (answered reply rs ps) .tables ≡ tablesOf rs ps
-  unfolding answer
-  answer-stays none reply = refl
-  answer-stays (some t) reply = refl
-
-  pub lineage-stays : handle (tablesOf rs ps) (lineage id suffix) .tables ≡ tablesOf rs ps
-  lineage-stays = ap (λ (a : Answer). a .tables) handle-lineage ∙ answer-stays (firstRefusal lineageTests) (lineageReply (originIn rs id suffix))
-
   module _ (sound : soundRecords rs ≡ true) where
     pub lineage-refused-id : validId id ≡ false → handle (tablesOf rs ps) (lineage id suffix) ≡ answered (Refused (pos 3) (pos 0)) rs ps
     unfolding answer firstRefusal test refusedBy
@@ -100,15 +89,3 @@ module _ (rs ps : List ℤ) (id suffix : ℤ) where
         pub lineage-answered : (o : Origin) → originIn rs id suffix ≡ some o → handle (tablesOf rs ps) (lineage id suffix) ≡ answered (Lineage (o .price) (o .links)) rs ps
         unfolding answer firstRefusal test refusedBy isSome lineageReply
         lineage-answered o e = handle-lineage ∙ rw (sound, valid-id, valid-suffix, e)
-
--- The reply is the same whatever the positions table.
-pub lineage-apart : (rs ps qs : List ℤ) (id suffix : ℤ) → handle (tablesOf rs ps) (lineage id suffix) .reply ≡ handle (tablesOf rs qs) (lineage id suffix) .reply
-unfolding answer
-lineage-apart rs ps qs id suffix =
-    ap (λ (a : Answer). a .reply) (handle-lineage rs ps id suffix)
-    ∙ same (firstRefusal (lineageTests rs ps id suffix)) (lineageReply (originIn rs id suffix))
-    ∙ ap (λ (a : Answer). a .reply) (sym (handle-lineage rs qs id suffix))
-  where
-    same : (o : Option Test) (reply : Reply) → answer o (tablesOf rs ps) (answered reply rs ps) .reply ≡ answer o (tablesOf rs qs) (answered reply rs qs) .reply
-    same none reply = refl
-    same (some t) reply = refl

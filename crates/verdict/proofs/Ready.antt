@@ -13,7 +13,7 @@ use Rattle.rules.specs.Rows.{recordKey, positionKey, soundRecord, soundPosition
 use Rattle.rules.specs.Refusal.{Test, allOf, firstRefusal}
 use Rattle.rules.specs.Plan.{Effects, booking, planTests}
 use Rattle.rules.specs.Layout.{roomOf, rowsOf}
-use Rattle.rules.specs.Tables.{booksOf, recordsLayout, positionsLayout, soundRecords, soundPositions}
+use Rattle.rules.specs.Tables.{booksOf, recordsLayout, positionsLayout, soundRecords, soundPositions, tablesOf}
 use Rattle.rules.specs.declared.Record.{Record}
 use Rattle.rules.specs.declared.Position.{Position}
 use Rattle.keys.proofs.Clauses.{allOf-head, allOf-tail}
@@ -23,7 +23,6 @@ use Rattle.cells.proofs.RowCells.{records-lawful, positions-lawful}
 use Rattle.cells.proofs.SoundCells.{records-known, positions-known}
 use Rattle.soundness.proofs.Accepted.{BookingPassed, booking-passed}
 use Rattle.soundness.proofs.BookingFacts.{BookingFacts}
-use Rattle.verdict.specs.Verdict.{tablesOf}
 use Rattle.verdict.proofs.Puts.{putAll}
 use Rattle.verdict.proofs.Inserts.{left-room, insert-absent, put-room}
 

@@ -22,14 +22,14 @@ use Rattle.rules.specs.Plan.{planTests, bookingTests, suffixIsAbove, booked, pl
 use Rattle.rules.specs.Separation.{sumOf, separationFigures, partRecords, separationPlan}
 use Rattle.rules.specs.Layout.{roomOf, rowsOf, write}
 use Rattle.rules.specs.Tables.{booksOf, writeBooks, recordsLayout, positionsLayout, soundPositions}
-use Rattle.rules.specs.Handle.{planOf, planTables}
+use Rattle.rules.specs.Handle.{planOf, planTables, answered}
 use Rattle.rules.specs.declared.Record.{Record}
 use Rattle.rules.specs.declared.Reply.the-variants.{Booked}
 use Rattle.cells.proofs.RowCells.{positions-lawful}
 use Rattle.cells.proofs.Write.{write-own}
 use Rattle.cells.proofs.SoundCells.{positions-known}
 use Rattle.soundness.proofs.NamedRecord.{nextOf}
-use Rattle.verdict.specs.Verdict.{answered, verdictOn, acceptedOn}
+use Rattle.verdict.specs.Verdict.{verdictOn, acceptedOn}
 use Rattle.verdict.specs.declared.Verdict.{Verdict}
 use Rattle.verdict.specs.declared.Verdict.the-variants.{Accepted, Refused}
 use Rattle.verdict.proofs.Chain.{verdictBy, accepts, refuses, passes}

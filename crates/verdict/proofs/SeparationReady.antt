@@ -7,7 +7,7 @@ use mathlib.Core.Option.{Option, none, some}
 use lib.IntN.{ℤ, pos, _+ℤ_}
 use lib.ListN.{length}
 use lib.Signed.{ltZ, _≤ℤ_}
-use Rattle.integers.proofs.Linear.{zarith, +-lin}
+use Rattle.integers.proofs.Linear.{zarith}
 use Rattle.rules.specs.Figures.{adjustable, greatestOfSuffixes}
 use Rattle.rules.specs.Keyed.{find, isSome}
 use Rattle.rules.specs.Rows.{keyOf, recordKey, adjustedRecord, inverseRecord}
@@ -18,8 +18,8 @@ use Rattle.rules.specs.Books.{viewOf}
 use Rattle.rules.specs.Plan.{suffixIsAbove}
 use Rattle.rules.specs.Separation.{partRecords, separationPlan}
 use Rattle.rules.specs.Layout.{roomOf, rowsOf}
-use Rattle.rules.specs.Tables.{booksOf, recordsLayout, soundRecords, soundPositions}
-use Rattle.rules.specs.Handle.{planOf}
+use Rattle.rules.specs.Tables.{booksOf, recordsLayout, soundRecords, soundPositions, tablesOf}
+use Rattle.rules.specs.Handle.{planOf, answered}
 use Rattle.rules.specs.declared.Record.{Record}
 use Rattle.rules.specs.declared.Reply.the-variants.{Booked}
 use Rattle.keys.proofs.Clauses.{isSome-none}
@@ -29,7 +29,7 @@ use Rattle.soundness.specs.SoundBooks.{Accepts}
 use Rattle.soundness.proofs.Accepted.{booking-passed}
 use Rattle.soundness.proofs.NamedRecord.{nextOf}
 use Rattle.soundness.proofs.Separation.{SeparationPassed, separation-passed, separation-facts}
-use Rattle.verdict.specs.Verdict.{tablesOf, answered, verdictOn, acceptedOn}
+use Rattle.verdict.specs.Verdict.{verdictOn, acceptedOn}
 use Rattle.verdict.specs.declared.Verdict.the-variants.{Accepted}
 use Rattle.verdict.proofs.Acceptance.{sound-books, accepted-accepts}
 use Rattle.verdict.proofs.Puts.{putOne, putAll, put-one, put-more}

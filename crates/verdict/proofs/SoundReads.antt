@@ -1,7 +1,7 @@
 -- What is read from sound tables: a record that is found has the key asked for and sound figures, suffixes of an id and its next one have their ranges,
 -- and a position that is read is sound. Assumes nothing.
 use mathlib.Core.Path.{_≡_, ap, subst}
-use mathlib.Core.Bool.{Bool, true, false, not, _&&_, Bool·beq}
+use mathlib.Core.Bool.{true, false, not, _&&_, Bool·beq}
 use mathlib.Core.List.{List}
 use mathlib.Core.Option.{some}
 use lib.IntN.{ℤ, pos, negℤ}

@@ -17,11 +17,11 @@ use Rattle.rules.specs.Plan.{planTests, bookingTests, suffixIsAbove, booked, pl
 use Rattle.rules.specs.Trade.{tradeFigures, closedBy, longBooked, shortBooked, isClosingError, tradeKind, tradeReply, tradePlan}
 use Rattle.rules.specs.Layout.{roomOf, rowsOf, write}
 use Rattle.rules.specs.Tables.{booksOf, writeBooks, recordsLayout, positionsLayout}
-use Rattle.rules.specs.Handle.{planOf, planTables}
+use Rattle.rules.specs.Handle.{planOf, planTables, answered}
 use Rattle.rules.specs.declared.Record.{Record}
 use Rattle.rules.specs.declared.Position.{Position}
 use Rattle.rules.specs.declared.Reply.the-variants.{Booked, ClosingError}
-use Rattle.verdict.specs.Verdict.{answered, verdictOn, acceptedOn, absentPosition}
+use Rattle.verdict.specs.Verdict.{verdictOn, acceptedOn, absentPosition}
 use Rattle.verdict.specs.declared.Verdict.{Verdict}
 use Rattle.verdict.specs.declared.Verdict.the-variants.{Accepted, Refused}
 use Rattle.verdict.proofs.Chain.{verdictBy, accepts, refuses, passes, and-true}

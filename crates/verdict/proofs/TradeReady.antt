@@ -9,15 +9,15 @@ use Rattle.rules.specs.Rows.{recordKey, positionKey, newRecord}
 use Rattle.rules.specs.Request.{trade}
 use Rattle.rules.specs.Books.{viewOf}
 use Rattle.rules.specs.Trade.{tradeKind, tradePlan}
-use Rattle.rules.specs.Tables.{booksOf, recordsLayout, positionsLayout, soundRecords, soundPositions}
-use Rattle.rules.specs.Handle.{planOf}
+use Rattle.rules.specs.Tables.{booksOf, recordsLayout, positionsLayout, soundRecords, soundPositions, tablesOf}
+use Rattle.rules.specs.Handle.{planOf, answered}
 use Rattle.rules.specs.declared.Record.{Record}
 use Rattle.rules.specs.declared.Reply.the-variants.{Booked, ClosingError}
 use Rattle.cells.proofs.RowCells.{records-lawful, positions-lawful}
 use Rattle.cells.proofs.SoundCells.{records-known, positions-known}
 use Rattle.soundness.specs.SoundBooks.{Accepts}
 use Rattle.soundness.proofs.Trade.{trade-passed, trade-facts}
-use Rattle.verdict.specs.Verdict.{tablesOf, answered, verdictOn, acceptedOn}
+use Rattle.verdict.specs.Verdict.{verdictOn, acceptedOn}
 use Rattle.verdict.specs.declared.Verdict.the-variants.{Accepted}
 use Rattle.verdict.proofs.Acceptance.{sound-books, accepted-accepts}
 use Rattle.verdict.proofs.Puts.{putOne, put-none}

@@ -15,8 +15,8 @@ use Rattle.rules.specs.Request.{transfer}
 use Rattle.rules.specs.Books.{viewOf}
 use Rattle.rules.specs.Transfer.{transferPlan}
 use Rattle.rules.specs.Layout.{roomOf, rowsOf}
-use Rattle.rules.specs.Tables.{booksOf, recordsLayout, positionsLayout, soundRecords, soundPositions}
-use Rattle.rules.specs.Handle.{planOf}
+use Rattle.rules.specs.Tables.{booksOf, recordsLayout, positionsLayout, soundRecords, soundPositions, tablesOf}
+use Rattle.rules.specs.Handle.{planOf, answered}
 use Rattle.rules.specs.declared.Record.{Record}
 use Rattle.rules.specs.declared.Reply.the-variants.{Booked}
 use Rattle.keys.proofs.Clauses.{isSome-none, allOf-head, allOf-tail}
@@ -28,7 +28,7 @@ use Rattle.soundness.proofs.FigureRanges.{suffix-range}
 use Rattle.soundness.proofs.NamedRecord.{nextOf}
 use Rattle.soundness.proofs.SoundRecord.{record-sound}
 use Rattle.soundness.proofs.Transfer.{TransferPassed, transfer-passed, transfer-facts}
-use Rattle.verdict.specs.Verdict.{tablesOf, answered, verdictOn, acceptedOn}
+use Rattle.verdict.specs.Verdict.{verdictOn, acceptedOn}
 use Rattle.verdict.specs.declared.Verdict.the-variants.{Accepted}
 use Rattle.verdict.proofs.Acceptance.{sound-books, accepted-accepts}
 use Rattle.verdict.proofs.Puts.{putOne, putAll, put-one, put-none, put-next, put-more}

@@ -11,18 +11,10 @@ use Rattle.rules.specs.Request.{Request}
 use Rattle.rules.specs.Books.{viewOf}
 use Rattle.rules.specs.Plan.{Plan, planTests, planReply}
 use Rattle.rules.specs.Layout.{rowsOf}
-use Rattle.rules.specs.Tables.{Tables, booksOf, positionsLayout}
+use Rattle.rules.specs.Tables.{tablesOf, booksOf, positionsLayout}
 use Rattle.rules.specs.Handle.{Answer, planOf, planTables}
-use Rattle.rules.specs.declared.Reply.{Reply}
 use Rattle.verdict.specs.declared.Verdict.{Verdict}
 use Rattle.verdict.specs.declared.Verdict.the-variants.{Accepted, Refused}
-
-abbrev pub tablesOf : List ℤ → List ℤ → Tables
-tablesOf records positions = record { records = records; positions = positions }
-
--- An answer with the cells of both tables at the end.
-abbrev pub answered : Reply → List ℤ → List ℤ → Answer
-answered reply records positions = record { reply = reply; tables = tablesOf records positions }
 
 abbrev pub planFor : List ℤ → List ℤ → Request → Plan
 planFor records positions r = planOf (viewOf (booksOf (tablesOf records positions))) r

@@ -1,7 +1,7 @@
 -- Document 01's worked examples hold of the rules, by computation: for each row of the table the requests, handed in one after the other from the
 -- tables at the start, give just these answers and end in just these cells. Assumes nothing.
 use mathlib.Core.Path.{_≡_, refl}
-use mathlib.Core.List.{List, map}
+use mathlib.Core.List.{map}
 use Rattle.integers.specs.Order.{eqZ, inRange}
 use Rattle.integers.specs.Average.{floorDiv, averageOf, residualOf}
 use Rattle.rules.specs.Books.{viewOf}

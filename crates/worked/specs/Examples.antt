@@ -1,8 +1,8 @@
 -- Document 01, "Figures to check by hand": P1 to P11 as one table. Each row has the tables at the start, the requests handed in, every answer, and
 -- the tables at the end, cell for cell. A table has room for just the rows of its example, or one more; cells that hold no row hold -1, so that
 -- a cell touched past the last row would show.
-use Prim.Native.Nat.{ℕ, _*_}
-use mathlib.Core.List.{List, [], _∷_, _++_, map}
+use Prim.Native.Nat.{ℕ}
+use mathlib.Core.List.{List, [], _∷_, _++_}
 use lib.ListN.{replicate}
 use lib.IntN.{ℤ, pos, negℤ, _+ℤ_}
 use Rattle.rules.specs.Request.{Request, trade, separate, transfer, merge}

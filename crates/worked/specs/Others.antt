@@ -1,9 +1,7 @@
 -- The figures of document 01 that carry no P, and the slips of "Slips a tired clerk makes", as rows of the same shape.
-use Prim.Native.Nat.{ℕ}
 use mathlib.Core.List.{List, [], _∷_}
 use lib.IntN.{ℤ, pos}
 use Rattle.rules.specs.Request.{Request, trade, separate, merge, lineage}
-use Rattle.rules.specs.declared.Reply.{Reply}
 use Rattle.rules.specs.declared.Reply.the-variants.{Booked, Lineage, Refused}
 use Rattle.worked.specs.Examples.{Example, minus, mergeOfTwo, row, position, table, tables}
 

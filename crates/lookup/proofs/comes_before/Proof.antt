@@ -1,5 +1,4 @@
 -- `lookup::comes_before` meets its contract: it is the definition of `below`, over the figures' bits. Assumes nothing.
-use mathlib.Core.Path.{refl}
 use mir.Facts.{toZ-ofZ}
 use Rattle.rules.specs.Keyed.{below}
 use Rattle.integers.proofs.Bits.{eqb-ofZ}

@@ -1,7 +1,6 @@
 -- `requests::is_elsewhere` meets its contract: bits differ exactly where the figures do. Assumes nothing.
 use mathlib.Core.Path.{_≡_, ap}
 use mathlib.Core.Bool.{true, false}
-use lib.IntN.{ℤ}
 use borrow.Author.Needs.{sfits-of}
 use mir.Syntax.{w64}
 use mir.Val.{SFits, ofZ}

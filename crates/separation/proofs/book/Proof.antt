@@ -19,13 +19,13 @@ use Rattle.rules.specs.Rows.{keyOf, recordKey, adjustedRecord}
 use Rattle.rules.specs.Separation.{partRecords}
 use Rattle.rules.specs.Layout.{roomOf, rowsOf}
 use Rattle.rules.specs.Tables.{recordAt, recordCells, recordsLayout}
+use Rattle.rules.specs.Handle.{answered}
 use Rattle.rules.specs.declared.Record.{Record}
 use Rattle.rules.specs.declared.Reply.the-variants.{Booked}
 use Rattle.lookup.specs.Lookup.{rowPlace, recordFound}
 use Rattle.lookup.proofs.TableLookup.{record-found, record-absent}
 use Rattle.shifter.specs.Insertion.{replaced}
 use Rattle.soundness.proofs.NamedRecord.{nextOf}
-use Rattle.verdict.specs.Verdict.{answered}
 use Rattle.verdict.proofs.Puts.{putOne, putAll}
 use Rattle.verdict.proofs.SoundReads.{found-record}
 use Rattle.verdict.proofs.Separation.{separationInverse}

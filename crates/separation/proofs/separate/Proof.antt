@@ -9,9 +9,10 @@ use borrow.Author.Needs.{needs}
 use Rattle.rules.specs.Request as Request
 use Rattle.rules.specs.Request.{Request}
 use Rattle.rules.specs.Tables.{soundRecords, soundPositions}
+use Rattle.rules.specs.Handle.{answered}
 use Rattle.figures.proofs.Tests.{failed, passed}
 use Rattle.scan.proofs.ReadBack.{read-back}
-use Rattle.verdict.specs.Verdict.{answered, verdictOn, acceptedOn}
+use Rattle.verdict.specs.Verdict.{verdictOn, acceptedOn}
 use Rattle.verdict.proofs.Handled.{unsound-records, separation-unsound-positions, handled-refused, handled-accepted}
 use Rattle.separation.proofs.separate.Statement.{statement}
 use Rattle.separation.proofs.separate.Tie as tie

@@ -3,7 +3,7 @@
 use mathlib.Core.Path.{_≡_}
 use Prim.Native.Nat.{_+_, _-_, _*_}
 use native.Mathlib.Omega.{arith}
-use lib.ListN.{length, length-take, length-drop}
+use lib.ListN.{length-take, length-drop}
 use borrow.Author.Needs.{needs}
 use Rattle.shifter.proofs.Placed.{rows-split, raised-cell, gap}
 use Rattle.shifter.proofs.open_gap.Statement.{statement}

@@ -13,11 +13,11 @@ use Rattle.rules.specs.Figures.{validQuantity}
 use Rattle.rules.specs.Rows.{recordKey, positionKey, newRecord, moved, soundPosition}
 use Rattle.rules.specs.Tables.{recordsLayout, positionsLayout}
 use Rattle.rules.specs.Trade.{tradeKind}
+use Rattle.rules.specs.Handle.{answered}
 use Rattle.rules.specs.declared.Record.{Record}
 use Rattle.rules.specs.declared.Position.{Position}
 use Rattle.rules.specs.declared.Reply.the-variants.{ClosingError}
 use Rattle.scan.proofs.ReadBack.{read-back}
-use Rattle.verdict.specs.Verdict.{answered}
 use Rattle.verdict.proofs.Puts.{putOne}
 use Rattle.verdict.proofs.Ready.{InsertReady, PutReady}
 use Rattle.verdict.proofs.Room.{positionRead}

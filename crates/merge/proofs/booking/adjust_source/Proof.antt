@@ -1,7 +1,6 @@
 -- `merge::booking::adjust_source` meets its contract: the lookup answers the row of the source, which has one. Assumes nothing.
 use Prim.Native.Nat.{ℕ, _+_, _*_, _<_}
 use mathlib.Core.Path.{_≡_, sym, ap, _∙_}
-use mathlib.Core.Bool.{true, false}
 use mathlib.Core.List.{List}
 use mathlib.Core.Option.{Option, some}
 use borrow.Author.Needs.{needs}
@@ -16,7 +15,6 @@ use Rattle.rules.specs.declared.Record.{Record}
 use Rattle.keys.proofs.Split.{clash}
 use Rattle.keys.proofs.Clauses.{isSome-none}
 use Rattle.lookup.specs.Lookup.{recordFound}
-use Rattle.lookup.specs.declared.Found.the-variants.{Row}
 use Rattle.lookup.proofs.TableLookup.{record-found, record-absent}
 use Rattle.merge_sources.specs.Sources.{recordNamed}
 use Rattle.merge_sources.proofs.SourceList.{found-record}

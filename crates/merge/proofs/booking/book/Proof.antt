@@ -22,11 +22,11 @@ use Rattle.rules.specs.Refusal.{anyOf, allOf}
 use Rattle.rules.specs.Layout.{roomOf, rowsOf, write}
 use Rattle.rules.specs.Tables.{recordsLayout, positionsLayout}
 use Rattle.rules.specs.Merge.{pairsOf, firstOf, sumOfQuantities, sumOfValues, mergeResidual, mergedRecord, mergeInverses}
+use Rattle.rules.specs.Handle.{answered}
 use Rattle.rules.specs.declared.Record.{Record}
 use Rattle.rules.specs.declared.Position.{Position}
 use Rattle.rules.specs.declared.Reply.the-variants.{Booked}
 use Rattle.scan.proofs.ReadBack.{read-back}
-use Rattle.verdict.specs.Verdict.{answered}
 use Rattle.verdict.proofs.Room.{positionRead}
 use Rattle.verdict.proofs.SoundReads.{position-read-sound}
 use Rattle.merge_sources.specs.Sources.{sourcesIn, sourceRecords, allFound}

@@ -1,7 +1,6 @@
 -- `merge::booking::insert_inverse` meets its contract: the source's row is read and its id's next suffix taken, at which no row stands. Assumes nothing.
 use Prim.Native.Nat.{ℕ, _+_, _*_, _<_}
 use mathlib.Core.Path.{_≡_, sym, ap, subst, _∙_}
-use mathlib.Core.Bool.{true, false}
 use mathlib.Core.List.{List}
 use mathlib.Core.Option.{Option, none, some}
 use borrow.Author.Needs.{needs, sfits-of}
@@ -11,10 +10,10 @@ use lib.Signed.{_≤ℤ_, ≤ℤ-refl}
 use mir.Facts.{toZ-ofZ}
 use mir.Syntax.{w64}
 use mir.Val.{toZ, ofZ}
-use Rattle.rules.specs.Keyed.{Key, isSome, find, upsert}
+use Rattle.rules.specs.Keyed.{Key, isSome, find}
 use Rattle.rules.specs.Figures.{mergeKind}
 use Rattle.rules.specs.Rows.{keyOf, recordKey, inverseRecord}
-use Rattle.rules.specs.Layout.{rowsOf, write}
+use Rattle.rules.specs.Layout.{rowsOf}
 use Rattle.rules.specs.Tables.{recordsLayout, recordAt}
 use Rattle.rules.specs.declared.Record.{Record}
 use Rattle.keys.proofs.Split.{clash}

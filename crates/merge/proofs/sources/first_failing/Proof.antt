@@ -1,22 +1,19 @@
 -- `merge::sources::first_failing` meets its contract. The loop's invariant: none of the sources so far fails. The measure is the number of sources left.
 -- Assumes nothing.
-use Prim.Native.Nat.{ℕ, _+_, _-_, _*_, _/_, _≤_, _<_}
+use Prim.Native.Nat.{_-_, _/_, _≤_}
 use native.Mathlib.Omega.{arith}
-use mathlib.Core.Path.{_≡_, refl, sym, _∙_, ap}
-use mathlib.Core.Bool.{Bool, true, false}
+use mathlib.Core.Path.{_≡_, sym, _∙_, ap}
+use mathlib.Core.Bool.{Bool, false}
 use mathlib.Core.List.{List, [], map}
 use borrow.Author.Needs.{needs}
-use lib.IntN.{ℤ, pos}
+use lib.IntN.{ℤ}
 use lib.ListN.{length, getD, take, length-map}
 use mir.Facts.{toZ-ofZ}
 use mir.Syntax.{w64}
 use mir.Val.{toZ}
 use Rattle.rules.specs.Refusal.{anyOf}
-use Rattle.rules.specs.Layout.{rowsOf}
-use Rattle.rules.specs.Tables.{recordsLayout}
 use Rattle.rules.specs.declared.Record.{Record}
 use Rattle.merge_sources.specs.Sources.{failsTest, sourceRecords}
-use Rattle.merge_sources.specs.Pairs.{pairAt}
 use Rattle.merge_sources.proofs.Places.{none-at-first, none-next, place-here, place-at-last}
 use Rattle.merge_sources.proofs.SourceList.{record-count, record-test, found-record}
 use Rattle.merge.proofs.sources.first_failing.Statement.{statement}

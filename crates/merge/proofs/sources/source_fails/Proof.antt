@@ -1,13 +1,13 @@
 -- `merge::sources::source_fails` meets its contract: the number chooses the test. Assumes nothing.
 use mathlib.Core.Path.{_≡_, sym, ap, _∙_}
-use mathlib.Core.Bool.{true, false, not}
+use mathlib.Core.Bool.{false, not}
 use borrow.Author.Needs.{needs, sfits-of}
-use lib.IntN.{ℤ, pos}
+use lib.IntN.{pos}
 use mir.Facts.{toZ-ofZ}
 use mir.Syntax.{w64}
 use mir.Val.{SFits}
 use Rattle.integers.specs.Order.{eqZ}
-use Rattle.rules.specs.Figures.{isBuy, isToClose}
+use Rattle.rules.specs.Figures.{isBuy}
 use Rattle.rules.specs.NamedRecord.{isNotAdjustable}
 use Rattle.figures.proofs.Tests.{is-literal, not-literal, literal-test}
 use Rattle.merge_sources.proofs.SourceTests.{is-test-6, is-test-7, is-test-8, is-test-of-sells, is-test-of-buys}

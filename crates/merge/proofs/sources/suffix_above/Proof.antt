@@ -1,9 +1,9 @@
 -- `merge::sources::suffix_above` meets its contract. The loop's invariant: none of the inverses so far needs too great a suffix. The measure is the number of
 -- sources left. Assumes nothing.
-use Prim.Native.Nat.{ℕ, _+_, _-_, _*_, _/_, _≤_, _<_}
+use Prim.Native.Nat.{_+_, _-_, _*_, _/_, _≤_, _<_}
 use native.Mathlib.Omega.{arith}
-use mathlib.Core.Path.{_≡_, refl, sym, _∙_, ap, subst}
-use mathlib.Core.Bool.{Bool, true, false}
+use mathlib.Core.Path.{_≡_, sym, _∙_, ap, subst}
+use mathlib.Core.Bool.{Bool, false}
 use mathlib.Core.List.{List, [], map}
 use borrow.Author.Needs.{needs, sfits-of}
 use lib.IntN.{ℤ, pos, _+ℤ_}

@@ -1,6 +1,6 @@
 -- `merge_sources::pairs::figures_valid` meets its contract: after each test the figures are right where the remaining tests hold. Assumes nothing.
-use Prim.Native.Nat.{ℕ, _%_, _≤_}
-use mathlib.Core.Path.{_≡_, refl, sym, _∙_}
+use Prim.Native.Nat.{ℕ, _%_}
+use mathlib.Core.Path.{_≡_, refl, sym}
 use mathlib.Core.Bool.{Bool, true, false}
 use mathlib.Core.List.{List, [], _∷_}
 use borrow.Author.Needs.{needs}

@@ -1,5 +1,4 @@
 -- `tables::records::write_record` meets its contract: the record's cells, 13 of them, in place of the row's. Assumes nothing.
-use native.Mathlib.Omega.{arith}
 use mathlib.Core.Path.{_≡_, sym, ap, subst, _∙_}
 use Prim.Native.Nat.{ℕ, suc, _+_, _*_, _≤_}
 use mathlib.Core.List.{List}
