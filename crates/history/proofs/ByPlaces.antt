@@ -14,12 +14,8 @@ use Rattle.rules.specs.Refusal.{allOf}
 use Rattle.keys.proofs.Split.{split, clash, and-left, and-right, or-cases, some-inj}
 use Rattle.keys.proofs.Clauses.{allOf-head, allOf-tail}
 use Rattle.history.specs.History.{Reordering}
+use Rattle.history.specs.ByPlaces.{eachTwo, mayStand, isOrder, inOrder}
 use Rattle.history.proofs.Places.{within-list}
-
--- The relation holds of every two items, the earlier first.
-unfoldable pub eachTwo : {A : Type 0} → (A → A → Bool) → List A → Bool
-eachTwo r [] = true
-eachTwo r (x ∷ rest) = allOf (map (r x) rest) && eachTwo r rest
 
 all-at : {A : Type 0} (p : A → Bool) (l : List A) (d : A) (i : ℕ) → allOf (map p l) ≡ true → i < length l → p (getD l i d) ≡ true
 all-at p [] d i h l = let z : ⊥ = omega arith in absurd z
@@ -41,17 +37,7 @@ item-of (x ∷ rest) d (suc i) h = item-of rest d i (omega arith)
 
 -- `other` stands for an item past the end; no place that is checked needs it.
 module _ {Item : Type 0} (touches : Item → Item → Bool) (other : Item) (old : List Item) where
-  -- Two places, the first of which stands earlier in the new order.
-  unfoldable pub mayStand : ℕ → ℕ → Bool
-  mayStand p q = not (eqb p q) && (not (touches (getD old p other) (getD old q other)) || ltb p q)
-
-  unfoldable pub isOrder : List ℕ → Bool
-  isOrder places = eqb (length places) (length old) && allOf (map (λ (p : ℕ). ltb p (length old)) places) && eachTwo mayStand places
-
-  abbrev pub inOrder : List ℕ → List Item
-  inOrder places = map (λ (p : ℕ). getD old p other) places
-
-  pub by-places : (places : List ℕ) → isOrder places ≡ true → Reordering touches old (inOrder places)
+  pub by-places : (places : List ℕ) → isOrder touches other old places ≡ true → Reordering touches old (inOrder touches other old places)
   unfolding isOrder mayStand
   by-places places h = record {
     size = size;
@@ -60,7 +46,7 @@ module _ {Item : Type 0} (touches : Item → Item → Bool) (other : Item) (old 
     once = λ i j k l e. once i j (omega (arith, as-many)) (omega (arith, as-many)) e (split (ltb i j)) (split (ltb j i));
     same = λ j l. item j (omega (arith, as-many)) ∙ sym (item-of old other (from j) (inside j (omega (arith, as-many))));
     kept = λ i j x y l f g t.
-        let b : j < length places = omega (arith, as-many, within-list (inOrder places) j y g) in
+        let b : j < length places = omega (arith, as-many, within-list (inOrder touches other old places) j y g) in
         kept i j x y l b (some-inj (item i (omega arith)) f) (some-inj (item j b) g) t;
   }
     where
@@ -68,18 +54,18 @@ module _ {Item : Type 0} (touches : Item → Item → Bool) (other : Item) (old 
       from j = getD places j 0
 
       first : (eqb (length places) (length old) && allOf (map (λ (p : ℕ). ltb p (length old)) places)) ≡ true
-      first = and-left (eqb (length places) (length old) && allOf (map (λ (p : ℕ). ltb p (length old)) places)) (eachTwo mayStand places) h
+      first = and-left (eqb (length places) (length old) && allOf (map (λ (p : ℕ). ltb p (length old)) places)) (eachTwo (mayStand touches other old) places) h
 
-      pairs : eachTwo mayStand places ≡ true
-      pairs = and-right (eqb (length places) (length old) && allOf (map (λ (p : ℕ). ltb p (length old)) places)) (eachTwo mayStand places) h
+      pairs : eachTwo (mayStand touches other old) places ≡ true
+      pairs = and-right (eqb (length places) (length old) && allOf (map (λ (p : ℕ). ltb p (length old)) places)) (eachTwo (mayStand touches other old) places) h
 
       count : length places ≡ length old
       count = eqb-true (length places) (length old) (and-left (eqb (length places) (length old)) (allOf (map (λ (p : ℕ). ltb p (length old)) places)) first)
 
-      as-many : length (inOrder places) ≡ length places
+      as-many : length (inOrder touches other old places) ≡ length places
       as-many = length-map places (λ (p : ℕ). getD old p other)
 
-      size : length (inOrder places) ≡ length old
+      size : length (inOrder touches other old places) ≡ length old
       size = as-many ∙ count
 
       inside : (j : ℕ) → j < length places → from j < length old
@@ -88,22 +74,22 @@ module _ {Item : Type 0} (touches : Item → Item → Bool) (other : Item) (old 
       apart : (i j : ℕ) → i < j → j < length places → from i ≡ from j → ⊥
       apart i j k l e =
           eqb-false (from i) (from j)
-          (not-true (eqb (from i) (from j)) (and-left (not (eqb (from i) (from j))) (not (touches (getD old (from i) other) (getD old (from j) other)) || ltb (from i) (from j)) (two-at mayStand places 0 i j pairs k l))) e
+          (not-true (eqb (from i) (from j)) (and-left (not (eqb (from i) (from j))) (not (touches (getD old (from i) other) (getD old (from j) other)) || ltb (from i) (from j)) (two-at (mayStand touches other old) places 0 i j pairs k l))) e
 
       once : (i j : ℕ) → i < length places → j < length places → from i ≡ from j → (ltb i j ≡ true) ⊎ (ltb i j ≡ false) → (ltb j i ≡ true) ⊎ (ltb j i ≡ false) → i ≡ j
       once i j k l e (inl a) b = absurd (apart i j (ltb-true i j a) l e)
       once i j k l e (inr a) (inl b) = absurd (apart j i (ltb-true j i b) k (sym e))
       once i j k l e (inr a) (inr b) = omega (arith, ltb-false i j a, ltb-false j i b)
 
-      item : (j : ℕ) → j < length places → getElem? (inOrder places) j ≡ some (getD old (from j) other)
+      item : (j : ℕ) → j < length places → getElem? (inOrder touches other old places) j ≡ some (getD old (from j) other)
       item j l =
-          item-of (inOrder places) (getD old 0 other) j (omega (arith, as-many))
+          item-of (inOrder touches other old places) (getD old 0 other) j (omega (arith, as-many))
           ∙ ap {B = Option Item} some (List·getD-map (λ (p : ℕ). getD old p other) places j 0)
 
       kept : (i j : ℕ) (x y : Item) → i < j → j < length places → getD old (from i) other ≡ x → getD old (from j) other ≡ y → touches x y ≡ true → from i < from j
       kept i j x y k l f g t =
           go (or-cases (not (touches (getD old (from i) other) (getD old (from j) other))) (ltb (from i) (from j))
-          (and-right (not (eqb (from i) (from j))) (not (touches (getD old (from i) other) (getD old (from j) other)) || ltb (from i) (from j)) (two-at mayStand places 0 i j pairs k l)))
+          (and-right (not (eqb (from i) (from j))) (not (touches (getD old (from i) other) (getD old (from j) other)) || ltb (from i) (from j)) (two-at (mayStand touches other old) places 0 i j pairs k l)))
         where
           touching : touches (getD old (from i) other) (getD old (from j) other) ≡ true
           touching = subst (λ (u : Item). touches u (getD old (from j) other) ≡ true) (sym f) (subst (λ (u : Item). touches x u ≡ true) (sym g) t)

@@ -14,6 +14,6 @@ pub mod TableExchange
 pub mod Demand3
 pub mod ByPlaces
 pub mod Samples
-pub mod OnTables
 pub mod Answers
 pub mod LineageAlone
+pub mod OnTables

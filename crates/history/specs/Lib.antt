@@ -1,3 +1,4 @@
 pub mod History
 pub mod Answers
+pub mod ByPlaces
 pub mod Sample

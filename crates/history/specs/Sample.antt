@@ -7,7 +7,8 @@ use Rattle.rules.specs.Request.{Request, trade, separate, transfer, merge, line
 use Rattle.rules.specs.Tables.{Tables}
 use Rattle.rules.specs.declared.Reply.{Reply}
 use Rattle.rules.specs.declared.Reply.the-variants.{Booked, Lineage}
-use Rattle.history.specs.History.{Entry}
+use Rattle.history.specs.History.{Entry, entriesTouch}
+use Rattle.history.specs.ByPlaces.{inOrder}
 
 -- Two tables with no row; cells that hold no row hold -1.
 abbrev pub start : Tables
@@ -50,6 +51,13 @@ accepted =
 -- Trade 3, trade 2, trade 1, the transfer, the separation, the merge, the lineage.
 abbrev pub places : List ℕ
 places = 4 ∷ 1 ∷ 0 ∷ 5 ∷ 2 ∷ 6 ∷ 3 ∷ []
+
+-- An entry past the end, which no place needs.
+abbrev pub past : Entry
+past = entry trade1 (Booked (pos 1) (pos 0))
+
+abbrev pub another : List Entry
+another = inOrder entriesTouch past accepted places
 
 -- Both orders end in these cells.
 abbrev pub row : (id suffix parent kind status account series side quantity price long short into : ℤ) → List ℤ

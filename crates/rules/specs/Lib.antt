@@ -17,3 +17,4 @@ pub mod Layout
 pub mod Tables
 pub mod Handle
 pub mod Run
+pub mod SmallTables

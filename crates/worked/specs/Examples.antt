@@ -6,7 +6,8 @@ use mathlib.Core.List.{List, [], _∷_, _++_}
 use lib.ListN.{replicate}
 use lib.IntN.{ℤ, pos, negℤ, _+ℤ_}
 use Rattle.rules.specs.Request.{Request, trade, separate, transfer, merge}
-use Rattle.rules.specs.Tables.{Tables}
+use Rattle.rules.specs.Tables.{Tables, tablesOf}
+use Rattle.rules.specs.Run.{Run, run}
 use Rattle.rules.specs.declared.Reply.{Reply}
 use Rattle.rules.specs.declared.Reply.the-variants.{Booked, ClosingError, Refused}
 
@@ -15,6 +16,13 @@ pub record Example : Type 0 where
   pub requests : List Request
   pub replies : List Reply
   pub finish : Tables
+
+-- What the rules make of a row of the table, and what the row says.
+abbrev pub found : Example → Run
+found e = run (e .start) (e .requests)
+
+abbrev pub stated : Example → Run
+stated e = record { replies = e .replies; tables = e .finish }
 
 abbrev pub minus : ℕ → ℤ
 minus n = negℤ (pos n)
@@ -35,16 +43,13 @@ joined (r ∷ rest) = r ++ joined rest
 abbrev pub table : ℕ → List (List ℤ) → ℕ → List ℤ
 table count rows unused = pos count ∷ joined rows ++ replicate unused (minus 1)
 
-abbrev pub tables : List ℤ → List ℤ → Tables
-tables records positions = record { records = records; positions = positions }
-
 -- Long 100, short 120, buy close 150: books +30 and -120, type 10, excess 30.
 abbrev pub P1 : Example
 P1 = record {
-  start = tables (table 0 [] 26) (table 1 (position (pos 1) (pos 1) (pos 100) (pos 120) (pos 0) ∷ []) 5);
+  start = tablesOf (table 0 [] 26) (table 1 (position (pos 1) (pos 1) (pos 100) (pos 120) (pos 0) ∷ []) 5);
   requests = trade (pos 7) (pos 1) (pos 1) (pos 3) (pos 150) (pos 5) ∷ [];
   replies = ClosingError (pos 30) ∷ [];
-  finish = tables
+  finish = tablesOf
       (table 1 (row (pos 7) (pos 0) (pos 0) (pos 10) (pos 0) (pos 1) (pos 1) (pos 3) (pos 150) (pos 5) (pos 30) (minus 120) (pos 0) ∷ []) 13)
       (table 1 (position (pos 1) (pos 1) (pos 130) (pos 0) (pos 0) ∷ []) 5);
 }
@@ -52,10 +57,10 @@ P1 = record {
 -- No short open, buy close 100: long +100, type 10, excess 100.
 abbrev pub P2 : Example
 P2 = record {
-  start = tables (table 0 [] 26) (table 0 [] 10);
+  start = tablesOf (table 0 [] 26) (table 0 [] 10);
   requests = trade (pos 7) (pos 1) (pos 1) (pos 3) (pos 100) (pos 5) ∷ [];
   replies = ClosingError (pos 100) ∷ [];
-  finish = tables
+  finish = tablesOf
       (table 1 (row (pos 7) (pos 0) (pos 0) (pos 10) (pos 0) (pos 1) (pos 1) (pos 3) (pos 100) (pos 5) (pos 100) (pos 0) (pos 0) ∷ []) 13)
       (table 1 (position (pos 1) (pos 1) (pos 100) (pos 0) (pos 0) ∷ []) 5);
 }
@@ -63,10 +68,10 @@ P2 = record {
 -- Short 120, buy close 120: type 0, no excess.
 abbrev pub P3 : Example
 P3 = record {
-  start = tables (table 0 [] 26) (table 1 (position (pos 1) (pos 1) (pos 0) (pos 120) (pos 0) ∷ []) 5);
+  start = tablesOf (table 0 [] 26) (table 1 (position (pos 1) (pos 1) (pos 0) (pos 120) (pos 0) ∷ []) 5);
   requests = trade (pos 7) (pos 1) (pos 1) (pos 3) (pos 120) (pos 5) ∷ [];
   replies = Booked (pos 1) (pos 0) ∷ [];
-  finish = tables
+  finish = tablesOf
       (table 1 (row (pos 7) (pos 0) (pos 0) (pos 0) (pos 0) (pos 1) (pos 1) (pos 3) (pos 120) (pos 5) (pos 0) (minus 120) (pos 0) ∷ []) 13)
       (table 1 (position (pos 1) (pos 1) (pos 0) (pos 0) (pos 0) ∷ []) 5);
 }
@@ -74,14 +79,14 @@ P3 = record {
 -- Two trades to open, 1 and 2, of a side, merged into 3: `long` and `short` are what each trade books, `average` and `residual` what the paper gives.
 abbrev pub mergeOfTwo : (side q1 p1 q2 p2 long1 short1 long2 short2 average residual : ℤ) → Example
 mergeOfTwo side q1 p1 q2 p2 long1 short1 long2 short2 average residual = record {
-  start = tables (table 0 [] 78) (table 0 [] 5);
+  start = tablesOf (table 0 [] 78) (table 0 [] 5);
   requests =
       trade (pos 1) (pos 4) (pos 9) side q1 p1
       ∷ trade (pos 2) (pos 4) (pos 9) side q2 p2
       ∷ merge (pos 3) (pos 4) (pos 9) (pos 1 ∷ pos 0 ∷ pos 2 ∷ pos 0 ∷ [])
       ∷ [];
   replies = Booked (pos 1) (pos 0) ∷ Booked (pos 1) (pos 0) ∷ Booked (pos 3) residual ∷ [];
-  finish = tables
+  finish = tablesOf
       (table 5
       (row (pos 1) (pos 0) (pos 0) (pos 0) (pos 1) (pos 4) (pos 9) side q1 p1 long1 short1 (pos 0)
       ∷ row (pos 1) (pos 1) (pos 0) (pos 901) (pos 2) (pos 4) (pos 9) side (negℤ q1) p1 (pos 0) (pos 0) (pos 3)
@@ -111,10 +116,10 @@ P6 = mergeOfTwo (pos 1) (pos 1) (minus 1) (pos 1) (pos 0) (pos 1) (pos 0) (pos 1
 -- One trade of a quantity, and one more request.
 abbrev pub tradeThen : ℤ → Request → Reply → List ℤ → Example
 tradeThen quantity request reply records = record {
-  start = tables (table 0 [] 65) (table 0 [] 5);
+  start = tablesOf (table 0 [] 65) (table 0 [] 5);
   requests = trade (pos 8) (pos 1) (pos 1) (pos 1) quantity (pos 5) ∷ request ∷ [];
   replies = Booked (pos 1) (pos 0) ∷ reply ∷ [];
-  finish = tables records (table 1 (position (pos 1) (pos 1) quantity (pos 0) (pos 0) ∷ []) 0);
+  finish = tablesOf records (table 1 (position (pos 1) (pos 1) quantity (pos 0) (pos 0) ∷ []) 0);
 }
 
 -- The records table with that trade alone.
@@ -154,14 +159,14 @@ P10 =
 -- Trade 456789, buy open 100 at 1,250,000,000, account 1, series 1; transfer suffix 0 to account 2; separate suffix 2 into 50, 25, 25.
 abbrev pub P11 : Example
 P11 = record {
-  start = tables (table 0 [] 104) (table 0 [] 15);
+  start = tablesOf (table 0 [] 104) (table 0 [] 15);
   requests =
       trade (pos 456789) (pos 1) (pos 1) (pos 1) (pos 100) (pos 1250000000)
       ∷ transfer (pos 456789) (pos 0) (pos 1) (pos 2) (pos 1)
       ∷ separate (pos 456789) (pos 2) (pos 2) (pos 1) (pos 50 ∷ pos 25 ∷ pos 25 ∷ [])
       ∷ [];
   replies = Booked (pos 1) (pos 0) ∷ Booked (pos 2) (pos 0) ∷ Booked (pos 4) (pos 0) ∷ [];
-  finish = tables
+  finish = tablesOf
       (table 7
       (row (pos 456789) (pos 0) (pos 0) (pos 0) (pos 1) (pos 1) (pos 1) (pos 1) (pos 100) (pos 1250000000) (pos 100) (pos 0) (pos 0)
       ∷ row (pos 456789) (pos 1) (pos 0) (pos 4) (pos 2) (pos 1) (pos 1) (pos 1) (minus 100) (pos 1250000000) (minus 100) (pos 0) (pos 0)

@@ -1,17 +1,18 @@
 -- The figures of document 01 that carry no P, and the slips of "Slips a tired clerk makes", as rows of the same shape.
 use mathlib.Core.List.{List, [], _∷_}
 use lib.IntN.{ℤ, pos}
+use Rattle.rules.specs.Tables.{tablesOf}
 use Rattle.rules.specs.Request.{Request, trade, separate, merge, lineage}
 use Rattle.rules.specs.declared.Reply.the-variants.{Booked, Lineage, Refused}
-use Rattle.worked.specs.Examples.{Example, minus, mergeOfTwo, row, position, table, tables}
+use Rattle.worked.specs.Examples.{Example, minus, mergeOfTwo, row, position, table}
 
 -- Quantity 1,000,000 is accepted.
 abbrev pub mostAccepted : Example
 mostAccepted = record {
-  start = tables (table 0 [] 13) (table 0 [] 5);
+  start = tablesOf (table 0 [] 13) (table 0 [] 5);
   requests = trade (pos 7) (pos 1) (pos 1) (pos 2) (pos 1000000) (minus 1000000000000) ∷ [];
   replies = Booked (pos 1) (pos 0) ∷ [];
-  finish = tables
+  finish = tablesOf
       (table 1
       (row (pos 7) (pos 0) (pos 0) (pos 0) (pos 0) (pos 1) (pos 1) (pos 2) (pos 1000000) (minus 1000000000000) (pos 0) (pos 1000000) (pos 0) ∷ [])
       0)
@@ -21,10 +22,10 @@ mostAccepted = record {
 -- A request that is refused and leaves the tables as they are.
 abbrev pub refusedOn : List ℤ → List ℤ → Request → ℤ → ℤ → Example
 refusedOn records positions request number place = record {
-  start = tables records positions;
+  start = tablesOf records positions;
   requests = request ∷ [];
   replies = Refused number place ∷ [];
-  finish = tables records positions;
+  finish = tablesOf records positions;
 }
 
 -- 1,000,001 is refused 3.
@@ -47,7 +48,7 @@ belowZero = mergeOfTwo (pos 1) (pos 3) (minus 1) (pos 1) (pos 0) (pos 3) (pos 0)
 -- second part has one link; that of a suffix which the id does not have is refused 5.
 abbrev pub sharedId : Example
 sharedId = record {
-  start = tables (table 0 [] 91) (table 0 [] 5);
+  start = tablesOf (table 0 [] 91) (table 0 [] 5);
   requests =
       trade (pos 5) (pos 1) (pos 1) (pos 1) (pos 4) (minus 1)
       ∷ separate (pos 5) (pos 0) (pos 1) (pos 1) (pos 3 ∷ pos 1 ∷ [])
@@ -56,7 +57,7 @@ sharedId = record {
       ∷ lineage (pos 5) (pos 6)
       ∷ [];
   replies = Booked (pos 1) (pos 0) ∷ Booked (pos 3) (pos 0) ∷ Booked (pos 3) (pos 0) ∷ Lineage (minus 1) (pos 1) ∷ Refused (pos 5) (pos 0) ∷ [];
-  finish = tables
+  finish = tablesOf
       (table 7
       (row (pos 5) (pos 0) (pos 0) (pos 0) (pos 1) (pos 1) (pos 1) (pos 1) (pos 4) (minus 1) (pos 4) (pos 0) (pos 0)
       ∷ row (pos 5) (pos 1) (pos 0) (pos 6) (pos 2) (pos 1) (pos 1) (pos 1) (minus 4) (minus 1) (pos 0) (pos 0) (pos 0)

@@ -1,0 +1,90 @@
+-- What the rules say where a clerk goes wrong (document 01, "Slips a tired clerk makes") and in a few cases more, by computation on the smallest tables that show it. An edit
+-- of a definition that goes wrong there is refused here. (That of the average is refused by the laws of the crate `integers`.) Assumes nothing.
+use mathlib.Core.Path.{_≡_, refl}
+use mathlib.Core.Bool.{true, false}
+use mathlib.Core.List.{List, [], _∷_, _++_, map}
+use lib.IntN.{pos}
+use Rattle.rules.specs.Request.{trade, separate, transfer, merge}
+use Rattle.rules.specs.Run.{run}
+use Rattle.rules.specs.Touching.{touch}
+use Rattle.rules.specs.SmallTables.{empty, buy, recordsAfter, positionsAfter}
+use Rattle.rules.specs.declared.Record.{Record}
+use Rattle.rules.specs.declared.Position.{Position}
+use Rattle.rules.specs.declared.Reply.the-variants.{Booked, Refused}
+use Rattle.rules.proofs.Computed.{Computed}
+
+-- "Booking the separation's inverse against the position: long drops to 0 and never returns." Long stays, and no row of the separation books anything.
+pub separation-leaves-the-position :
+    positionsAfter (empty 52 5) (buy (pos 7) (pos 1) ∷ separate (pos 7) (pos 0) (pos 1) (pos 1) (pos 60 ∷ pos 40 ∷ []) ∷ [])
+    ≡ positionsAfter (empty 52 5) (buy (pos 7) (pos 1) ∷ [])
+unfolding Computed
+separation-leaves-the-position = refl
+
+pub separation-books-nothing :
+    map (λ (r : Record). r .long) (recordsAfter (empty 52 5) (buy (pos 7) (pos 1) ∷ separate (pos 7) (pos 0) (pos 1) (pos 1) (pos 60 ∷ pos 40 ∷ []) ∷ []))
+    ≡ pos 100 ∷ pos 0 ∷ pos 0 ∷ pos 0 ∷ []
+unfolding Computed
+separation-books-nothing = refl
+
+-- "Numbering merge inverses from a count taken once, when two sources share an id." Each takes a suffix of its own.
+pub inverses-take-successive-suffixes :
+    map (λ (r : Record). r .suffix)
+    (recordsAfter (empty 91 5)
+    (buy (pos 7) (pos 1)
+    ∷ separate (pos 7) (pos 0) (pos 1) (pos 1) (pos 60 ∷ pos 40 ∷ [])
+    ∷ merge (pos 8) (pos 1) (pos 1) (pos 7 ∷ pos 2 ∷ pos 7 ∷ pos 3 ∷ [])
+    ∷ []))
+    ≡ pos 0 ∷ pos 1 ∷ pos 2 ∷ pos 3 ∷ pos 4 ∷ pos 5 ∷ pos 0 ∷ []
+unfolding Computed
+inverses-take-successive-suffixes = refl
+
+-- "Putting new rows at the end, so the tables depend on who came first." They do not.
+pub rows-stand-by-key :
+    (run (empty 26 10) (buy (pos 7) (pos 1) ∷ buy (pos 6) (pos 2) ∷ [])) .tables
+    ≡ (run (empty 26 10) (buy (pos 6) (pos 2) ∷ buy (pos 7) (pos 1) ∷ [])) .tables
+unfolding Computed
+rows-stand-by-key = refl
+
+-- A refusal is the first that applies: a transfer of a record that is in another account (6), adjusted (7) and held by nobody there (12) is refused 6.
+pub first-number-given :
+    (run (empty 52 10)
+    (buy (pos 7) (pos 1)
+    ∷ transfer (pos 7) (pos 0) (pos 1) (pos 2) (pos 1)
+    ∷ transfer (pos 7) (pos 0) (pos 2) (pos 3) (pos 1)
+    ∷ [])) .replies
+    ≡ (run (empty 52 10) (buy (pos 7) (pos 1) ∷ transfer (pos 7) (pos 0) (pos 1) (pos 2) (pos 1) ∷ [])) .replies ++ (Refused (pos 6) (pos 0) ∷ [])
+unfolding Computed
+first-number-given = refl
+
+-- Two trades of different ids on one account and series touch: "they share an id or a position".
+pub one-position-touches : touch (buy (pos 7) (pos 1)) (buy (pos 8) (pos 1)) ≡ true
+unfolding Computed
+one-position-touches = refl
+
+pub another-account-does-not : touch (buy (pos 7) (pos 1)) (buy (pos 8) (pos 2)) ≡ false
+unfolding Computed
+another-account-does-not = refl
+
+-- "A refused request changes nothing": the second trade of an id is refused 4 and leaves every cell.
+pub refused-leaves-the-cells :
+    (run (empty 26 5) (buy (pos 7) (pos 1) ∷ buy (pos 7) (pos 1) ∷ [])) .tables ≡ (run (empty 26 5) (buy (pos 7) (pos 1) ∷ [])) .tables
+unfolding Computed
+refused-leaves-the-cells = refl
+
+-- The residual "is added to the position's cash": buys of 1 at 0 and 1 at 1 leave 1.
+pub residual-in-cash :
+    map (λ (p : Position). p .cash)
+    (positionsAfter (empty 65 5)
+    (trade (pos 7) (pos 1) (pos 1) (pos 1) (pos 1) (pos 0)
+    ∷ trade (pos 8) (pos 1) (pos 1) (pos 1) (pos 1) (pos 1)
+    ∷ merge (pos 9) (pos 1) (pos 1) (pos 7 ∷ pos 0 ∷ pos 8 ∷ pos 0 ∷ [])
+    ∷ []))
+    ≡ pos 1 ∷ []
+unfolding Computed
+residual-in-cash = refl
+
+-- "row count plus the request's new rows": with room for one row a second trade is refused 14.
+pub room-counts-new-rows :
+    (run (empty 13 10) (buy (pos 7) (pos 1) ∷ buy (pos 8) (pos 2) ∷ [])) .replies ≡ Booked (pos 1) (pos 0) ∷ Refused (pos 14) (pos 0) ∷ []
+unfolding Computed
+room-counts-new-rows = refl

@@ -1,0 +1,25 @@
+-- The smallest tables and requests on which a rule is seen at work.
+use Prim.Native.Nat.{ℕ}
+use mathlib.Core.List.{List, _∷_}
+use lib.IntN.{ℤ, pos}
+use lib.ListN.{replicate}
+use Rattle.rules.specs.Layout.{rowsOf}
+use Rattle.rules.specs.Request.{Request, trade}
+use Rattle.rules.specs.Run.{run}
+use Rattle.rules.specs.Tables.{Tables, recordsLayout, positionsLayout}
+use Rattle.rules.specs.declared.Record.{Record}
+use Rattle.rules.specs.declared.Position.{Position}
+
+-- Two tables with room for so many rows, none of them used.
+abbrev pub empty : ℕ → ℕ → Tables
+empty records positions = record { records = pos 0 ∷ replicate records (pos 0); positions = pos 0 ∷ replicate positions (pos 0) }
+
+abbrev pub buy : ℤ → ℤ → Request
+buy id account = trade id account (pos 1) (pos 1) (pos 100) (pos 5)
+
+-- The rows after some requests.
+abbrev pub recordsAfter : Tables → List Request → List Record
+recordsAfter t requests = rowsOf recordsLayout ((run t requests) .tables .records)
+
+abbrev pub positionsAfter : Tables → List Request → List Position
+positionsAfter t requests = rowsOf positionsLayout ((run t requests) .tables .positions)
