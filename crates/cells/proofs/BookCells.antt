@@ -47,12 +47,13 @@ module _ (t : Tables) where
   }
 
   -- Of two writings the second alone is seen, where neither table shrinks.
-  pub write-books-twice : (b b′ : Books) → length (b .records) ≤ length (b′ .records) → length (b .positions) ≤ length (b′ .positions)
+  pub write-books-twice : (b b′ : Books) → recordsLayout .header ≤ length (t .records) → positionsLayout .header ≤ length (t .positions)
+      → length (b .records) ≤ length (b′ .records) → length (b .positions) ≤ length (b′ .positions)
       → writeBooks (writeBooks t b) b′ ≡ writeBooks t b′
   unfolding writeBooks
-  write-books-twice b b′ r p = λ i. record {
-    records = write-write recordsLayout records-lawful (t .records) (b .records) (b′ .records) r i;
-    positions = write-write positionsLayout positions-lawful (t .positions) (b .positions) (b′ .positions) p i;
+  write-books-twice b b′ hr hp r p = λ i. record {
+    records = write-write recordsLayout records-lawful (t .records) (b .records) (b′ .records) hr r i;
+    positions = write-write positionsLayout positions-lawful (t .positions) (b .positions) (b′ .positions) hp p i;
   }
 
 module _ (t : Tables) (b : Books) (fits : Fitting t b) where
@@ -66,38 +67,38 @@ module _ (t : Tables) (b : Books) (fits : Fitting t b) where
   -- The tables keep their lengths.
   pub length-written-records : length (writeBooks t b .records) ≡ length (t .records)
   length-written-records =
-      ap length (written-records t b) ∙ length-write recordsLayout records-lawful (t .records) (b .records) (fits .records-cell) records-within
+      ap length (written-records t b) ∙ length-write recordsLayout records-lawful (t .records) (b .records) (fits .records-header) records-within
 
   pub length-written-positions : length (writeBooks t b .positions) ≡ length (t .positions)
   length-written-positions =
-      ap length (written-positions t b) ∙ length-write positionsLayout positions-lawful (t .positions) (b .positions) (fits .positions-cell) positions-within
+      ap length (written-positions t b) ∙ length-write positionsLayout positions-lawful (t .positions) (b .positions) (fits .positions-header) positions-within
 
   -- What was written is read again.
   pub books-written : booksOf (writeBooks t b) ≡ b
   unfolding booksOf writeBooks
   books-written = λ i. record {
-    records = rows-write recordsLayout records-lawful (t .records) (b .records) i;
-    positions = rows-write positionsLayout positions-lawful (t .positions) (b .positions) i;
+    records = rows-write recordsLayout records-lawful (t .records) (b .records) (fits .records-header) i;
+    positions = rows-write positionsLayout positions-lawful (t .positions) (b .positions) (fits .positions-header) i;
     recordsRoom = records-room-kept i;
     positionsRoom = positions-room-kept i;
   }
     where
       records-room-kept : roomOf recordsLayout (write recordsLayout (t .records) (b .records)) ≡ b .recordsRoom
       records-room-kept =
-          room-write recordsLayout records-lawful (t .records) (b .records) (fits .records-cell) records-within
+          room-write recordsLayout records-lawful (t .records) (b .records) (fits .records-header) records-within
           ∙ sym (fits .records-room ∙ books-records-room t)
 
       positions-room-kept : roomOf positionsLayout (write positionsLayout (t .positions) (b .positions)) ≡ b .positionsRoom
       positions-room-kept =
-          room-write positionsLayout positions-lawful (t .positions) (b .positions) (fits .positions-cell) positions-within
+          room-write positionsLayout positions-lawful (t .positions) (b .positions) (fits .positions-header) positions-within
           ∙ sym (fits .positions-room ∙ books-positions-room t)
 
   -- Later books of the same rooms fit the written tables.
   pub fitting-next : (b′ : Books) → b′ .recordsRoom ≡ b .recordsRoom → b′ .positionsRoom ≡ b .positionsRoom
       → length (b′ .records) ≤ b′ .recordsRoom → length (b′ .positions) ≤ b′ .positionsRoom → Fitting (writeBooks t b) b′
   fitting-next b′ er ep fr fp = record {
-    records-cell = rw length-written-records (fits .records-cell);
-    positions-cell = rw length-written-positions (fits .positions-cell);
+    records-header = rw length-written-records (fits .records-header);
+    positions-header = rw length-written-positions (fits .positions-header);
     records-room = er ∙ ap (λ (c : Books). c .recordsRoom) (sym books-written);
     positions-room = ep ∙ ap (λ (c : Books). c .positionsRoom) (sym books-written);
     records-fit = fr;

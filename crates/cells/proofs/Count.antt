@@ -1,18 +1,18 @@
 -- Room, count and rows of a table, over any lawful layout: what a sound count says, and how rows within the room lie within the cells.
 -- Assumes nothing.
-use Prim.Native.Nat.{ℕ, _+_, _-_, _*_, _/_, _≤_, min}
-use native.Mathlib.Nat.{le-div-iff-mul-le, min-le-right, min-le-left, le-trans, le-min}
-use native.Mathlib.Numerals.{one-add}
+use Prim.Native.Nat.{ℕ, zero, suc, _+_, _-_, _*_, _/_, _≤_}
+use native.Mathlib.Nat.{suc-add, le-div-iff-mul-le, min-le-right, min-le-left, le-trans, le-min}
 use native.Mathlib.Omega.{arith}
 use mathlib.Core.Path.{_≡_, refl, sym, ap, _∙_}
 use mathlib.Core.Bool.{true}
-use mathlib.Core.List.{List, [], _∷_}
+use mathlib.Core.List.{List, [], _∷_, _++_}
 use lib.Dec.{leb}
 use lib.IntN.{ℤ, pos, negsuc, natAbs}
-use lib.ListN.{length, take, drop}
+use lib.ListN.{length, take, drop, length-drop, take-append-drop}
+use lib.Seq.{take-add, length-take-le}
 use borrow.Author.Tests.{leb-true, le-leb}
 use Rattle.integers.specs.Order.{inRange}
-use Rattle.rules.specs.Layout.{Layout, countOf, decode, roomOf, rowsOf, countIsSound}
+use Rattle.rules.specs.Layout.{Layout, countOf, afterCount, roomFor, decode, startOf, roomOf, rowsOf, countIsSound}
 use Rattle.cells.specs.Lawful.{Lawful}
 use Rattle.cells.proofs.Both.{both, first, second}
 use Rattle.cells.proofs.Decode.{length-decode}
@@ -27,66 +27,78 @@ pub pos-within : (n room : ℕ) → n ≤ room → inRange (pos 0) (pos room) (p
 unfolding inRange
 pos-within n room h = both (leb 0 n) (leb n room) (le-leb 0 n (omega arith)) (le-leb n room h)
 
--- The count and the cells after it are the first cells of the table.
-pub count-then : (cells : List ℤ) (m : ℕ) → 1 ≤ length cells → countOf cells ∷ take m (drop 1 cells) ≡ take (1 + m) cells
-count-then [] m h = absurd (omega arith)
-count-then (c ∷ rest) m h = ap (λ (j : ℕ). take j (c ∷ rest)) (sym (one-add m))
+one-less : (h : ℕ) → suc h - 1 ≡ h
+one-less h = omega arith
+
+-- The count, the header's other cells and m cells after them are the first cells of the table.
+pub header-then : (header : ℕ) (cells : List ℤ) (m : ℕ) → 1 ≤ header → header ≤ length cells →
+    countOf cells ∷ (afterCount header cells ++ take m (drop header cells)) ≡ take (header + m) cells
+header-then header [] m h long = absurd (omega arith)
+header-then zero (c ∷ rest) m h long = absurd (omega arith)
+header-then (suc h) (c ∷ rest) m _ long =
+    ap (λ (j : ℕ). c ∷ (take j rest ++ take m (drop h rest))) (one-less h)
+    ∙ ap (λ (ys : List ℤ). c ∷ ys) (sym (take-add h m rest))
+    ∙ ap (λ (j : ℕ). take j (c ∷ rest)) (sym (suc-add h m))
+
+pub header-around : (header : ℕ) (cells : List ℤ) → 1 ≤ header → header ≤ length cells → countOf cells ∷ (afterCount header cells ++ drop header cells) ≡ cells
+header-around header [] h long = absurd (omega arith)
+header-around zero (c ∷ rest) h long = absurd (omega arith)
+header-around (suc h) (c ∷ rest) _ long =
+    ap (λ (j : ℕ). c ∷ (take j rest ++ drop h rest)) (one-less h) ∙ ap (λ (ys : List ℤ). c ∷ ys) (take-append-drop h rest)
+
+pub length-afterCount : (header : ℕ) (cells : List ℤ) → 1 ≤ header → header ≤ length cells → length (afterCount header cells) ≡ header - 1
+length-afterCount header cells h long = length-take-le (header - 1) (drop 1 cells) (omega (arith, length-drop 1 cells))
 
 module _ {Row : Type 0} (l : Layout Row) where
   -- Room depends on the number of cells alone.
   pub room-by-length : (xs ys : List ℤ) → length xs ≡ length ys → roomOf l xs ≡ roomOf l ys
   unfolding roomOf
-  room-by-length xs ys e = ap (λ (n : ℕ). min (l .most) ((n - l .header) / l .width)) e
+  room-by-length xs ys e = ap (λ (n : ℕ). roomFor (l .header) (l .width) (l .most) n) e
 
   pub room-most : (cells : List ℤ) → roomOf l cells ≤ l .most
-  unfolding roomOf
+  unfolding roomOf roomFor
   room-most cells = min-le-left (l .most) ((length cells - l .header) / l .width)
 
   pub length-rowsOf : (cells : List ℤ) → length (rowsOf l cells) ≡ natAbs (countOf cells)
   unfolding rowsOf
   length-rowsOf cells = length-decode (l .get) (l .width) (natAbs (countOf cells)) (l .header) cells
 
+  -- The rows, by the count and by their number.
+  pub rowsOf-count : (cells : List ℤ) → rowsOf l cells ≡ decode (l .get) (l .width) (natAbs (countOf cells)) (l .header) cells
+  unfolding rowsOf
+  rowsOf-count cells = refl
+
+  pub rowsOf-decode : (cells : List ℤ) → rowsOf l cells ≡ decode (l .get) (l .width) (length (rowsOf l cells)) (l .header) cells
+  rowsOf-decode cells = rowsOf-count cells ∙ ap (λ (n : ℕ). decode (l .get) (l .width) n (l .header) cells) (sym (length-rowsOf cells))
+
 module _ {Row : Type 0} (l : Layout Row) (lawful : Lawful l) where
   -- So many rows within the room lie within the cells, and the other way round.
-  pub fits-cells : (cells : List ℤ) (n : ℕ) → 1 ≤ length cells → n ≤ roomOf l cells → 1 + n * l .width ≤ length cells
-  unfolding roomOf
+  pub fits-cells : (cells : List ℤ) (n : ℕ) → l .header ≤ length cells → n ≤ roomOf l cells → startOf l n ≤ length cells
+  unfolding roomOf roomFor
   fits-cells cells n h room =
       let u : n ≤ (length cells - l .header) / l .width = le-trans room (min-le-right (l .most) ((length cells - l .header) / l .width)) in
       let v : n * l .width ≤ length cells - l .header = le-div-iff-mul-le (lawful .wide) .0 u in
-      let e : l .header ≡ 1 = lawful .header-one in
       omega arith
 
-  pub cells-fit : (cells : List ℤ) (n : ℕ) → n ≤ l .most → 1 + n * l .width ≤ length cells → n ≤ roomOf l cells
-  unfolding roomOf
+  pub cells-fit : (cells : List ℤ) (n : ℕ) → n ≤ l .most → startOf l n ≤ length cells → n ≤ roomOf l cells
+  unfolding roomOf roomFor
   cells-fit cells n most h =
-      let e : l .header ≡ 1 = lawful .header-one in
       let v : n * l .width ≤ length cells - l .header = omega arith in
       le-min most (le-div-iff-mul-le (lawful .wide) .1 v)
 
-  -- The rows, by the count and by their number.
-  pub rowsOf-count : (cells : List ℤ) → rowsOf l cells ≡ decode (l .get) (l .width) (natAbs (countOf cells)) 1 cells
-  unfolding rowsOf
-  rowsOf-count cells = ap (λ (at : ℕ). decode (l .get) (l .width) (natAbs (countOf cells)) at cells) (lawful .header-one)
-
-  pub rowsOf-decode : (cells : List ℤ) → rowsOf l cells ≡ decode (l .get) (l .width) (length (rowsOf l cells)) 1 cells
-  rowsOf-decode cells = rowsOf-count cells ∙ ap (λ (n : ℕ). decode (l .get) (l .width) n 1 cells) (sym (length-rowsOf l cells))
-
   -- A count within the room is sound.
-  pub count-sound : (cells : List ℤ) (n : ℕ) → 1 ≤ length cells → countOf cells ≡ pos n → n ≤ roomOf l cells → countIsSound l cells ≡ true
+  pub count-sound : (cells : List ℤ) (n : ℕ) → l .header ≤ length cells → countOf cells ≡ pos n → n ≤ roomOf l cells → countIsSound l cells ≡ true
   unfolding countIsSound
   count-sound cells n h e room =
       both (leb (l .header) (length cells)) (inRange (pos 0) (pos (roomOf l cells)) (countOf cells))
-      (let u : l .header ≡ 1 = lawful .header-one in le-leb (l .header) (length cells) (omega arith))
+      (le-leb (l .header) (length cells) h)
       (rw e (pos-within n (roomOf l cells) room))
 
   -- What a sound count says.
   module _ (cells : List ℤ) (sound : countIsSound l cells ≡ true) where
-    pub sound-count-cell : 1 ≤ length cells
+    pub sound-header : l .header ≤ length cells
     unfolding countIsSound
-    sound-count-cell =
-        let h : l .header ≤ length cells = leb-true (l .header) (length cells) (first (leb (l .header) (length cells)) (inRange (pos 0) (pos (roomOf l cells)) (countOf cells)) sound) in
-        let e : l .header ≡ 1 = lawful .header-one in
-        omega arith
+    sound-header = leb-true (l .header) (length cells) (first (leb (l .header) (length cells)) (inRange (pos 0) (pos (roomOf l cells)) (countOf cells)) sound)
 
     range : inRange (pos 0) (pos (roomOf l cells)) (countOf cells) ≡ true
     unfolding countIsSound
@@ -98,5 +110,5 @@ module _ {Row : Type 0} (l : Layout Row) (lawful : Lawful l) where
     pub sound-rows-fit : length (rowsOf l cells) ≤ roomOf l cells
     sound-rows-fit = rw (length-rowsOf l cells) (within (countOf cells) (roomOf l cells) range .1)
 
-    pub sound-rows-cells : 1 + length (rowsOf l cells) * l .width ≤ length cells
-    sound-rows-cells = fits-cells cells (length (rowsOf l cells)) sound-count-cell sound-rows-fit
+    pub sound-rows-cells : startOf l (length (rowsOf l cells)) ≤ length cells
+    sound-rows-cells = fits-cells cells (length (rowsOf l cells)) sound-header sound-rows-fit

@@ -52,7 +52,7 @@ recordAt-recordCells p q r = simp (getD-append-seam, getD-append-add)
 pub records-lawful : Lawful recordsLayout
 records-lawful = record {
   wide = omega arith;
-  header-one = refl;
+  counted = omega arith;
   put-length = length-recordCells;
   put-get = recordCells-recordAt;
   get-put = recordAt-recordCells;
@@ -73,7 +73,7 @@ positionAt-positionCells p q r = simp (getD-append-seam, getD-append-add)
 pub positions-lawful : Lawful positionsLayout
 positions-lawful = record {
   wide = omega arith;
-  header-one = refl;
+  counted = omega arith;
   put-length = length-positionCells;
   put-get = positionCells-positionAt;
   get-put = positionAt-positionCells;

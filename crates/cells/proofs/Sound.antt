@@ -41,9 +41,9 @@ module _ {Row : Type 0} (l : Layout Row) (key : Row → Key) (soundRow : Row →
 
 -- Sound rows written where they fit.
 pub sound-write : {Row : Type 0} (l : Layout Row) (lawful : Lawful l) (key : Row → Key) (soundRow : Row → Bool) (cells : List ℤ) (rows : List Row)
-    → 1 ≤ length cells → length rows ≤ roomOf l cells → rising key rows ≡ true → allOf (map soundRow rows) ≡ true
+    → l .header ≤ length cells → length rows ≤ roomOf l cells → rising key rows ≡ true → allOf (map soundRow rows) ≡ true
     → soundTable l key soundRow (write l cells rows) ≡ true
 sound-write l lawful key soundRow cells rows h fit rises sound =
     sound-table l key soundRow (write l cells rows) (write-sound-count l lawful cells rows h fit)
-    (rw (rows-write l lawful cells rows) rises)
-    (rw (rows-write l lawful cells rows) sound)
+    (rw (rows-write l lawful cells rows h) rises)
+    (rw (rows-write l lawful cells rows h) sound)

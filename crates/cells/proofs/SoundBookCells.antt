@@ -43,8 +43,8 @@ module _ (t : Tables) where
     pub fitting : (b : Books) → b .recordsRoom ≡ booksOf t .recordsRoom → b .positionsRoom ≡ booksOf t .positionsRoom
         → length (b .records) ≤ b .recordsRoom → length (b .positions) ≤ b .positionsRoom → Fitting t b
     fitting b er ep fr fp = record {
-      records-cell = records-known (t .records) rs .count-cell;
-      positions-cell = positions-known (t .positions) ps .count-cell;
+      records-header = records-known (t .records) rs .header-within;
+      positions-header = positions-known (t .positions) ps .header-within;
       records-room = er;
       positions-room = ep;
       records-fit = fr;
@@ -61,8 +61,8 @@ module _ (t : Tables) where
 module _ (t : Tables) (b : Books) (fits : Fitting t b) where
   pub sound-written-records : rising recordKey (b .records) ≡ true → allOf (map soundRecord (b .records)) ≡ true → soundRecords (writeBooks t b .records) ≡ true
   sound-written-records r a =
-      rw (written-records t b) (write-sound-records (t .records) (b .records) (fits .records-cell) (records-within t b fits) r a)
+      rw (written-records t b) (write-sound-records (t .records) (b .records) (fits .records-header) (records-within t b fits) r a)
 
   pub sound-written-positions : rising positionKey (b .positions) ≡ true → allOf (map soundPosition (b .positions)) ≡ true → soundPositions (writeBooks t b .positions) ≡ true
   sound-written-positions r a =
-      rw (written-positions t b) (write-sound-positions (t .positions) (b .positions) (fits .positions-cell) (positions-within t b fits) r a)
+      rw (written-positions t b) (write-sound-positions (t .positions) (b .positions) (fits .positions-header) (positions-within t b fits) r a)

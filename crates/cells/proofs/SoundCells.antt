@@ -14,7 +14,7 @@ use Rattle.rules.specs.declared.Record.{Record}
 use Rattle.rules.specs.declared.Position.{Position}
 use Rattle.cells.specs.Lawful.{Lawful}
 use Rattle.cells.specs.SoundTable.{SoundTable, SoundRecords, SoundPositions}
-use Rattle.cells.proofs.Count.{sound-count-cell, sound-count, sound-rows-fit, sound-rows-cells}
+use Rattle.cells.proofs.Count.{sound-header, sound-count, sound-rows-fit, sound-rows-cells}
 use Rattle.cells.proofs.Sound.{sound-table, table-count, table-rises, table-rows, sound-write}
 use Rattle.cells.proofs.RowCells.{records-lawful, positions-lawful}
 
@@ -24,7 +24,7 @@ module _ {Row : Type 0} (l : Layout Row) (lawful : Lawful l) (key : Row → Key)
       let c : countIsSound l cells ≡ true = table-count l key soundRow cells sound in
       record {
         count-sound = c;
-        count-cell = sound-count-cell l lawful cells c;
+        header-within = sound-header l lawful cells c;
         count = sound-count l lawful cells c;
         rows-fit = sound-rows-fit l lawful cells c;
         rows-within = sound-rows-cells l lawful cells c;
@@ -51,12 +51,12 @@ unfolding soundPositions
 sound-positions cells c r a = sound-table positionsLayout positionKey soundPosition cells c r a
 
 -- Sound rows written where they fit.
-pub write-sound-records : (cells : List ℤ) (rows : List Record) → 1 ≤ length cells → length rows ≤ roomOf recordsLayout cells
+pub write-sound-records : (cells : List ℤ) (rows : List Record) → recordsLayout .header ≤ length cells → length rows ≤ roomOf recordsLayout cells
     → rising recordKey rows ≡ true → allOf (map soundRecord rows) ≡ true → soundRecords (write recordsLayout cells rows) ≡ true
 unfolding soundRecords
 write-sound-records cells rows h fit r a = sound-write recordsLayout records-lawful recordKey soundRecord cells rows h fit r a
 
-pub write-sound-positions : (cells : List ℤ) (rows : List Position) → 1 ≤ length cells → length rows ≤ roomOf positionsLayout cells
+pub write-sound-positions : (cells : List ℤ) (rows : List Position) → positionsLayout .header ≤ length cells → length rows ≤ roomOf positionsLayout cells
     → rising positionKey rows ≡ true → allOf (map soundPosition rows) ≡ true → soundPositions (write positionsLayout cells rows) ≡ true
 unfolding soundPositions
 write-sound-positions cells rows h fit r a = sound-write positionsLayout positions-lawful positionKey soundPosition cells rows h fit r a

@@ -9,8 +9,8 @@ use Rattle.rules.specs.Layout.{Layout}
 pub record Lawful {Row : Type 0} (l : Layout Row) : Type 0 where
   -- A row has at least one cell.
   pub wide : 0 < l .width
-  -- Cell 0, the count, is all that stands before the rows.
-  pub header-one : l .header ≡ 1
+  -- The header has a cell for the count.
+  pub counted : 1 ≤ l .header
   -- A row's cells are as many as the width says.
   pub put-length : (r : Row) → length (l .put r) ≡ l .width
   -- The cells of the row that is read are the cells that it was read from.

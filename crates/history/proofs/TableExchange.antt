@@ -12,6 +12,7 @@ use Rattle.rules.specs.Touching.{touch}
 use Rattle.rules.specs.Handle.{handle}
 use Rattle.soundness.specs.SoundBooks.{planOn, Accepts, after}
 use Rattle.soundness.specs.SoundTables.{SoundTables}
+use Rattle.cells.proofs.SoundCells.{records-known, positions-known}
 use Rattle.cells.proofs.BookCells.{write-books-twice}
 use Rattle.history.specs.History.{isAccepted}
 use Rattle.history.proofs.Accepted.{accepted-reply, accepted-rows, rows-accepted, sound-or-same}
@@ -35,7 +36,8 @@ two-steps t sound x y ok-x ok-y =
     step-tables (handle t x .tables) (step-sound t sound x ok-x) y ok-y
     ∙ ap (λ (c : Books). writeBooks (handle t x .tables) (after c y)) (step-books t sound x ok-x)
     ∙ ap (λ (u : Tables). writeBooks u (after (after b x) y)) (step-tables t sound x ok-x)
-    ∙ write-books-twice t (after b x) (after (after b x) y) (grown .more-records) (grown .more-positions)
+    ∙ write-books-twice t (after b x) (after (after b x) y) (records-known (t .records) (sound .records) .header-within) (positions-known (t .positions) (sound .positions) .header-within)
+    (grown .more-records) (grown .more-positions)
 
 on-sound : (t : Tables) → SoundTables t → (x y : Request) → touch y x ≡ false → isAccepted t x ≡ true → isAccepted (handle t x .tables) y ≡ true → TablesExchanged t x y
 on-sound t sound x y free ok-x ok-y =

@@ -11,30 +11,30 @@ use lib.ListN.{length, getD}
 use Rattle.rules.specs.Keyed.{Key, below}
 use Rattle.rules.specs.Layout.{decode}
 use Rattle.cells.proofs.Decode.{length-decode, getD-decode}
-use Rattle.lookup.specs.Lookup.{keyAt, rowPlace, keysRise}
+use Rattle.lookup.specs.Lookup.{keyAt, rowPlace, keysRise, Searchable}
 use Rattle.lookup.proofs.RisingKeys.{place-in, above-from-place, not-above-before}
 
 -- The key of a row lies within the table.
-pub row-within : (row count width cells : ℕ) → row < count → 2 ≤ width → 1 + count * width ≤ cells → 1 + row * width + 1 < cells
-row-within row count width cells h w fit = omega (arith, mul-le-mul-right width h)
+pub row-within : (header width count : ℕ) (cells : List ℤ) → Searchable header width count cells → (row : ℕ) → row < count → header + row * width + 1 < length cells
+row-within header width count cells s row h = omega (arith, mul-le-mul-right width h)
 
-module _ (cells : List ℤ) (width count : ℕ) where
-  pub keys-count : length (decode keyAt width count 1 cells) ≡ count
-  keys-count = length-decode keyAt width count 1 cells
+module _ (cells : List ℤ) (header width count : ℕ) where
+  pub keys-count : length (decode keyAt width count header cells) ≡ count
+  keys-count = length-decode keyAt width count header cells
 
-  pub row-key : (row : ℕ) (other : Key) → row < count → getD (decode keyAt width count 1 cells) row other ≡ keyAt cells (1 + row * width)
-  row-key row other h = getD-decode keyAt width count 1 cells row other h
+  pub row-key : (row : ℕ) (other : Key) → row < count → getD (decode keyAt width count header cells) row other ≡ keyAt cells (header + row * width)
+  row-key row other h = getD-decode keyAt width count header cells row other h
 
-  pub place-at-most : (k : Key) → rowPlace width k count cells ≤ count
-  place-at-most k = omega (arith, place-in k (decode keyAt width count 1 cells), keys-count)
+  pub place-at-most : (k : Key) → rowPlace header width k count cells ≤ count
+  place-at-most k = omega (arith, place-in k (decode keyAt width count header cells), keys-count)
 
   module _ (k : Key) (row : ℕ) (h : row < count) where
     -- The row's key, as the place's laws read it.
-    tested : below k (getD (decode keyAt width count 1 cells) row k) ≡ below k (keyAt cells (1 + row * width))
+    tested : below k (getD (decode keyAt width count header cells) row k) ≡ below k (keyAt cells (header + row * width))
     tested = ap (below k) (row-key row k h)
 
-    pub place-to : below k (keyAt cells (1 + row * width)) ≡ true → rowPlace width k count cells ≤ row
-    place-to s = above-from-place k (decode keyAt width count 1 cells) row k (tested ∙ s)
+    pub place-to : below k (keyAt cells (header + row * width)) ≡ true → rowPlace header width k count cells ≤ row
+    place-to s = above-from-place k (decode keyAt width count header cells) row k (tested ∙ s)
 
-    pub place-past : keysRise width count cells ≡ true → below k (keyAt cells (1 + row * width)) ≡ false → row < rowPlace width k count cells
-    place-past rises s = not-above-before (decode keyAt width count 1 cells) rises k row k (omega (arith, keys-count)) (tested ∙ s)
+    pub place-past : keysRise header width count cells ≡ true → below k (keyAt cells (header + row * width)) ≡ false → row < rowPlace header width k count cells
+    place-past rises s = not-above-before (decode keyAt width count header cells) rises k row k (omega (arith, keys-count)) (tested ∙ s)

@@ -33,65 +33,65 @@ topFigure = pos 9223372036854775807
 abbrev pub lastKey : ℤ → Key
 lastKey m = keyOf m topFigure
 
-module _ (cells : List ℤ) (width count : ℕ) (rises : keysRise width count cells ≡ true) where
+module _ (cells : List ℤ) (header width count : ℕ) (rises : keysRise header width count cells ≡ true) where
   abbrev keys : List Key
-  keys = decode keyAt width count 1 cells
+  keys = decode keyAt width count header cells
 
   -- ---- the row with a key
 
   module _ (k : Key) where
-    pub found-before : (row : ℕ) → rowPlace width k count cells ≡ suc row → same (keyAt cells (1 + row * width)) k ≡ true → rowFound width k count cells ≡ Row row
+    pub found-before : (row : ℕ) → rowPlace header width k count cells ≡ suc row → same (keyAt cells (header + row * width)) k ≡ true → rowFound header width k count cells ≡ Row row
     found-before row p s =
-        let e : getD keys row k ≡ k = row-key cells width count row k (omega (arith, place-at-most cells width count k)) ∙ same-eq (keyAt cells (1 + row * width)) k s in
-        ap (λ (x : Key). foundFrom 0 x keys) (sym e) ∙ found-there keys row k rises (omega (arith, place-at-most cells width count k, keys-count cells width count))
+        let e : getD keys row k ≡ k = row-key cells header width count row k (omega (arith, place-at-most cells header width count k)) ∙ same-eq (keyAt cells (header + row * width)) k s in
+        ap (λ (x : Key). foundFrom 0 x keys) (sym e) ∙ found-there keys row k rises (omega (arith, place-at-most cells header width count k, keys-count cells header width count))
 
     -- Any row answered would stand before the place and have the key.
-    none-answered : ((row : ℕ) → rowPlace width k count cells ≡ suc row → same (keyAt cells (1 + row * width)) k ≡ true → ⊥) → rowFound width k count cells ≡ Absent
-    none-answered not = go (rowFound width k count cells) refl
+    none-answered : ((row : ℕ) → rowPlace header width k count cells ≡ suc row → same (keyAt cells (header + row * width)) k ≡ true → ⊥) → rowFound header width k count cells ≡ Absent
+    none-answered not = go (rowFound header width k count cells) refl
       where
-        go : (f : Found) → rowFound width k count cells ≡ f → rowFound width k count cells ≡ Absent
+        go : (f : Found) → rowFound header width k count cells ≡ f → rowFound header width k count cells ≡ Absent
         go Absent e = e
         go (Row i) e =
-            let w : (rowPlace width k count cells ≡ suc i) × (i < length keys) × (getD keys i k ≡ k) = found-place keys k i rises e in
-            absurd (not i (w .0) (eq-same (keyAt cells (1 + i * width)) k (sym (row-key cells width count i k (omega (arith, w .1, keys-count cells width count))) ∙ w .2)))
+            let w : (rowPlace header width k count cells ≡ suc i) × (i < length keys) × (getD keys i k ≡ k) = found-place keys k i rises e in
+            absurd (not i (w .0) (eq-same (keyAt cells (header + i * width)) k (sym (row-key cells header width count i k (omega (arith, w .1, keys-count cells header width count))) ∙ w .2)))
 
-    pub absent-before : (row : ℕ) → rowPlace width k count cells ≡ suc row → same (keyAt cells (1 + row * width)) k ≡ false → rowFound width k count cells ≡ Absent
-    absent-before row p s = none-answered (λ i q t. let e : i ≡ row = omega arith in clash (ap (λ (n : ℕ). same (keyAt cells (1 + n * width)) k) (sym e) ∙ t) s)
+    pub absent-before : (row : ℕ) → rowPlace header width k count cells ≡ suc row → same (keyAt cells (header + row * width)) k ≡ false → rowFound header width k count cells ≡ Absent
+    absent-before row p s = none-answered (λ i q t. let e : i ≡ row = omega arith in clash (ap (λ (n : ℕ). same (keyAt cells (header + n * width)) k) (sym e) ∙ t) s)
 
-    pub absent-first : rowPlace width k count cells ≡ 0 → rowFound width k count cells ≡ Absent
+    pub absent-first : rowPlace header width k count cells ≡ 0 → rowFound header width k count cells ≡ Absent
     absent-first p = none-answered (λ i q t. omega arith)
 
   -- ---- the greatest second figure
 
   module _ (m : ℤ)
-      (fits : rowPlace width (lastKey m) count cells < count → SFits w64 (getD cells (1 + rowPlace width (lastKey m) count cells * width + 1) (pos 0))) where
+      (fits : rowPlace header width (lastKey m) count cells < count → SFits w64 (getD cells (header + rowPlace header width (lastKey m) count cells * width + 1) (pos 0))) where
     abbrev place : ℕ
-    place = rowPlace width (lastKey m) count cells
+    place = rowPlace header width (lastKey m) count cells
 
     not-above : (z : ℤ) → SFits w64 z → ltZ topFigure z ≡ false
     not-above z f = omega zarith
 
     bound : place < length keys → ltZ topFigure (getD keys place (lastKey m) .minor) ≡ false
     bound h =
-        let b : place < count = omega (arith, keys-count cells width count) in
-        ap (λ (k : Key). ltZ topFigure (k .minor)) (row-key cells width count place (lastKey m) b)
-        ∙ not-above (getD cells (1 + place * width + 1) (pos 0)) (fits b)
+        let b : place < count = omega (arith, keys-count cells header width count) in
+        ap (λ (k : Key). ltZ topFigure (k .minor)) (row-key cells header width count place (lastKey m) b)
+        ∙ not-above (getD cells (header + place * width + 1) (pos 0)) (fits b)
 
     -- The key of the row before the place.
-    key-before : (row : ℕ) → place ≡ suc row → getD keys row (lastKey m) ≡ keyAt cells (1 + row * width)
-    key-before row p = row-key cells width count row (lastKey m) (omega (arith, place-at-most cells width count (lastKey m)))
+    key-before : (row : ℕ) → place ≡ suc row → getD keys row (lastKey m) ≡ keyAt cells (header + row * width)
+    key-before row p = row-key cells header width count row (lastKey m) (omega (arith, place-at-most cells header width count (lastKey m)))
 
-    pub suffix-before : (row : ℕ) → place ≡ suc row → getD cells (1 + row * width) (pos 0) ≡ m
-        → rowGreatest width m count cells ≡ Suffix (getD cells (1 + row * width + 1) (pos 0))
+    pub suffix-before : (row : ℕ) → place ≡ suc row → getD cells (header + row * width) (pos 0) ≡ m
+        → rowGreatest header width m count cells ≡ Suffix (getD cells (header + row * width + 1) (pos 0))
     suffix-before row p e =
-        some-suffix (greatest (λ e. e) m keys) (getD cells (1 + row * width + 1) (pos 0))
+        some-suffix (greatest (λ e. e) m keys) (getD cells (header + row * width + 1) (pos 0))
         (greatest-there keys rises m topFigure bound row p (ap (λ (k : Key). k .major) (key-before row p) ∙ e) ∙ ap (λ (k : Key). some (k .minor)) (key-before row p))
 
-    pub nothing-before : (row : ℕ) → place ≡ suc row → (getD cells (1 + row * width) (pos 0) ≡ m → ⊥) → rowGreatest width m count cells ≡ Nothing
+    pub nothing-before : (row : ℕ) → place ≡ suc row → (getD cells (header + row * width) (pos 0) ≡ m → ⊥) → rowGreatest header width m count cells ≡ Nothing
     nothing-before row p n =
         none-nothing (greatest (λ e. e) m keys)
         (no-greatest keys rises m topFigure bound
-        (λ i q e. let s : row ≡ i = omega arith in n (ap (λ (j : ℕ). getD cells (1 + j * width) (pos 0)) s ∙ sym (ap (λ (k : Key). k .major) (key-before i q)) ∙ e)))
+        (λ i q e. let s : row ≡ i = omega arith in n (ap (λ (j : ℕ). getD cells (header + j * width) (pos 0)) s ∙ sym (ap (λ (k : Key). k .major) (key-before i q)) ∙ e)))
 
-    pub nothing-first : place ≡ 0 → rowGreatest width m count cells ≡ Nothing
+    pub nothing-first : place ≡ 0 → rowGreatest header width m count cells ≡ Nothing
     nothing-first p = none-nothing (greatest (λ e. e) m keys) (no-greatest keys rises m topFigure bound (λ i q e. omega arith))

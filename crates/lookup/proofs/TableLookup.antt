@@ -2,19 +2,21 @@
 -- The keys that the lookup reads are the keys of the table's rows. Assumes nothing.
 use Prim.Native.Nat.{ℕ, zero, suc, _+_, _*_, _≤_, _<_}
 use mathlib.Core.Path.{_≡_, refl, sym, ap, ap₂, _∙_}
-use mathlib.Core.Bool.{true}
+use native.Mathlib.Omega.{arith}
+use mathlib.Core.Bool.{Bool, true}
 use mathlib.Core.List.{List, _∷_, _++_, map}
 use mathlib.Core.Option.{none, some}
 use lib.IntN.{ℤ, natAbs}
 use lib.ListN.{length, getD, take, drop}
 use Rattle.rules.specs.Keyed.{Key, rising, find, greatest, upsert}
 use Rattle.rules.specs.Rows.{keyOf, recordKey, positionKey, zeroPosition, orZeros}
-use Rattle.rules.specs.Layout.{Layout, countOf, decode, rowsOf}
-use Rattle.rules.specs.Tables.{recordAt, positionAt, recordsLayout, positionsLayout}
+use Rattle.rules.specs.Layout.{Layout, countOf, decode, rowAt, rowsOf}
+use Rattle.rules.specs.Tables.{recordsLayout, positionsLayout}
 use Rattle.rules.specs.declared.Record.{Record}
 use Rattle.rules.specs.declared.Position.{Position}
+use Rattle.cells.specs.SoundTable.{SoundTable}
 use Rattle.cells.proofs.Decode.{length-decode, getD-decode}
-use Rattle.lookup.specs.Lookup.{keyAt, foundFrom, greatestFound, rowFound, rowPlace, rowGreatest, keysRise, recordFound, positionFound, suffixGreatest}
+use Rattle.lookup.specs.Lookup.{keyAt, foundFrom, greatestFound, keysRise, Searchable, foundIn, placeIn, greatestIn, recordFound, positionFound, suffixGreatest}
 use Rattle.lookup.specs.declared.Found.{Found}
 use Rattle.lookup.specs.declared.Found.the-variants.{Row, Absent}
 use Rattle.lookup.specs.declared.Greatest.the-variants.{Suffix, Nothing}
@@ -28,101 +30,109 @@ pub decode-keys : {A : Type 0} (get : List ℤ → ℕ → A) (key : A → Key) 
 decode-keys get key first width zero at cells = refl
 decode-keys get key first width (suc n) at cells = ap₂ _∷_ (sym (first cells at)) (decode-keys get key first width n (at + width) cells)
 
--- A layout's rows start after cell 0, and each begins with its key.
+-- Each row of a layout begins with its key.
 pub record KeyFirst {A : Type 0} (l : Layout A) (key : A → Key) : Type 0 where
-  pub header-one : l .header ≡ 1
+  pub key-within : 2 ≤ l .width
   pub key-first : (cells : List ℤ) (at : ℕ) → key (l .get cells at) ≡ keyAt cells at
 
 module _ {A : Type 0} (l : Layout A) (key : A → Key) (lawful : KeyFirst l key) (cells : List ℤ) where
-  rows-decode : rowsOf l cells ≡ decode (l .get) (l .width) (natAbs (countOf cells)) 1 cells
+  rows-decode : rowsOf l cells ≡ decode (l .get) (l .width) (natAbs (countOf cells)) (l .header) cells
   unfolding rowsOf
-  rows-decode = ap (λ (at : ℕ). decode (l .get) (l .width) (natAbs (countOf cells)) at cells) (lawful .header-one)
+  rows-decode = refl
 
-  pub table-keys : decode keyAt (l .width) (natAbs (countOf cells)) 1 cells ≡ map key (rowsOf l cells)
-  table-keys = decode-keys (l .get) key (lawful .key-first) (l .width) (natAbs (countOf cells)) 1 cells ∙ ap (map key) (sym rows-decode)
+  pub table-keys : decode keyAt (l .width) (natAbs (countOf cells)) (l .header) cells ≡ map key (rowsOf l cells)
+  table-keys = decode-keys (l .get) key (lawful .key-first) (l .width) (natAbs (countOf cells)) (l .header) cells ∙ ap (map key) (sym rows-decode)
 
   table-length : length (rowsOf l cells) ≡ natAbs (countOf cells)
-  table-length = ap length rows-decode ∙ length-decode (l .get) (l .width) (natAbs (countOf cells)) 1 cells
+  table-length = ap length rows-decode ∙ length-decode (l .get) (l .width) (natAbs (countOf cells)) (l .header) cells
 
   -- The keys rise where the rows do.
-  pub table-rises : rising key (rowsOf l cells) ≡ true → (n : ℕ) → n ≡ length (rowsOf l cells) → keysRise (l .width) n cells ≡ true
+  table-rises : rising key (rowsOf l cells) ≡ true → (n : ℕ) → n ≡ length (rowsOf l cells) → keysRise (l .header) (l .width) n cells ≡ true
   table-rises rises n e =
-      ap (λ (count : ℕ). keysRise (l .width) count cells) (e ∙ table-length)
+      ap (λ (count : ℕ). keysRise (l .header) (l .width) count cells) (e ∙ table-length)
       ∙ ap (rising (λ k. k)) table-keys
       ∙ rising-map key (rowsOf l cells)
       ∙ rises
 
+  -- A sound table can be searched, over as many rows as it has.
+  pub table-searchable : (soundRow : A → Bool) → SoundTable l key soundRow cells → (n : ℕ) → n ≡ length (rowsOf l cells) → Searchable (l .header) (l .width) n cells
+  table-searchable soundRow table n e = record {
+    key-within = lawful .key-within;
+    rows-within = rw e (table .rows-within);
+    keys-rise = table-rises (table .rows-rise) n e;
+  }
+
   -- Row i, from 0, is read at its cells.
-  pub table-row : (i : ℕ) (other : A) → i < length (rowsOf l cells) → getD (rowsOf l cells) i other ≡ l .get cells (1 + i * l .width)
+  pub table-row : (i : ℕ) (other : A) → i < length (rowsOf l cells) → getD (rowsOf l cells) i other ≡ rowAt l cells i
   table-row i other h =
       ap (λ (rows : List A). getD rows i other) rows-decode
-      ∙ getD-decode (l .get) (l .width) (natAbs (countOf cells)) 1 cells i other (rw table-length at h)
+      ∙ getD-decode (l .get) (l .width) (natAbs (countOf cells)) (l .header) cells i other (rw table-length at h)
 
-  as-found : (k : Key) (f : Found) → rowFound (l .width) k (natAbs (countOf cells)) cells ≡ f → foundFrom 0 k (map key (rowsOf l cells)) ≡ f
+  as-found : (k : Key) (f : Found) → foundIn l k cells ≡ f → foundFrom 0 k (map key (rowsOf l cells)) ≡ f
   as-found k f h = ap (foundFrom 0 k) (sym table-keys) ∙ h
 
-  pub table-found : (k : Key) (i : ℕ) → rowFound (l .width) k (natAbs (countOf cells)) cells ≡ Row i
-      → (i < length (rowsOf l cells)) × (find key k (rowsOf l cells) ≡ some (l .get cells (1 + i * l .width))) × (key (l .get cells (1 + i * l .width)) ≡ k)
+  pub table-found : (k : Key) (i : ℕ) → foundIn l k cells ≡ Row i
+      → (i < length (rowsOf l cells)) × (find key k (rowsOf l cells) ≡ some (rowAt l cells i)) × (key (rowAt l cells i) ≡ k)
   table-found k i h =
       let f : foundFrom 0 k (map key (rowsOf l cells)) ≡ Row i = as-found k (Row i) h in
       let b : i < length (rowsOf l cells) = found-find key k (rowsOf l cells) i f .0 in
-      let e : getD (rowsOf l cells) i (l .get cells (1 + i * l .width)) ≡ l .get cells (1 + i * l .width) = table-row i (l .get cells (1 + i * l .width)) b in (
+      let e : getD (rowsOf l cells) i (rowAt l cells i) ≡ rowAt l cells i = table-row i (rowAt l cells i) b in (
         b,
-        found-find key k (rowsOf l cells) i f .1 (l .get cells (1 + i * l .width)) ∙ ap some e,
-        sym (ap key e) ∙ found-key key k (rowsOf l cells) i (l .get cells (1 + i * l .width)) f,
+        found-find key k (rowsOf l cells) i f .1 (rowAt l cells i) ∙ ap some e,
+        sym (ap key e) ∙ found-key key k (rowsOf l cells) i (rowAt l cells i) f,
       )
 
-  pub table-absent : (k : Key) → rowFound (l .width) k (natAbs (countOf cells)) cells ≡ Absent → find key k (rowsOf l cells) ≡ none
+  pub table-absent : (k : Key) → foundIn l k cells ≡ Absent → find key k (rowsOf l cells) ≡ none
   table-absent k h = absent-find key k (rowsOf l cells) (as-found k Absent h)
 
-  pub absent-table : (k : Key) → find key k (rowsOf l cells) ≡ none → rowFound (l .width) k (natAbs (countOf cells)) cells ≡ Absent
+  pub absent-table : (k : Key) → find key k (rowsOf l cells) ≡ none → foundIn l k cells ≡ Absent
   absent-table k h = ap (foundFrom 0 k) table-keys ∙ find-absent key k (rowsOf l cells) h
 
   pub found-table : (k : Key) (x : A) → find key k (rowsOf l cells) ≡ some x
-      → (i : ℕ) × (rowFound (l .width) k (natAbs (countOf cells)) cells ≡ Row i) × (i < length (rowsOf l cells)) × (l .get cells (1 + i * l .width) ≡ x)
+      → (i : ℕ) × (foundIn l k cells ≡ Row i) × (i < length (rowsOf l cells)) × (rowAt l cells i ≡ x)
   found-table k x h =
       let w : (i : ℕ) × (foundFrom 0 k (map key (rowsOf l cells)) ≡ Row i) × (i < length (rowsOf l cells)) × ((other : A) → getD (rowsOf l cells) i other ≡ x)
       = find-found key k (rowsOf l cells) x h in
       (w .0, ap (foundFrom 0 k) table-keys ∙ w .1, w .2, sym (table-row (w .0) x (w .2)) ∙ w .3 x)
 
   -- A new row at its place, and a row in place of the one with its key.
-  pub table-place : (k : Key) → rowPlace (l .width) k (natAbs (countOf cells)) cells ≤ length (rowsOf l cells)
+  pub table-place : (k : Key) → placeIn l k cells ≤ length (rowsOf l cells)
   table-place k = rw table-keys (place-within key k (rowsOf l cells))
 
   pub table-inserted : (new : A) → find key (key new) (rowsOf l cells) ≡ none
       → upsert key new (rowsOf l cells)
-      ≡ take (rowPlace (l .width) (key new) (natAbs (countOf cells)) cells) (rowsOf l cells)
-      ++ (new ∷ drop (rowPlace (l .width) (key new) (natAbs (countOf cells)) cells) (rowsOf l cells))
+      ≡ take (placeIn l (key new) cells) (rowsOf l cells)
+      ++ (new ∷ drop (placeIn l (key new) cells) (rowsOf l cells))
   table-inserted new h = rw table-keys (upsert-placed key new (rowsOf l cells) h)
 
-  pub table-replaced : (new : A) (i : ℕ) → rising key (rowsOf l cells) ≡ true → rowFound (l .width) (key new) (natAbs (countOf cells)) cells ≡ Row i
+  pub table-replaced : (new : A) (i : ℕ) → rising key (rowsOf l cells) ≡ true → foundIn l (key new) cells ≡ Row i
       → upsert key new (rowsOf l cells) ≡ take i (rowsOf l cells) ++ (new ∷ drop (suc i) (rowsOf l cells))
   table-replaced new i r h = upsert-replaced key new (rowsOf l cells) i r (as-found (key new) (Row i) h)
 
   -- The greatest second figure.
-  pub table-greatest : (m : ℤ) → rowGreatest (l .width) m (natAbs (countOf cells)) cells ≡ greatestFound (greatest key m (rowsOf l cells))
+  pub table-greatest : (m : ℤ) → greatestIn l m cells ≡ greatestFound (greatest key m (rowsOf l cells))
   table-greatest m = ap (λ (keys : List Key). greatestFound (greatest (λ k. k) m keys)) table-keys ∙ ap greatestFound (greatest-map key m (rowsOf l cells))
 
 -- ---- the two tables
 
 pub records-first : KeyFirst recordsLayout recordKey
-records-first = record { header-one = refl; key-first = λ cells at. refl }
+records-first = record { key-within = omega arith; key-first = λ cells at. refl }
 
 pub positions-first : KeyFirst positionsLayout positionKey
-positions-first = record { header-one = refl; key-first = λ cells at. refl }
+positions-first = record { key-within = omega arith; key-first = λ cells at. refl }
 
 module _ (cells : List ℤ) (id : ℤ) where
   pub record-found : (suffix : ℤ) (row : ℕ) → recordFound cells id suffix ≡ Row row
       → (row < length (rowsOf recordsLayout cells))
-      × (find recordKey (keyOf id suffix) (rowsOf recordsLayout cells) ≡ some (recordAt cells (1 + row * 13)))
-      × (recordKey (recordAt cells (1 + row * 13)) ≡ keyOf id suffix)
+      × (find recordKey (keyOf id suffix) (rowsOf recordsLayout cells) ≡ some (rowAt recordsLayout cells row))
+      × (recordKey (rowAt recordsLayout cells row) ≡ keyOf id suffix)
   record-found suffix row h = table-found recordsLayout recordKey records-first cells (keyOf id suffix) row h
 
   pub record-absent : (suffix : ℤ) → recordFound cells id suffix ≡ Absent → find recordKey (keyOf id suffix) (rowsOf recordsLayout cells) ≡ none
   record-absent suffix h = table-absent recordsLayout recordKey records-first cells (keyOf id suffix) h
 
   pub found-record : (suffix : ℤ) (r : Record) → find recordKey (keyOf id suffix) (rowsOf recordsLayout cells) ≡ some r
-      → (row : ℕ) × (recordFound cells id suffix ≡ Row row) × (row < length (rowsOf recordsLayout cells)) × (recordAt cells (1 + row * 13) ≡ r)
+      → (row : ℕ) × (recordFound cells id suffix ≡ Row row) × (row < length (rowsOf recordsLayout cells)) × (rowAt recordsLayout cells row ≡ r)
   found-record suffix r h = found-table recordsLayout recordKey records-first cells (keyOf id suffix) r h
 
   pub absent-record : (suffix : ℤ) → find recordKey (keyOf id suffix) (rowsOf recordsLayout cells) ≡ none → recordFound cells id suffix ≡ Absent
@@ -146,15 +156,15 @@ module _ (cells : List ℤ) (id : ℤ) where
 module _ (cells : List ℤ) (account series : ℤ) where
   pub position-found : (row : ℕ) → positionFound cells account series ≡ Row row
       → (row < length (rowsOf positionsLayout cells))
-      × (find positionKey (keyOf account series) (rowsOf positionsLayout cells) ≡ some (positionAt cells (1 + row * 5)))
-      × (positionKey (positionAt cells (1 + row * 5)) ≡ keyOf account series)
+      × (find positionKey (keyOf account series) (rowsOf positionsLayout cells) ≡ some (rowAt positionsLayout cells row))
+      × (positionKey (rowAt positionsLayout cells row) ≡ keyOf account series)
   position-found row h = table-found positionsLayout positionKey positions-first cells (keyOf account series) row h
 
   pub position-absent : positionFound cells account series ≡ Absent → find positionKey (keyOf account series) (rowsOf positionsLayout cells) ≡ none
   position-absent h = table-absent positionsLayout positionKey positions-first cells (keyOf account series) h
 
   pub found-position : (p : Position) → find positionKey (keyOf account series) (rowsOf positionsLayout cells) ≡ some p
-      → (row : ℕ) × (positionFound cells account series ≡ Row row) × (row < length (rowsOf positionsLayout cells)) × (positionAt cells (1 + row * 5) ≡ p)
+      → (row : ℕ) × (positionFound cells account series ≡ Row row) × (row < length (rowsOf positionsLayout cells)) × (rowAt positionsLayout cells row ≡ p)
   found-position p h = found-table positionsLayout positionKey positions-first cells (keyOf account series) p h
 
   pub absent-position : find positionKey (keyOf account series) (rowsOf positionsLayout cells) ≡ none → positionFound cells account series ≡ Absent
@@ -162,7 +172,7 @@ module _ (cells : List ℤ) (account series : ℤ) where
 
   -- "an absent row reads as zeros"
   pub position-read : (row : ℕ) → positionFound cells account series ≡ Row row
-      → orZeros account series (find positionKey (keyOf account series) (rowsOf positionsLayout cells)) ≡ positionAt cells (1 + row * 5)
+      → orZeros account series (find positionKey (keyOf account series) (rowsOf positionsLayout cells)) ≡ rowAt positionsLayout cells row
   unfolding orZeros
   position-read row h = ap (orZeros account series) (position-found row h .1)
 

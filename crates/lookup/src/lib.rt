@@ -1,11 +1,10 @@
-// Lookup in a lent table whose keys rise, by halving: both tables have a row's key in its first two cells, so one search serves both, with the row's width as a number.
+// Lookup in a lent table whose keys rise, by halving: every table has a row's key in its first two cells, so one search serves all. `header` is the number of cells before the
+// first row, `width` that of a row.
 ghost use mathlib.Core.Path.{_≡_};
-ghost use mathlib.Core.Bool.{true};
-ghost use Prim.Native.Nat.{_+_, _*_, _≤_};
-ghost use lib.ListN.{length};
+ghost use Prim.Native.Nat.{_≤_};
 ghost use Rattle.rules.specs.Rows.{keyOf};
 ghost use Rattle.rules.specs.Keyed.{below, same};
-ghost use Rattle.lookup.specs.Lookup.{keysRise, rowFound, rowPlace, rowGreatest};
+ghost use Rattle.lookup.specs.Lookup.{Searchable, rowFound, rowPlace, rowGreatest};
 
 // The number of the row with a key, from 0, or that there is none.
 pub enum Found {
@@ -49,15 +48,22 @@ fn comes_before(major: i64, minor: i64, major2: i64, minor2: i64) -> bool
 }
 
 // By halving, a row at most 8 rows before the place where a key belongs.
-fn row_near(cells: &[i64], count: usize, width: usize, major: i64, minor: i64) -> usize
-    requires { ⌜ (2 ≤ width) × (1 + count * width ≤ length (now cells)) × (keysRise width count (now cells) ≡ true) ⌝ }
-    ensures { λ r. ⌜ r ≤ rowPlace width (keyOf major minor) count (now (cells .entry)) ⌝ }
+fn row_near(
+    cells: &[i64],
+    header: usize,
+    width: usize,
+    count: usize,
+    major: i64,
+    minor: i64,
+) -> usize
+    requires { ⌜ Searchable header width count (now cells) ⌝ }
+    ensures { λ r. ⌜ r ≤ rowPlace header width (keyOf major minor) count (now (cells .entry)) ⌝ }
 {
     let mut low = 0;
     let mut left = count;
     while 8 < left {
         let half = left / 2;
-        let at = 1 + (low + half) * width;
+        let at = header + (low + half) * width;
         if !comes_before(major, minor, cells[at], cells[at + 1]) {
             low += half;
         }
@@ -67,13 +73,20 @@ fn row_near(cells: &[i64], count: usize, width: usize, major: i64, minor: i64) -
 }
 
 // How many rows stand before the place where a key belongs.
-pub fn place_of(cells: &[i64], count: usize, width: usize, major: i64, minor: i64) -> usize
-    requires { ⌜ (2 ≤ width) × (1 + count * width ≤ length (now cells)) × (keysRise width count (now cells) ≡ true) ⌝ }
-    ensures { λ r. ⌜ r ≡ rowPlace width (keyOf major minor) count (now (cells .entry)) ⌝ }
+pub fn place_of(
+    cells: &[i64],
+    header: usize,
+    width: usize,
+    count: usize,
+    major: i64,
+    minor: i64,
+) -> usize
+    requires { ⌜ Searchable header width count (now cells) ⌝ }
+    ensures { λ r. ⌜ r ≡ rowPlace header width (keyOf major minor) count (now (cells .entry)) ⌝ }
 {
-    let mut place = row_near(cells, count, width, major, minor);
+    let mut place = row_near(cells, header, width, count, major, minor);
     while place < count {
-        let at = 1 + place * width;
+        let at = header + place * width;
         if key_below(major, minor, cells[at], cells[at + 1]) {
             return place;
         }
@@ -82,16 +95,23 @@ pub fn place_of(cells: &[i64], count: usize, width: usize, major: i64, minor: i6
     place
 }
 
-pub fn find_row(cells: &[i64], count: usize, width: usize, major: i64, minor: i64) -> Found
-    requires { ⌜ (2 ≤ width) × (1 + count * width ≤ length (now cells)) × (keysRise width count (now cells) ≡ true) ⌝ }
-    ensures { λ r. ⌜ r ≡ rowFound width (keyOf major minor) count (now (cells .entry)) ⌝ }
+pub fn find_row(
+    cells: &[i64],
+    header: usize,
+    width: usize,
+    count: usize,
+    major: i64,
+    minor: i64,
+) -> Found
+    requires { ⌜ Searchable header width count (now cells) ⌝ }
+    ensures { λ r. ⌜ r ≡ rowFound header width (keyOf major minor) count (now (cells .entry)) ⌝ }
 {
-    let place = place_of(cells, count, width, major, minor);
+    let place = place_of(cells, header, width, count, major, minor);
     if place == 0 {
         return Found::Absent;
     }
     let row = place - 1;
-    let at = 1 + row * width;
+    let at = header + row * width;
     if key_same(cells[at], cells[at + 1], major, minor) {
         Found::Row(row)
     } else {
@@ -100,19 +120,26 @@ pub fn find_row(cells: &[i64], count: usize, width: usize, major: i64, minor: i6
 }
 
 // The greatest second figure of the keys with that first figure.
-pub fn greatest_of(cells: &[i64], count: usize, width: usize, major: i64) -> Greatest
-    requires { ⌜ (2 ≤ width) × (1 + count * width ≤ length (now cells)) × (keysRise width count (now cells) ≡ true) ⌝ }
-    ensures { λ r. ⌜ r ≡ rowGreatest width major count (now (cells .entry)) ⌝ }
+pub fn greatest_of(cells: &[i64], header: usize, width: usize, count: usize, major: i64) -> Greatest
+    requires { ⌜ Searchable header width count (now cells) ⌝ }
+    ensures { λ r. ⌜ r ≡ rowGreatest header width major count (now (cells .entry)) ⌝ }
 {
-    let place = place_of(cells, count, width, major, 9_223_372_036_854_775_807);
+    let place = place_of(
+        cells,
+        header,
+        width,
+        count,
+        major,
+        9_223_372_036_854_775_807,
+    );
     if place < count {
         // Read for its range alone: no second figure is above the greatest i64, so from here on the first figure is greater.
-        let second = cells[1 + place * width + 1];
+        let second = cells[header + place * width + 1];
     }
     if place == 0 {
         return Greatest::Nothing;
     }
-    let at = 1 + (place - 1) * width;
+    let at = header + (place - 1) * width;
     if cells[at] == major {
         Greatest::Suffix(cells[at + 1])
     } else {

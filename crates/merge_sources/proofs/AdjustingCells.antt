@@ -52,10 +52,13 @@ module _ (cells pairs : List ℤ) where
 
   module _ (all : allFound cells pairs ≡ true) (free : anyOf (map isNotAdjustable (sourceRecords cells pairs)) ≡ false) (differ : anyOf (repeatsFrom [] (pairsOf pairs)) ≡ false)
       (now : List ℤ) (i : ℕ) (a : AdjustedSoFar cells pairs now i) (h : i < length pairs / 2) where
+    headed : recordsLayout .header ≤ length cells
+    headed = omega (arith, records-known now (a .sound) .header-within, a .same-size)
+
     found-now : find recordKey (pairAt pairs i) (rowsOf recordsLayout now) ≡ some (recordOf (rowsOf recordsLayout cells) (pairAt pairs i))
     found-now =
         ap (λ (xs : List ℤ). find recordKey (pairAt pairs i) (rowsOf recordsLayout xs)) (a .put)
-        ∙ ap (λ (t : List Record). find recordKey (pairAt pairs i) t) (rows-write recordsLayout records-lawful cells (rowsAdjusted cells pairs i))
+        ∙ ap (λ (t : List Record). find recordKey (pairAt pairs i) t) (rows-write recordsLayout records-lawful cells (rowsAdjusted cells pairs i) headed)
         ∙ still-found cells pairs all i h differ
 
     same-record : recordNamed now (pairAt pairs i) ≡ recordOf (rowsOf recordsLayout cells) (pairAt pairs i)
@@ -75,6 +78,6 @@ module _ (cells pairs : List ℤ) where
       put =
           e ∙ ap (λ (r : Record). write recordsLayout now (upsert recordKey r (rowsOf recordsLayout now)))
           (ap adjustedRecord same-record ∙ sym (adjusted-at cells pairs i noRecord h))
-          ∙ cells-next recordKey recordsLayout records-lawful cells (adjustedSources cells pairs) i noRecord now (omega (arith, adjusted-count cells pairs)) (a .put);
+          ∙ cells-next recordKey recordsLayout records-lawful cells headed (adjustedSources cells pairs) i noRecord now (omega (arith, adjusted-count cells pairs)) (a .put);
       sound = sound;
     }

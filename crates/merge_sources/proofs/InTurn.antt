@@ -49,13 +49,13 @@ module _ {Row : Type 0} (key : Row → Key) where
     cells-at-first new sound = sym (ap (λ (rows : List Row). write l cells rows) (put-none new (rowsOf l cells)) ∙ write-own l lawful cells sound)
 
     -- One more row, put into the cells as they are by now.
-    pub cells-next : (new : List Row) (i : ℕ) (d : Row) (now : List ℤ) → i < length new → now ≡ write l cells (upsertAll key (take i new) (rowsOf l cells)) →
+    pub cells-next : l .header ≤ length cells → (new : List Row) (i : ℕ) (d : Row) (now : List ℤ) → i < length new → now ≡ write l cells (upsertAll key (take i new) (rowsOf l cells)) →
         write l now (upsert key (getD new i d) (rowsOf l now)) ≡ write l cells (upsertAll key (take (i + 1) new) (rowsOf l cells))
-    cells-next new i d now h e =
+    cells-next headed new i d now h e =
         let t : List Row = upsertAll key (take i new) (rowsOf l cells) in
         ap (λ (xs : List ℤ). write l xs (upsert key (getD new i d) (rowsOf l xs))) e
-        ∙ ap (λ (rows : List Row). write l (write l cells t) (upsert key (getD new i d) rows)) (rows-write l lawful cells t)
-        ∙ write-write l lawful cells t (upsert key (getD new i d) t) (upsert-longer key (getD new i d) t)
+        ∙ ap (λ (rows : List Row). write l (write l cells t) (upsert key (getD new i d) rows)) (rows-write l lawful cells t headed)
+        ∙ write-write l lawful cells t (upsert key (getD new i d) t) headed (upsert-longer key (getD new i d) t)
         ∙ ap (λ (rows : List Row). write l cells rows) (sym (put-one-more new (rowsOf l cells) i d h))
 
     pub cells-at-last : (new : List Row) (i : ℕ) (now : List ℤ) → length new ≤ i → now ≡ write l cells (upsertAll key (take i new) (rowsOf l cells)) →

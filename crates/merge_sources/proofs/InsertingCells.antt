@@ -61,8 +61,11 @@ module _ (into : ℤ) (cells pairs : List ℤ) (all : allFound cells pairs ≡ t
   module _ (right : allOf (map soundRecord (mergeInverses into [] (sourcesIn cells pairs))) ≡ true)
       (room : length (rowsOf recordsLayout cells) + length (pairsOf pairs) ≤ roomOf recordsLayout cells)
       (now : List ℤ) (i : ℕ) (a : InvertedSoFar into cells pairs now i) (h : i < length pairs / 2) where
+    headed : recordsLayout .header ≤ length cells
+    headed = omega (arith, records-known now (a .sound) .header-within, a .same-size)
+
     rows-now : rowsOf recordsLayout now ≡ rowsInverted into cells pairs i
-    rows-now = ap (λ (xs : List ℤ). rowsOf recordsLayout xs) (a .put) ∙ rows-write recordsLayout records-lawful cells (rowsInverted into cells pairs i)
+    rows-now = ap (λ (xs : List ℤ). rowsOf recordsLayout xs) (a .put) ∙ rows-write recordsLayout records-lawful cells (rowsInverted into cells pairs i) headed
 
     found-now : find recordKey (pairAt pairs i) (rowsOf recordsLayout now) ≡ some (recordOf (rowsOf recordsLayout cells) (pairAt pairs i))
     found-now = ap (λ (t : List Record). find recordKey (pairAt pairs i) t) rows-now ∙ found-by-now into cells pairs all i h
@@ -97,6 +100,6 @@ module _ (into : ℤ) (cells pairs : List ℤ) (all : allFound cells pairs ≡ t
       same-size = size ∙ a .same-size;
       put =
           e ∙ ap (λ (r : Record). write recordsLayout now (upsert recordKey r (rowsOf recordsLayout now))) same-inverse
-          ∙ cells-next recordKey recordsLayout records-lawful cells inverses i noRecord now (omega (arith, inverses-count into cells pairs all)) (a .put);
+          ∙ cells-next recordKey recordsLayout records-lawful cells headed inverses i noRecord now (omega (arith, inverses-count into cells pairs all)) (a .put);
       sound = sound;
     }

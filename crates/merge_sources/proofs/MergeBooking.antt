@@ -92,8 +92,8 @@ module _ (rs : List ℤ) (id : ℤ) (pairs : List ℤ) where
   abbrev pub recordsMerged : List ℤ
   recordsMerged = write recordsLayout inversesInserted (upsert recordKey merged (rowsOf recordsLayout inversesInserted))
 
-  rows-once : rowsOf recordsLayout sourcesAdjusted ≡ rowsOnce
-  rows-once = rows-write recordsLayout records-lawful rs rowsOnce
+  rows-once : recordsLayout .header ≤ length rs → rowsOf recordsLayout sourcesAdjusted ≡ rowsOnce
+  rows-once headed = rows-write recordsLayout records-lawful rs rowsOnce headed
 
 module _ (rs ps : List ℤ) (id account series : ℤ) (pairs : List ℤ) (sound : soundRecords rs ≡ true)
     (facts : MergeFacts rs ps id account series pairs (sourcesIn rs pairs)) where
@@ -103,8 +103,11 @@ module _ (rs ps : List ℤ) (id account series : ℤ) (pairs : List ℤ) (sound 
   known : SoundRecords rs
   known = records-known rs sound
 
+  headed : recordsLayout .header ≤ length rs
+  headed = known .header-within
+
   alike : (k : Key) → settled (find recordKey k (rowsOf recordsLayout (sourcesAdjusted rs id pairs))) ≡ settled (find recordKey k (rowsOf recordsLayout rs))
-  alike k = ap (λ (t : List Record). settled (find recordKey k t)) (rows-once rs id pairs) ∙ alike-adjusted rs pairs all-found k
+  alike k = ap (λ (t : List Record). settled (find recordKey k t)) (rows-once rs id pairs headed) ∙ alike-adjusted rs pairs all-found k
 
   -- ---- the sources adjusted
 
@@ -114,7 +117,13 @@ module _ (rs ps : List ℤ) (id account series : ℤ) (pairs : List ℤ) (sound 
   once-room : roomOf recordsLayout (sourcesAdjusted rs id pairs) ≡ roomOf recordsLayout rs
   once-room =
       let fit : length (rowsOf recordsLayout rs) ≤ roomOf recordsLayout rs = known .rows-fit in
-      room-write recordsLayout records-lawful rs (rowsOnce rs id pairs) (known .count-cell) (omega (arith, once-length))
+      room-write recordsLayout records-lawful rs (rowsOnce rs id pairs) headed (omega (arith, once-length))
+
+  -- The sources adjusted leave the number of cells.
+  headed-once : recordsLayout .header ≤ length (sourcesAdjusted rs id pairs)
+  headed-once =
+      let fit : length (rowsOf recordsLayout rs) ≤ roomOf recordsLayout rs = known .rows-fit in
+      omega (arith, length-write recordsLayout records-lawful rs (rowsOnce rs id pairs) headed (omega (arith, once-length)), headed)
 
   pub found-adjusted : allFound (sourcesAdjusted rs id pairs) pairs ≡ true
   found-adjusted = found-alike rs (sourcesAdjusted rs id pairs) pairs alike all-found
@@ -137,7 +146,7 @@ module _ (rs ps : List ℤ) (id account series : ℤ) (pairs : List ℤ) (sound 
         arith,
         once-length,
         once-room,
-        ap (λ (t : List Record). length t) (rows-once rs id pairs),
+        ap (λ (t : List Record). length t) (rows-once rs id pairs headed),
         pair-count pairs,
         many,
         length-append (mergeInverses id [] (sourcesIn rs pairs)) (merged rs id pairs ∷ []),
@@ -149,8 +158,9 @@ module _ (rs ps : List ℤ) (id account series : ℤ) (pairs : List ℤ) (sound 
   rows-twice =
       rows-write recordsLayout records-lawful (sourcesAdjusted rs id pairs)
       (upsertAll recordKey (mergeInverses id [] (sourcesIn (sourcesAdjusted rs id pairs) pairs)) (rowsOf recordsLayout (sourcesAdjusted rs id pairs)))
+      headed-once
       ∙ ap (λ (l : List Record). upsertAll recordKey l (rowsOf recordsLayout (sourcesAdjusted rs id pairs))) same-inverses
-      ∙ ap (λ (t : List Record). upsertAll recordKey (mergeInverses id [] (sourcesIn rs pairs)) t) (rows-once rs id pairs)
+      ∙ ap (λ (t : List Record). upsertAll recordKey (mergeInverses id [] (sourcesIn rs pairs)) t) (rows-once rs id pairs headed)
 
   lacks-once : lacksAll recordKey (rowsOnce rs id pairs) (rowsAdded id (sourcesIn rs pairs)) ≡ true
   lacks-once = lacksAll-upsertAll recordKey (adjustedSources rs pairs) (rowsAdded id (sourcesIn rs pairs)) (rowsOf recordsLayout rs) (facts .changed-present) (facts .added-absent)
@@ -168,10 +178,10 @@ module _ (rs ps : List ℤ) (id account series : ℤ) (pairs : List ℤ) (sound 
       let cells : List ℤ = sourcesAdjusted rs id pairs in
       let new : List Record = mergeInverses id [] (sourcesIn cells pairs) in
       ap (λ (t : List Record). length t)
-      (rows-write recordsLayout records-lawful cells (upsertAll recordKey new (rowsOf recordsLayout cells))
+      (rows-write recordsLayout records-lawful cells (upsertAll recordKey new (rowsOf recordsLayout cells)) headed-once
       ∙ sym (put-all recordKey new (rowsOf recordsLayout cells) (length pairs / 2) (omega (arith, ap (λ (l : List Record). length l) same-inverses, many))))
       ∙ inverted-length id cells pairs found-adjusted (length pairs / 2) (omega arith)
-      ∙ ap (λ (n : ℕ). n + length pairs / 2) (ap (λ (t : List Record). length t) (rows-once rs id pairs) ∙ once-length)
+      ∙ ap (λ (n : ℕ). n + length pairs / 2) (ap (λ (t : List Record). length t) (rows-once rs id pairs headed) ∙ once-length)
 
   pub merged-room : length (rowsOf recordsLayout (inversesInserted rs id pairs)) < roomOf recordsLayout (inversesInserted rs id pairs)
   merged-room =
@@ -182,11 +192,9 @@ module _ (rs ps : List ℤ) (id account series : ℤ) (pairs : List ℤ) (sound 
       let added : length (rowsAdded id (sourcesIn rs pairs)) ≡ length pairs / 2 + 1 =
       omega (arith, length-append (mergeInverses id [] (sourcesIn rs pairs)) (merged rs id pairs ∷ []), many) in
       let put-length : length put ≡ length (rowsOf recordsLayout rs) + length pairs / 2 =
-      ap (λ (t : List Record). length t) (sym (rows-write recordsLayout records-lawful cells put)) ∙ twice-length in
-      let same-cells : length cells ≡ length rs = length-write recordsLayout records-lawful rs (rowsOnce rs id pairs) (known .count-cell) (omega (arith, once-length)) in
-      let some-cell : 1 ≤ length rs = known .count-cell in
+      ap (λ (t : List Record). length t) (sym (rows-write recordsLayout records-lawful cells put headed-once)) ∙ twice-length in
       let same-room : roomOf recordsLayout (inversesInserted rs id pairs) ≡ roomOf recordsLayout cells =
-      room-write recordsLayout records-lawful cells put (omega arith) (omega (arith, once-room)) in
+      room-write recordsLayout records-lawful cells put headed-once (omega (arith, once-room)) in
       omega (arith, twice-length, once-room)
 
   -- ---- the merged row inserted
@@ -199,11 +207,11 @@ module _ (rs ps : List ℤ) (id account series : ℤ) (pairs : List ℤ) (sound 
       let last : Record = merged rs id pairs in
       let inserted : inversesInserted rs id pairs ≡ write recordsLayout cells twice =
       ap (λ (t : List Record). write recordsLayout cells t)
-      (sym (rows-write recordsLayout records-lawful cells (upsertAll recordKey (mergeInverses id [] (sourcesIn cells pairs)) (rowsOf recordsLayout cells))) ∙ rows-twice) in
+      (sym (rows-write recordsLayout records-lawful cells (upsertAll recordKey (mergeInverses id [] (sourcesIn cells pairs)) (rowsOf recordsLayout cells)) headed-once) ∙ rows-twice) in
       ap (λ (t : List Record). write recordsLayout (inversesInserted rs id pairs) (upsert recordKey last t)) rows-twice
       ∙ ap (λ (xs : List ℤ). write recordsLayout xs (upsert recordKey last twice)) inserted
-      ∙ write-write recordsLayout records-lawful cells twice (upsert recordKey last twice) (upsert-longer recordKey last twice)
-      ∙ write-write recordsLayout records-lawful rs once (upsert recordKey last twice)
+      ∙ write-write recordsLayout records-lawful cells twice (upsert recordKey last twice) headed-once (upsert-longer recordKey last twice)
+      ∙ write-write recordsLayout records-lawful rs once (upsert recordKey last twice) headed
       (omega (arith, upsertAll-longer recordKey (mergeInverses id [] (sourcesIn rs pairs)) once, upsert-longer recordKey last twice))
       ∙ ap (λ (t : List Record). write recordsLayout rs t)
       (sym

@@ -12,11 +12,11 @@ use lib.ListN.{length, getD, set}
 use lib.Seq.{getD-set-same, getD-set-other}
 use Rattle.rules.specs.Keyed.{find}
 use Rattle.rules.specs.Rows.{recordKey}
-use Rattle.rules.specs.Layout.{rowsOf, countOf}
+use Rattle.rules.specs.Layout.{rowsOf, countOf, rowAt}
 use Rattle.rules.specs.Tables.{recordsLayout, recordAt, soundRecords}
 use Rattle.cells.proofs.Count.{room-most}
 use Rattle.cells.proofs.SoundCells.{records-known}
-use Rattle.lookup.specs.Lookup.{rowFound}
+use Rattle.lookup.specs.Lookup.{rowFound, foundIn}
 use Rattle.lookup.specs.declared.Found.{Found}
 use Rattle.lookup.specs.declared.Found.the-variants.{Row}
 use Rattle.lookup.proofs.TableLookup.{records-first, table-found}
@@ -25,7 +25,7 @@ use Rattle.merge_sources.specs.Located.{rowsKnown}
 
 -- The row of the pair at a place.
 abbrev pub rowOfPair : List ℤ → List ℤ → ℕ → Found
-rowOfPair cells pairs i = rowFound 13 (pairAt pairs i) (natAbs (countOf cells)) cells
+rowOfPair cells pairs i = foundIn recordsLayout (pairAt pairs i) cells
 
 -- The first so many row numbers are those of the first so many pairs.
 abbrev pub knownTo : List ℤ → List ℤ → List ℕ → ℕ → Type 0
@@ -54,7 +54,7 @@ module _ (cells pairs : List ℤ) where
     pub row-within : row < length (rowsOf recordsLayout cells)
     row-within = table-found recordsLayout recordKey records-first cells (pairAt pairs place) row e .0
 
-    pub row-record : find recordKey (pairAt pairs place) (rowsOf recordsLayout cells) ≡ some (recordAt cells (1 + row * 13))
+    pub row-record : find recordKey (pairAt pairs place) (rowsOf recordsLayout cells) ≡ some (rowAt recordsLayout cells row)
     row-record = table-found recordsLayout recordKey records-first cells (pairAt pairs place) row e .1
 
     pub row-small : soundRecords cells ≡ true → row < 65536

@@ -4,8 +4,9 @@ use mathlib.Core.Path.{_≡_}
 use mathlib.Core.List.{List}
 use lib.IntN.{ℤ, natAbs}
 use lib.ListN.{getD, length}
+use Rattle.rules.specs.Tables.{recordsLayout}
 use Rattle.rules.specs.Layout.{countOf}
-use Rattle.lookup.specs.Lookup.{rowFound}
+use Rattle.lookup.specs.Lookup.{rowFound, foundIn}
 use Rattle.lookup.specs.declared.Found.the-variants.{Row}
 use Rattle.merge_sources.specs.Pairs.{pairAt}
 
@@ -13,4 +14,4 @@ use Rattle.merge_sources.specs.Pairs.{pairAt}
 unfoldable pub rowsKnown : List ℤ → List ℤ → List ℕ → Type 0
 rowsKnown records pairs rows =
     (length pairs ≤ 2 * length rows)
-    × ((i : ℕ) → 2 * i + 2 ≤ length pairs → rowFound 13 (pairAt pairs i) (natAbs (countOf records)) records ≡ Row (getD rows i 0))
+    × ((i : ℕ) → 2 * i + 2 ≤ length pairs → foundIn recordsLayout (pairAt pairs i) records ≡ Row (getD rows i 0))

@@ -5,7 +5,7 @@ use Rattle.rules.specs.Books.{viewOf}
 use Rattle.rules.specs.Figures.{magnitudeAtMost, validId, validSuffix, validAccount, validSeries, validQuantity, validPrice, validSide, isBuy, isToClose, validCount}
 use Rattle.rules.specs.Handle.{planOf, soundnessTests, refusals, planTables, answer, handle}
 use Rattle.rules.specs.Keyed.{below, same, isSome, atLeast, rising, find, greatest, upsert, upsertAll, absentFrom}
-use Rattle.rules.specs.Layout.{encode, roomOf, rowsOf, countIsSound, write}
+use Rattle.rules.specs.Layout.{encode, roomFor, roomOf, rowsOf, countIsSound, write}
 use Rattle.rules.specs.Lineage.{oneMoreLink, originVia, originOf, lineageReply, lineagePlan}
 use Rattle.rules.specs.Merge.{pairsOf, validPair, mergeFigures, sourcesOf, recordsOf, isMissing, closes, isAmong, stoodEarlier, firstOf, sideDiffers, sumOfQuantities, sumOfValues, timesIn, mergeInverses, mergedRecord, mergeResidual, mergePlan}
 use Rattle.rules.specs.NamedRecord.{noRecord, theRecord, isElsewhere, isNotAdjustable, nextSuffix}
@@ -21,5 +21,5 @@ use Rattle.rules.specs.Trade.{tradeFigures, openAgainst, smaller, closed
 use Rattle.rules.specs.Transfer.{transferFigures, inLong, inShort, holdsTooLittle, transferPlan}
 
 unfoldable pub Computed : Type 0
-unfolding eqZ inRange floorDiv averageOf residualOf viewOf magnitudeAtMost validId validSuffix validAccount validSeries validQuantity validPrice validSide isBuy isToClose validCount planOf soundnessTests refusals planTables answer handle below same isSome atLeast rising find greatest upsert upsertAll absentFrom encode roomOf rowsOf countIsSound write oneMoreLink originVia originOf lineageReply lineagePlan pairsOf validPair mergeFigures sourcesOf recordsOf isMissing closes isAmong stoodEarlier firstOf sideDiffers sumOfQuantities sumOfValues timesIn mergeInverses mergedRecord mergeResidual mergePlan noRecord theRecord isElsewhere isNotAdjustable nextSuffix suffixIsAbove bookingTests planTests booked planBooks planReply test anyOf allOf firstPlace testEach firstRefusal refusedBy validKind validStatus validSignedQuantity validBooked validInto validParent soundRecord soundPosition zeroPosition orZeros moved adjustedRecord newRecord inverseRecord adjustableRecord afterReply run sumOf separationFigures partRecords separationPlan recordCells positionCells soundTable soundRecords soundPositions booksOf writeBooks idsOf positionsOf isNamedIn shareId sharePosition touch tradeFigures openAgainst smaller closedBy longBooked shortBooked isClosingError tradeKind tradeReply tradePlan transferFigures inLong inShort holdsTooLittle transferPlan
+unfolding eqZ inRange floorDiv averageOf residualOf viewOf magnitudeAtMost validId validSuffix validAccount validSeries validQuantity validPrice validSide isBuy isToClose validCount planOf soundnessTests refusals planTables answer handle below same isSome atLeast rising find greatest upsert upsertAll absentFrom encode roomFor roomOf rowsOf countIsSound write oneMoreLink originVia originOf lineageReply lineagePlan pairsOf validPair mergeFigures sourcesOf recordsOf isMissing closes isAmong stoodEarlier firstOf sideDiffers sumOfQuantities sumOfValues timesIn mergeInverses mergedRecord mergeResidual mergePlan noRecord theRecord isElsewhere isNotAdjustable nextSuffix suffixIsAbove bookingTests planTests booked planBooks planReply test anyOf allOf firstPlace testEach firstRefusal refusedBy validKind validStatus validSignedQuantity validBooked validInto validParent soundRecord soundPosition zeroPosition orZeros moved adjustedRecord newRecord inverseRecord adjustableRecord afterReply run sumOf separationFigures partRecords separationPlan recordCells positionCells soundTable soundRecords soundPositions booksOf writeBooks idsOf positionsOf isNamedIn shareId sharePosition touch tradeFigures openAgainst smaller closedBy longBooked shortBooked isClosingError tradeKind tradeReply tradePlan transferFigures inLong inShort holdsTooLittle transferPlan
 Computed = Unit {0}

@@ -82,14 +82,14 @@ moved p long short cash = record {
   cash = p .cash +ℤ cash;
 }
 
--- "Status of the named record becomes 1": it changes its status and nothing else.
-unfoldable pub adjustedRecord : Record → Record
-adjustedRecord r = record {
+-- A record in another status, and nothing else changed.
+abbrev pub withStatus : ℤ → Record → Record
+withStatus status r = record {
   id = r .id;
   suffix = r .suffix;
   parent = r .parent;
   kind = r .kind;
-  status = adjusted;
+  status = status;
   account = r .account;
   series = r .series;
   side = r .side;
@@ -99,6 +99,10 @@ adjustedRecord r = record {
   short = r .short;
   into = r .into;
 }
+
+-- "Status of the named record becomes 1": it changes its status and nothing else.
+unfoldable pub adjustedRecord : Record → Record
+adjustedRecord r = withStatus adjusted r
 
 -- A row with suffix 0, parent 0 and status 0: a trade's, and the merged one.
 unfoldable pub newRecord : (id kind account series side quantity price long short : ℤ) → Record

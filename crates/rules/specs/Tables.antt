@@ -35,6 +35,10 @@ recordCells r =
     r .id ∷ r .suffix ∷ r .parent ∷ r .kind ∷ r .status ∷ r .account ∷ r .series
     ∷ r .side ∷ r .quantity ∷ r .price ∷ r .long ∷ r .short ∷ r .into ∷ []
 
+-- The cell of a row that has the status.
+abbrev pub statusCell : ℕ
+statusCell = 4
+
 -- "each row has 5 cells: account, series, long, short, cash"
 abbrev pub positionAt : List ℤ → ℕ → Position
 positionAt cells at = record {

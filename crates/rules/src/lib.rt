@@ -1,4 +1,6 @@
 // The rows of the two lent tables, and the answer to a request. What document 01 says of them stands in specs/; this crate books nothing.
+pub mod codes; // status, type, limits
+pub mod layout; // header, width and room of the two tables
 
 // A row of the records table: one transaction record. Its key is the id, then the suffix.
 pub struct Record {

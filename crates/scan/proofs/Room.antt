@@ -1,62 +1,57 @@
--- The room and the count test by the row's width and the greatest room: each way through the code, and as the layouts of the two tables say them.
+-- The room and the count test by the numbers of a layout: each way through the code, and as a layout says them.
 -- Assumes nothing.
 use Prim.Native.Nat.{ℕ, _-_, _/_, _≤_, _<_}
 use native.Mathlib.Nat.{zero-div}
 use native.Mathlib.Omega.{arith}
-use mathlib.Core.Path.{_≡_, refl}
+use mathlib.Core.Path.{_≡_, refl, ap, _∙_}
 use mathlib.Core.Bool.{false}
 use mathlib.Core.List.{List}
 use borrow.Author.Tests.{lt-leb, le-leb}
 use lib.IntN.{ℤ, pos}
 use lib.ListN.{length}
 use Rattle.integers.specs.Order.{inRange}
-use Rattle.rules.specs.Layout.{countOf, roomOf, countIsSound}
-use Rattle.rules.specs.Tables.{recordsLayout, positionsLayout}
-use Rattle.scan.specs.Count.{roomFor, countSound}
+use Rattle.rules.specs.Layout.{Layout, countOf, roomFor, roomOf, countIsSound}
+use Rattle.scan.specs.Scan.{countSound}
 
 -- ---- room
 
-pub room-none : (width most : ℕ) → 0 ≡ roomFor width most 0
+pub room-none : (header width most cells : ℕ) → cells < header → 0 ≡ roomFor header width most cells
 unfolding roomFor
-room-none width most = omega (arith, zero-div width)
+room-none header width most cells h =
+    let e : cells - header ≡ 0 = omega arith in
+    let z : (cells - header) / width ≡ 0 = ap (λ (n : ℕ). n / width) e ∙ zero-div width in
+    omega arith
 
-pub room-whole : (width most cells : ℕ) → (cells - 1) / width < most → (cells - 1) / width ≡ roomFor width most cells
+pub room-whole : (header width most cells : ℕ) → (cells - header) / width < most → (cells - header) / width ≡ roomFor header width most cells
 unfolding roomFor
-room-whole width most cells h = omega arith
+room-whole header width most cells h = omega arith
 
-pub room-full : (width most cells : ℕ) → most ≤ (cells - 1) / width → most ≡ roomFor width most cells
+pub room-full : (header width most cells : ℕ) → most ≤ (cells - header) / width → most ≡ roomFor header width most cells
 unfolding roomFor
-room-full width most cells h = omega arith
+room-full header width most cells h = omega arith
 
-pub room-at-most : (width most cells : ℕ) → roomFor width most cells ≤ most
+pub room-at-most : (header width most cells : ℕ) → roomFor header width most cells ≤ most
 unfolding roomFor
-room-at-most width most cells = omega arith
+room-at-most header width most cells = omega arith
 
 -- ---- the count
 
-pub no-count : (width most : ℕ) (cells : List ℤ) → length cells ≡ 0 → false ≡ countSound width most cells
+pub no-count : (header width most : ℕ) (cells : List ℤ) → length cells < header → false ≡ countSound header width most cells
 unfolding countSound
-no-count width most cells e = rw (lt-leb 1 (length cells) (omega arith))
+no-count header width most cells h = rw (lt-leb header (length cells) h)
 
-pub count-in-range : (width most : ℕ) (cells : List ℤ) → 1 ≤ length cells
-    → inRange (pos 0) (pos (roomFor width most (length cells))) (countOf cells) ≡ countSound width most cells
+pub count-in-range : (header width most : ℕ) (cells : List ℤ) → header ≤ length cells
+    → inRange (pos 0) (pos (roomFor header width most (length cells))) (countOf cells) ≡ countSound header width most cells
 unfolding countSound
-count-in-range width most cells h = rw (le-leb 1 (length cells) h)
+count-in-range header width most cells h = rw (le-leb header (length cells) h)
 
--- ---- of the two tables
+-- ---- of a layout
 
-pub records-room : (cells : List ℤ) → roomFor 13 4096 (length cells) ≡ roomOf recordsLayout cells
-unfolding roomFor roomOf
-records-room cells = refl
+module _ {Row : Type 0} (l : Layout Row) (cells : List ℤ) where
+  pub layout-room : roomFor (l .header) (l .width) (l .most) (length cells) ≡ roomOf l cells
+  unfolding roomOf
+  layout-room = refl
 
-pub positions-room : (cells : List ℤ) → roomFor 5 1024 (length cells) ≡ roomOf positionsLayout cells
-unfolding roomFor roomOf
-positions-room cells = refl
-
-pub records-count : (cells : List ℤ) → countSound 13 4096 cells ≡ countIsSound recordsLayout cells
-unfolding countSound countIsSound roomFor roomOf
-records-count cells = refl
-
-pub positions-count : (cells : List ℤ) → countSound 5 1024 cells ≡ countIsSound positionsLayout cells
-unfolding countSound countIsSound roomFor roomOf
-positions-count cells = refl
+  pub layout-count : countSound (l .header) (l .width) (l .most) cells ≡ countIsSound l cells
+  unfolding countSound countIsSound roomOf
+  layout-count = refl

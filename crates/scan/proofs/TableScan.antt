@@ -1,6 +1,7 @@
 -- A table's soundness from its count's and its rows', over any lawful layout: what the test of the count says of the cells, and what is left to test after it.
 -- Assumes nothing.
-use Prim.Native.Nat.{_+_, _*_, _≤_, _^_, _<_}
+use Prim.Native.Nat.{_≤_, _^_, _<_}
+use native.Mathlib.Omega.{arith}
 use mathlib.Core.Path.{_≡_}
 use mathlib.Core.Bool.{Bool, true, false}
 use mathlib.Core.List.{List}
@@ -13,18 +14,22 @@ use mir.Facts.{fits-natAbs}
 use mir.Syntax.{w64}
 use mir.Val.{Fits}
 use Rattle.rules.specs.Keyed.{Key}
-use Rattle.rules.specs.Layout.{Layout, countOf, countIsSound}
+use Rattle.rules.specs.Layout.{Layout, countOf, startOf, countIsSound}
 use Rattle.rules.specs.Tables.{soundTable}
 use Rattle.cells.specs.Lawful.{Lawful}
-use Rattle.cells.proofs.Count.{length-rowsOf, sound-count, sound-rows-cells, rowsOf-count}
-use Rattle.scan.proofs.RowsScan.{rowsSound}
+use Rattle.cells.proofs.Count.{length-rowsOf, sound-header, sound-count, sound-rows-cells, rowsOf-count}
+use Rattle.scan.specs.Scan.{rowsRiseSound}
 
 module _ {Row : Type 0} (l : Layout Row) (lawful : Lawful l) (cells : List ℤ) (sound : countIsSound l cells ≡ true) where
+  -- there is a cell 0
+  pub count-there : 1 ≤ length cells
+  count-there = omega (arith, lawful .counted, sound-header l lawful cells sound)
+
   -- the count as a number of rows: it is not negative, and so many rows are within the cells
   pub count-casts : mag (countOf cells) < 2 ^ 63 → T (nonNeg (countOf cells)) × Fits w64 (natAbs (countOf cells))
   count-casts h = (rw (sound-count l lawful cells sound) tt, fits-natAbs tt (sfits-of {w = w64} {z = countOf cells} h))
 
-  pub counted-rows-within : 1 + natAbs (countOf cells) * l .width ≤ length cells
+  pub counted-rows-within : startOf l (natAbs (countOf cells)) ≤ length cells
   counted-rows-within = rw (length-rowsOf l cells) at (sound-rows-cells l lawful cells sound)
 
 module _ {Row : Type 0} (l : Layout Row) (key : Row → Key) (soundRow : Row → Bool) (cells : List ℤ) where
@@ -33,7 +38,6 @@ module _ {Row : Type 0} (l : Layout Row) (key : Row → Key) (soundRow : Row →
   unsound-count e = rw e
 
   -- with a sound count, the rows decide
-  pub rows-decide : Lawful l → countIsSound l cells ≡ true
-      → rowsSound key soundRow (l .get) (l .width) (natAbs (countOf cells)) 1 cells ≡ soundTable l key soundRow cells
+  pub rows-decide : countIsSound l cells ≡ true → rowsRiseSound l key soundRow (natAbs (countOf cells)) cells ≡ soundTable l key soundRow cells
   unfolding soundTable
-  rows-decide lawful e = rw (e, rowsOf-count l lawful cells)
+  rows-decide e = rw (e, rowsOf-count l cells)

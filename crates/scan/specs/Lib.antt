@@ -1,1 +1,1 @@
-pub mod Count
+pub mod Scan

@@ -1,13 +1,15 @@
 // A row read into its struct, and a row's cells.
 use rules::Position;
 use rules::Record;
+use rules::layout::POSITION_WIDTH;
+use rules::layout::RECORD_WIDTH;
 ghost use mathlib.Core.Path.{_≡_};
 ghost use Prim.Native.Nat.{_+_, _≤_};
 ghost use lib.ListN.{length};
-ghost use Rattle.rules.specs.Tables.{recordAt, recordCells, positionAt, positionCells};
+ghost use Rattle.rules.specs.Tables.{recordAt, recordCells, positionAt, positionCells, recordsLayout, positionsLayout};
 
 pub fn record_at(cells: &[i64], at: usize) -> Record
-    requires { ⌜ at + 13 ≤ length (now cells) ⌝ }
+    requires { ⌜ at + recordsLayout .width ≤ length (now cells) ⌝ }
     ensures { λ r. ⌜ r ≡ recordAt (now (cells .entry)) at ⌝ }
 {
     Record {
@@ -28,7 +30,7 @@ pub fn record_at(cells: &[i64], at: usize) -> Record
 }
 
 pub fn position_at(cells: &[i64], at: usize) -> Position
-    requires { ⌜ at + 5 ≤ length (now cells) ⌝ }
+    requires { ⌜ at + positionsLayout .width ≤ length (now cells) ⌝ }
     ensures { λ r. ⌜ r ≡ positionAt (now (cells .entry)) at ⌝ }
 {
     Position {
@@ -40,7 +42,7 @@ pub fn position_at(cells: &[i64], at: usize) -> Position
     }
 }
 
-pub fn record_cells(r: Record) -> [i64; 13]
+pub fn record_cells(r: Record) -> [i64; RECORD_WIDTH]
     ensures { λ c. ⌜ c ≡ recordCells r ⌝ }
 {
     [
@@ -60,7 +62,7 @@ pub fn record_cells(r: Record) -> [i64; 13]
     ]
 }
 
-pub fn position_cells(p: Position) -> [i64; 5]
+pub fn position_cells(p: Position) -> [i64; POSITION_WIDTH]
     ensures { λ c. ⌜ c ≡ positionCells p ⌝ }
 {
     [p.account, p.series, p.long, p.short, p.cash]

@@ -2,37 +2,41 @@
 use super::rows;
 use rules::Position;
 use rules::Record;
+use rules::layout::MOST_POSITIONS;
+use rules::layout::MOST_RECORDS;
+use rules::layout::POSITION_WIDTH;
+use rules::layout::POSITIONS_HEADER;
+use rules::layout::RECORD_WIDTH;
+use rules::layout::RECORDS_HEADER;
 ghost use mathlib.Core.Path.{_≡_};
-ghost use mathlib.Core.Bool.{_&&_};
-ghost use mathlib.Core.List.{map};
-ghost use Prim.Native.Nat.{_+_, _*_, _≤_, _<_};
+ghost use Prim.Native.Nat.{_≤_, _<_};
 ghost use lib.ListN.{length};
-ghost use Rattle.rules.specs.Keyed.{rising};
-ghost use Rattle.rules.specs.Refusal.{allOf};
 ghost use Rattle.rules.specs.Rows.{recordKey, positionKey, soundRecord, soundPosition};
-ghost use Rattle.rules.specs.Layout.{decode};
-ghost use Rattle.rules.specs.Tables.{recordAt, positionAt, soundRecords, soundPositions};
-ghost use Rattle.scan.specs.Count.{roomFor, countSound};
+ghost use Rattle.rules.specs.Layout.{roomFor, startOf};
+ghost use Rattle.rules.specs.Tables.{recordsLayout, positionsLayout, soundRecords, soundPositions};
+ghost use Rattle.scan.specs.Scan.{countSound, rowsRiseSound};
 
-pub fn room_for(width: usize, most: usize, cells: usize) -> usize
+// How many whole rows fit into so many cells, at most `most`.
+pub fn room_for(header: usize, width: usize, most: usize, cells: usize) -> usize
     requires { ⌜ 0 < width ⌝ }
-    ensures { λ r. ⌜ r ≡ roomFor width most cells ⌝ }
+    ensures { λ r. ⌜ r ≡ roomFor header width most cells ⌝ }
 {
-    if cells == 0 {
+    if cells < header {
         return 0;
     }
-    let whole = (cells - 1) / width;
+    let whole = (cells - header) / width;
     if whole < most { whole } else { most }
 }
 
-fn count_sound(cells: &[i64], width: usize, most: usize) -> bool
-    requires { ⌜ (0 < width) × (most ≤ 4096) ⌝ }
-    ensures { λ r. ⌜ r ≡ countSound width most (now (cells .entry)) ⌝ }
+// The slice has a header, and the count lies between 0 and the room.
+fn count_sound(cells: &[i64], header: usize, width: usize, most: usize) -> bool
+    requires { ⌜ (1 ≤ header) × (0 < width) × (most ≤ 4096) ⌝ }
+    ensures { λ r. ⌜ r ≡ countSound header width most (now (cells .entry)) ⌝ }
 {
-    if cells.len() == 0 {
+    if cells.len() < header {
         return false;
     }
-    let room = room_for(width, most, cells.len()) as i64;
+    let room = room_for(header, width, most, cells.len()) as i64;
     figures::in_range(0, room, cells[0])
 }
 
@@ -94,44 +98,63 @@ pub fn sound_position(p: Position) -> bool
     figures::in_range(-1_000_000_000_000_000, 1_000_000_000_000_000, p.cash)
 }
 
+// The key of the row after the one at a cell.
+const NEXT_ID: usize = RECORD_WIDTH;
+
+const NEXT_SUFFIX: usize = RECORD_WIDTH + 1;
+
+const NEXT_ACCOUNT: usize = POSITION_WIDTH;
+
+const NEXT_SERIES: usize = POSITION_WIDTH + 1;
+
 fn record_rows_sound(cells: &[i64], count: usize) -> bool
-    requires { ⌜ 1 + count * 13 ≤ length (now cells) ⌝ }
-    ensures { λ r. ⌜ r ≡ (rising recordKey (decode recordAt 13 count 1 (now (cells .entry))) && allOf (map soundRecord (decode recordAt 13 count 1 (now (cells .entry))))) ⌝ }
+    requires { ⌜ startOf recordsLayout count ≤ length (now cells) ⌝ }
+    ensures { λ r. ⌜ r ≡ rowsRiseSound recordsLayout recordKey soundRecord count (now (cells .entry)) ⌝ }
 {
     let mut left = count;
-    let mut at = 1;
+    let mut at = RECORDS_HEADER;
     while 0 < left {
         if !sound_record(rows::record_at(cells, at)) {
             return false;
         }
         if 1 < left {
-            if !lookup::key_below(cells[at], cells[at + 1], cells[at + 13], cells[at + 14]) {
+            if !lookup::key_below(
+                cells[at],
+                cells[at + 1],
+                cells[at + NEXT_ID],
+                cells[at + NEXT_SUFFIX],
+            ) {
                 return false;
             }
         }
         left -= 1;
-        at += 13;
+        at += RECORD_WIDTH;
     }
     true
 }
 
 fn position_rows_sound(cells: &[i64], count: usize) -> bool
-    requires { ⌜ 1 + count * 5 ≤ length (now cells) ⌝ }
-    ensures { λ r. ⌜ r ≡ (rising positionKey (decode positionAt 5 count 1 (now (cells .entry))) && allOf (map soundPosition (decode positionAt 5 count 1 (now (cells .entry))))) ⌝ }
+    requires { ⌜ startOf positionsLayout count ≤ length (now cells) ⌝ }
+    ensures { λ r. ⌜ r ≡ rowsRiseSound positionsLayout positionKey soundPosition count (now (cells .entry)) ⌝ }
 {
     let mut left = count;
-    let mut at = 1;
+    let mut at = POSITIONS_HEADER;
     while 0 < left {
         if !sound_position(rows::position_at(cells, at)) {
             return false;
         }
         if 1 < left {
-            if !lookup::key_below(cells[at], cells[at + 1], cells[at + 5], cells[at + 6]) {
+            if !lookup::key_below(
+                cells[at],
+                cells[at + 1],
+                cells[at + NEXT_ACCOUNT],
+                cells[at + NEXT_SERIES],
+            ) {
                 return false;
             }
         }
         left -= 1;
-        at += 5;
+        at += POSITION_WIDTH;
     }
     true
 }
@@ -140,7 +163,7 @@ fn position_rows_sound(cells: &[i64], count: usize) -> bool
 pub fn records_sound(cells: &[i64]) -> bool
     ensures { λ r. ⌜ r ≡ soundRecords (now (cells .entry)) ⌝ }
 {
-    if !count_sound(cells, 13, 4096) {
+    if !count_sound(cells, RECORDS_HEADER, RECORD_WIDTH, MOST_RECORDS) {
         return false;
     }
     let count = cells[0] as usize;
@@ -151,7 +174,7 @@ pub fn records_sound(cells: &[i64]) -> bool
 pub fn positions_sound(cells: &[i64]) -> bool
     ensures { λ r. ⌜ r ≡ soundPositions (now (cells .entry)) ⌝ }
 {
-    if !count_sound(cells, 5, 1024) {
+    if !count_sound(cells, POSITIONS_HEADER, POSITION_WIDTH, MOST_POSITIONS) {
         return false;
     }
     let count = cells[0] as usize;

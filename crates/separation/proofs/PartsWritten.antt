@@ -14,8 +14,8 @@ use Rattle.integers.proofs.Linear.{zarith, +-lin}
 use Rattle.rules.specs.Figures.{separationKind}
 use Rattle.rules.specs.Rows.{adjustableRecord}
 use Rattle.rules.specs.Separation.{partRecords}
-use Rattle.rules.specs.Layout.{encode}
-use Rattle.rules.specs.Tables.{recordCells}
+use Rattle.rules.specs.Layout.{encode, startOf}
+use Rattle.rules.specs.Tables.{recordCells, recordsLayout}
 use Rattle.rules.specs.declared.Record.{Record}
 use Rattle.shifter.specs.Insertion.{filled, replaced}
 use Rattle.tables.proofs.NewRows.{numbered, records-filled}
@@ -27,14 +27,14 @@ partRecord r suffix q = adjustableRecord r suffix separationKind (r .account) q 
 
 -- The rows of these parts written from a place on.
 abbrev pub written : Record → ℤ → List ℤ → ℕ → List ℤ → List ℤ
-written r suffix parts place cells = filled 13 (encode recordCells (partRecords r suffix parts)) place cells
+written r suffix parts place cells = filled (recordsLayout .header) (recordsLayout .width) (encode recordCells (partRecords r suffix parts)) place cells
 
 pub none-written : (r : Record) (suffix : ℤ) (place : ℕ) (cells : List ℤ) → written r suffix [] place cells ≡ cells
 unfolding partRecords encode filled
-none-written r suffix place cells = rw (add-zero (1 + place * 13)) (take-append-drop (1 + place * 13) cells)
+none-written r suffix place cells = rw (add-zero (startOf recordsLayout place)) (take-append-drop (startOf recordsLayout place) cells)
 
-pub part-written : (r : Record) (suffix q : ℤ) (rest : List ℤ) (place : ℕ) (cells : List ℤ) → 1 + place * 13 ≤ length cells
-    → written r suffix (q ∷ rest) place cells ≡ written r (suffix +ℤ pos 1) rest (place + 1) (replaced (recordCells (partRecord r suffix q)) place cells)
+pub part-written : (r : Record) (suffix q : ℤ) (rest : List ℤ) (place : ℕ) (cells : List ℤ) → startOf recordsLayout place ≤ length cells
+    → written r suffix (q ∷ rest) place cells ≡ written r (suffix +ℤ pos 1) rest (place + 1) (replaced (recordsLayout .header) (recordCells (partRecord r suffix q)) place cells)
 unfolding partRecords
 part-written r suffix q rest place cells fits = records-filled (partRecord r suffix q) (partRecords r (suffix +ℤ pos 1) rest) place cells fits
 
@@ -60,11 +60,11 @@ written-start before place r first parts = record {
 }
 
 module _ (before : List ℤ) (place : ℕ) (r : Record) (first : ℤ) (parts now : List ℤ) (suffix : ℤ) (i : ℕ) (so-far : WrittenSoFar before place r first parts now suffix i) where
-  module _ (fits : 1 + (place + length parts) * 13 ≤ length before) (more : i < length parts) where
+  module _ (fits : startOf recordsLayout (place + length parts) ≤ length before) (more : i < length parts) where
     abbrev q : ℤ
     q = getD parts i (pos 0)
 
-    pub row-fits : 1 + (place + i + 1) * 13 ≤ length now
+    pub row-fits : startOf recordsLayout (place + i + 1) ≤ length now
     row-fits = omega (arith, so-far .same-size)
 
     pub suffix-fits : first ≤ℤ pos 65536 → pos 0 ≤ℤ first → length parts ≤ 65535 → SFits w64 (suffix +ℤ pos 1)
@@ -72,7 +72,7 @@ module _ (before : List ℤ) (place : ℕ) (r : Record) (first : ℤ) (parts now
         let e : suffix ≡ first +ℤ pos i = so-far .suffix-is in
         omega (zarith, more, few, +-lin first (pos i), +-lin suffix (pos 1))
 
-    pub written-next : (after : List ℤ) → after ≡ replaced (recordCells (partRecord r suffix q)) (place + i) now → length after ≡ length now
+    pub written-next : (after : List ℤ) → after ≡ replaced (recordsLayout .header) (recordCells (partRecord r suffix q)) (place + i) now → length after ≡ length now
         → WrittenSoFar before place r first parts after (suffix +ℤ pos 1) (i + 1)
     written-next after e size =
         let rest : List ℤ = drop (i + 1) parts in

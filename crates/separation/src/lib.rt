@@ -14,8 +14,8 @@ ghost use lib.Signed.{_≤ℤ_};
 ghost use Rattle.rules.specs.Figures.{validQuantity};
 ghost use Rattle.rules.specs.Refusal.{allOf};
 ghost use Rattle.rules.specs.Request as Request;
-ghost use Rattle.rules.specs.Layout.{encode};
-ghost use Rattle.rules.specs.Tables.{recordCells, soundRecords, soundPositions, tablesOf};
+ghost use Rattle.rules.specs.Layout.{encode, startOf};
+ghost use Rattle.rules.specs.Tables.{recordCells, recordsLayout, soundRecords, soundPositions, tablesOf};
 ghost use Rattle.rules.specs.Handle.{handle, answered};
 ghost use Rattle.rules.specs.Separation.{sumOf, separationFigures, partRecords};
 ghost use Rattle.shifter.specs.Insertion.{filled};
@@ -112,8 +112,8 @@ fn verdict(
 
 // One adjustable row a part, in the order given, from row `place` on and with successive suffixes from `first` on.
 fn write_parts(records: &mut [i64], place: usize, r: Record, first: i64, parts: &[i64])
-    requires { ⌜ (1 + (place + length (now parts)) * 13 ≤ length (now records)) × (pos 0 ≤ℤ first) × (first ≤ℤ pos 65536) × (length (now parts) ≤ 65535) ⌝ }
-    ensures { λ done. ⌜ now (records .exit) ≡ filled 13 (encode recordCells (partRecords r first (now (parts .entry)))) place (now (records .entry)) ⌝ }
+    requires { ⌜ (startOf recordsLayout (place + length (now parts)) ≤ length (now records)) × (pos 0 ≤ℤ first) × (first ≤ℤ pos 65536) × (length (now parts) ≤ 65535) ⌝ }
+    ensures { λ done. ⌜ now (records .exit) ≡ filled (recordsLayout .header) (recordsLayout .width) (encode recordCells (partRecords r first (now (parts .entry)))) place (now (records .entry)) ⌝ }
 {
     let mut suffix = first;
     let account = r.account;

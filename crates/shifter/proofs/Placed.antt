@@ -10,15 +10,16 @@ use mir.Syntax.{w64}
 use mir.Val.{toZ}
 use lib.Seq.{take-all, take-add, drop-at, drop-drop, length-take-le}
 use borrow.Rule.Slice.PartMut.{midOf, putMid}
+use Rattle.rules.specs.Layout.{afterCount}
+use Rattle.cells.proofs.Count.{header-then}
 use Rattle.shifter.specs.Insertion.{inserted, replaced, gapped}
 
 -- A row of a table with `count` rows, and the cells before and after it, as numbers of cells.
-module _ (width count place : ℕ) (below : place ≤ count) where
-  pub rows-split : count * width ≡ place * width + (count - place) * width
-  rows-split = let e : count ≡ place + (count - place) = omega arith in omega (arith, ap (λ x. x * width) e)
+pub rows-split : (width count place : ℕ) → place ≤ count → count * width ≡ place * width + (count - place) * width
+rows-split width count place below = let e : count ≡ place + (count - place) = omega arith in omega (arith, ap (λ x. x * width) e)
 
-  pub row-end : 1 + place * width + ((count - place) * width + width) ≡ 1 + suc count * width
-  row-end = omega (arith, rows-split)
+row-end : (header width count place : ℕ) → place ≤ count → header + place * width + ((count - place) * width + width) ≡ header + suc count * width
+row-end header width count place below = omega (arith, rows-split width count place below)
 
 module _ {A : Type 0} where
   -- Moved up by a row, then the row written over the first cells.
@@ -39,9 +40,12 @@ module _ {A : Type 0} where
       let none : drop (length cells - at) (drop at cells) ≡ [] = drop-of-length-le (drop at cells) past in
       rw (none, append-nil) refl
 
-  set-first : (n : ℕ) (cells rest : List A) (a : A) → 1 ≤ length cells → set (take (1 + n) cells ++ rest) 0 a ≡ a ∷ (take n (drop 1 cells) ++ rest)
-  set-first n [] rest a some = absurd (omega arith)
-  set-first n (x ∷ cells) rest a some = let e : 1 + n ≡ suc n = omega arith in rw e refl
+-- The count set, of a table whose first cells are as they were.
+set-count : (header n : ℕ) (cells rest : List ℤ) (count : ℤ) → 1 ≤ header → header ≤ length cells
+    → set (take (header + n) cells ++ rest) 0 count ≡ count ∷ (afterCount header cells ++ (take n (drop header cells) ++ rest))
+set-count header n cells rest count one some =
+    ap (λ (c : List ℤ). set (c ++ rest) 0 count) (sym (header-then header cells n one some))
+    ∙ ap (λ (c : List ℤ). count ∷ c) (append-assoc (afterCount header cells) (take n (drop header cells)) rest)
 
 -- The count as a cell.
 pub count-cell : {n : ℕ} (count : ℕ) → n ≡ suc count → count < 4096 → toZ w64 n ≡ pos (suc count)
@@ -51,42 +55,53 @@ pub raised-cell : (count added : ℕ) → count + added ≤ 4096 → toZ w64 (co
 raised-cell count added below = toZ-pos w64 (omega arith)
 
 -- `shift_in` on the part from row `place` on, and the count set: the row is inserted.
-pub insertion : (cells row part : List ℤ) (count place : ℕ) (raised : ℤ) → raised ≡ pos (suc count) → place ≤ count → 1 + suc count * length row ≤ length cells
-    → part ≡ row ++ (take ((count - place) * length row) (midOf (1 + place * length row) (length cells - (1 + place * length row)) cells)
-    ++ drop ((count - place) * length row + length row) (midOf (1 + place * length row) (length cells - (1 + place * length row)) cells))
-    → set (putMid (1 + place * length row) (length cells - (1 + place * length row)) cells part) 0 raised ≡ inserted row count place cells
+pub insertion : (header : ℕ) (cells row part : List ℤ) (count place : ℕ) (raised : ℤ) → raised ≡ pos (suc count) → 1 ≤ header → place ≤ count
+    → header + suc count * length row ≤ length cells
+    → part ≡ row ++ (take ((count - place) * length row) (midOf (header + place * length row) (length cells - (header + place * length row)) cells)
+    ++ drop ((count - place) * length row + length row) (midOf (header + place * length row) (length cells - (header + place * length row)) cells))
+    → set (putMid (header + place * length row) (length cells - (header + place * length row)) cells part) 0 raised ≡ inserted header row count place cells
 unfolding inserted
-insertion cells row part count place raised counted below fits e =
-    let at : ℕ = 1 + place * length row in
-    rw (counted, handed-back at cells part, set-first (place * length row) cells part (pos (suc count)) (omega arith), e, to-the-end at cells, drop-drop, row-end (length row) count place below) refl
+insertion header cells row part count place raised counted one below fits e =
+    let at : ℕ = header + place * length row in
+    rw (
+      counted,
+      handed-back at cells part,
+      set-count header (place * length row) cells part (pos (suc count)) one (omega arith),
+      e,
+      to-the-end at cells,
+      drop-drop,
+      row-end header (length row) count place below,
+    ) refl
 
 -- The cells up to a row and those of the rows after it that stay are the cells up to the last of these.
-stay : (width place added : ℕ) (cells : List ℤ) → take (place * width) (drop 1 cells) ++ take (added * width) (drop (1 + place * width) cells) ≡ take ((place + added) * width) (drop 1 cells)
-stay width place added cells =
+stay : (header width place added : ℕ) (cells : List ℤ)
+    → take (place * width) (drop header cells) ++ take (added * width) (drop (header + place * width) cells) ≡ take ((place + added) * width) (drop header cells)
+stay header width place added cells =
     let e : (place + added) * width ≡ place * width + added * width = omega arith in
-    rw (e, take-add (place * width) (added * width) (drop 1 cells), drop-drop) refl
+    rw (e, take-add (place * width) (added * width) (drop header cells), drop-drop) refl
 
 -- `move_up` on the part from row `place` on, and the count set: there is a gap.
-pub gap : (cells part : List ℤ) (width count place added : ℕ) (raised : ℤ) → raised ≡ pos (count + added) → place ≤ count → 1 + (count + added) * width ≤ length cells
-    → part ≡ take (added * width) (midOf (1 + place * width) (length cells - (1 + place * width)) cells)
-    ++ (take ((count - place) * width) (midOf (1 + place * width) (length cells - (1 + place * width)) cells)
-    ++ drop ((count - place) * width + added * width) (midOf (1 + place * width) (length cells - (1 + place * width)) cells))
-    → set (putMid (1 + place * width) (length cells - (1 + place * width)) cells part) 0 raised ≡ gapped width count place added cells
+pub gap : (header : ℕ) (cells part : List ℤ) (width count place added : ℕ) (raised : ℤ) → raised ≡ pos (count + added) → 1 ≤ header → place ≤ count
+    → header + (count + added) * width ≤ length cells
+    → part ≡ take (added * width) (midOf (header + place * width) (length cells - (header + place * width)) cells)
+    ++ (take ((count - place) * width) (midOf (header + place * width) (length cells - (header + place * width)) cells)
+    ++ drop ((count - place) * width + added * width) (midOf (header + place * width) (length cells - (header + place * width)) cells))
+    → set (putMid (header + place * width) (length cells - (header + place * width)) cells part) 0 raised ≡ gapped header width count place added cells
 unfolding gapped
-gap cells part width count place added raised counted below fits e =
-    let at : ℕ = 1 + place * width in
-    let past : at + ((count - place) * width + added * width) ≡ 1 + (count + added) * width = omega (arith, rows-split width count place below) in
-    let rest : List ℤ = take ((count - place) * width) (drop at cells) ++ drop (1 + (count + added) * width) cells in
-    rw (counted, handed-back at cells part, set-first (place * width) cells part (pos (count + added)) (omega arith), e, to-the-end at cells, drop-drop, past)
-    (ap (λ (c : List ℤ). pos (count + added) ∷ c)
-    (sym (append-assoc (take (place * width) (drop 1 cells)) (take (added * width) (drop at cells)) rest) ∙ ap (λ (c : List ℤ). c ++ rest) (stay width place added cells)))
+gap header cells part width count place added raised counted one below fits e =
+    let at : ℕ = header + place * width in
+    let past : at + ((count - place) * width + added * width) ≡ header + (count + added) * width = omega (arith, rows-split width count place below) in
+    let rest : List ℤ = take ((count - place) * width) (drop at cells) ++ drop (header + (count + added) * width) cells in
+    rw (counted, handed-back at cells part, set-count header (place * width) cells part (pos (count + added)) one (omega arith), e, to-the-end at cells, drop-drop, past)
+    (ap (λ (c : List ℤ). pos (count + added) ∷ (afterCount header cells ++ c))
+    (sym (append-assoc (take (place * width) (drop header cells)) (take (added * width) (drop at cells)) rest) ∙ ap (λ (c : List ℤ). c ++ rest) (stay header width place added cells)))
 
 -- `overwrite` on the part from row `place` on: the row is replaced.
-pub replacement : (cells row part : List ℤ) (place : ℕ) → 1 + suc place * length row ≤ length cells
-    → part ≡ row ++ drop (length row) (midOf (1 + place * length row) (length cells - (1 + place * length row)) cells)
-    → putMid (1 + place * length row) (length cells - (1 + place * length row)) cells part ≡ replaced row place cells
+pub replacement : (header : ℕ) (cells row part : List ℤ) (place : ℕ) → header + suc place * length row ≤ length cells
+    → part ≡ row ++ drop (length row) (midOf (header + place * length row) (length cells - (header + place * length row)) cells)
+    → putMid (header + place * length row) (length cells - (header + place * length row)) cells part ≡ replaced header row place cells
 unfolding replaced
-replacement cells row part place fits e =
-    let at : ℕ = 1 + place * length row in
-    let past : at + length row ≡ 1 + suc place * length row = omega arith in
+replacement header cells row part place fits e =
+    let at : ℕ = header + place * length row in
+    let past : at + length row ≡ header + suc place * length row = omega arith in
     rw (handed-back at cells part, e, to-the-end at cells, drop-drop, past) refl

@@ -12,11 +12,11 @@ use Rattle.shifter.specs.Insertion.{inserted, replaced}
 
 module _ {Row : Type 0} (l : Layout Row) (lawful : Lawful l) (cells : List ℤ) (sound : countIsSound l cells ≡ true) where
   pub inserted-written : (place : ℕ) (new : Row) → place ≤ length (rowsOf l cells)
-      → inserted (l .put new) (length (rowsOf l cells)) place cells ≡ write l cells (take place (rowsOf l cells) ++ (new ∷ drop place (rowsOf l cells)))
+      → inserted (l .header) (l .put new) (length (rowsOf l cells)) place cells ≡ write l cells (take place (rowsOf l cells) ++ (new ∷ drop place (rowsOf l cells)))
   unfolding inserted
   inserted-written place new h = rw (lawful .put-length new) (sym (insert-row l lawful cells sound place new h))
 
   pub replaced-written : (place : ℕ) (new : Row) → place < length (rowsOf l cells)
-      → replaced (l .put new) place cells ≡ write l cells (take place (rowsOf l cells) ++ (new ∷ drop (suc place) (rowsOf l cells)))
+      → replaced (l .header) (l .put new) place cells ≡ write l cells (take place (rowsOf l cells) ++ (new ∷ drop (suc place) (rowsOf l cells)))
   unfolding replaced
   replaced-written place new h = rw (lawful .put-length new) (sym (replace-row l lawful cells sound place new h))

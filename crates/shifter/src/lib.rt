@@ -101,24 +101,31 @@ pub fn shift_in(tail: &mut [i64], used: usize, row: &[i64])
     overwrite(tail, row);
 }
 
-// A row inserted as row `place` of a table with `count` rows, and the count raised.
-pub fn insert_row(cells: &mut [i64], count: usize, place: usize, row: &[i64])
-    requires { ⌜ (place ≤ count) × (1 + suc count * length (now row) ≤ length (now cells)) × (count < 4096) ⌝ }
-    ensures { λ r. ⌜ now (cells .exit) ≡ inserted (now (row .entry)) count place (now (cells .entry)) ⌝ }
+// A row inserted as row `place` of a table with `count` rows, and the count raised. `header` is the number of cells before the first row.
+pub fn insert_row(cells: &mut [i64], header: usize, count: usize, place: usize, row: &[i64])
+    requires { ⌜ (1 ≤ header) × (place ≤ count) × (header + suc count * length (now row) ≤ length (now cells)) × (count < 4096) ⌝ }
+    ensures { λ r. ⌜ now (cells .exit) ≡ inserted header (now (row .entry)) count place (now (cells .entry)) ⌝ }
 {
     let width = row.len();
-    let at = 1 + place * width;
+    let at = header + place * width;
     let used = (count - place) * width;
     shift_in(&mut cells[at..], used, row);
     cells[0] = (count + 1) as i64;
 }
 
 // Room for `added` rows before row `place` of a table with `count` rows, and the count raised. The cells of the gap are still to be written.
-pub fn open_gap(cells: &mut [i64], count: usize, place: usize, added: usize, width: usize)
-    requires { ⌜ (place ≤ count) × (1 + (count + added) * width ≤ length (now cells)) × (count + added ≤ 4096) ⌝ }
-    ensures { λ r. ⌜ now (cells .exit) ≡ gapped width count place added (now (cells .entry)) ⌝ }
+pub fn open_gap(
+    cells: &mut [i64],
+    header: usize,
+    width: usize,
+    count: usize,
+    place: usize,
+    added: usize,
+)
+    requires { ⌜ (1 ≤ header) × (place ≤ count) × (header + (count + added) * width ≤ length (now cells)) × (count + added ≤ 4096) ⌝ }
+    ensures { λ r. ⌜ now (cells .exit) ≡ gapped header width count place added (now (cells .entry)) ⌝ }
 {
-    let at = 1 + place * width;
+    let at = header + place * width;
     let used = (count - place) * width;
     let by = added * width;
     move_up(&mut cells[at..], used, by);
@@ -126,10 +133,10 @@ pub fn open_gap(cells: &mut [i64], count: usize, place: usize, added: usize, wid
 }
 
 // The cells of row `place` written anew.
-pub fn replace_row(cells: &mut [i64], place: usize, row: &[i64])
-    requires { ⌜ 1 + suc place * length (now row) ≤ length (now cells) ⌝ }
-    ensures { λ r. ⌜ now (cells .exit) ≡ replaced (now (row .entry)) place (now (cells .entry)) ⌝ }
+pub fn replace_row(cells: &mut [i64], header: usize, place: usize, row: &[i64])
+    requires { ⌜ header + suc place * length (now row) ≤ length (now cells) ⌝ }
+    ensures { λ r. ⌜ now (cells .exit) ≡ replaced header (now (row .entry)) place (now (cells .entry)) ⌝ }
 {
-    let at = 1 + place * row.len();
+    let at = header + place * row.len();
     overwrite(&mut cells[at..], row);
 }

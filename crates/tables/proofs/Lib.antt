@@ -1,7 +1,7 @@
-pub mod AdjustedRow
 pub mod AroundPlace
 pub mod NewRows
 pub mod RowFits
 pub mod RowPut
+pub mod RowStatus
 pub mod RowThere
 pub mod StatusSet

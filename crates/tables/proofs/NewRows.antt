@@ -12,11 +12,11 @@ use lib.Signed.{_≤ℤ_, ≤ℤ-refl}
 use Rattle.integers.proofs.Linear.{zarith, +-lin}
 use Rattle.rules.specs.Keyed.{Key, below, rising, find, upsertAll}
 use Rattle.rules.specs.Rows.{keyOf, recordKey}
-use Rattle.rules.specs.Layout.{encode, roomOf, rowsOf, write}
+use Rattle.rules.specs.Layout.{encode, startOf, roomOf, rowsOf, write}
 use Rattle.rules.specs.Tables.{recordsLayout, recordCells, soundRecords}
 use Rattle.rules.specs.declared.Record.{Record}
 use Rattle.cells.specs.SoundTable.{SoundRecords}
-use Rattle.cells.proofs.Count.{length-rowsOf, room-most, fits-cells}
+use Rattle.cells.proofs.Count.{room-most, fits-cells}
 use Rattle.cells.proofs.RowCells.{records-lawful, length-recordCells}
 use Rattle.cells.proofs.SoundCells.{records-known}
 use Rattle.keys.proofs.Split.{and-intro}
@@ -24,7 +24,7 @@ use Rattle.keys.proofs.KeyOrder.{below-minor}
 use Rattle.keys.proofs.Clauses.{belowAll}
 use Rattle.keys.proofs.Runs.{allBelow, allBelow-higher, Between, upsertAll-run}
 use Rattle.soundness.proofs.NamedRecord.{nextOf, free-from-next}
-use Rattle.lookup.specs.Lookup.{placeFrom, rowPlace}
+use Rattle.lookup.specs.Lookup.{placeFrom, placeIn}
 use Rattle.lookup.proofs.RowPlaced.{place-within}
 use Rattle.lookup.proofs.TableLookup.{records-first, table-keys}
 use Rattle.shifter.specs.Insertion.{replaced, gapped, filled}
@@ -62,36 +62,33 @@ numbered-between id next (x ∷ rest) pre post n b a free =
     )
 
 module _ (cells : List ℤ) (sound : soundRecords cells ≡ true) where
-  placed : (n : ℕ) → n ≡ length (rowsOf recordsLayout cells) → (k : Key) (place : ℕ) → place ≡ rowPlace 13 k n cells
-      → place ≡ placeFrom 0 k (map recordKey (rowsOf recordsLayout cells))
-  placed n count k place at =
-      at
-      ∙ ap (λ (m : ℕ). rowPlace 13 k m cells) (count ∙ length-rowsOf recordsLayout cells)
-      ∙ ap (placeFrom 0 k) (table-keys recordsLayout recordKey records-first cells)
+  placed : (k : Key) (place : ℕ) → place ≡ placeIn recordsLayout k cells → place ≡ placeFrom 0 k (map recordKey (rowsOf recordsLayout cells))
+  placed k place at = at ∙ ap (placeFrom 0 k) (table-keys recordsLayout recordKey records-first cells)
 
   -- What is asked of a gap for so many rows at the place of a key.
   pub gap-fits : (n : ℕ) → n ≡ length (rowsOf recordsLayout cells) → (k : Key) (added : ℕ)
-      → length (rowsOf recordsLayout cells) + added ≤ roomOf recordsLayout cells → (place : ℕ) → place ≡ rowPlace 13 k n cells
-      → (place ≤ n) × (1 + (n + added) * 13 ≤ length cells) × (n + added ≤ 4096)
+      → length (rowsOf recordsLayout cells) + added ≤ roomOf recordsLayout cells → (place : ℕ) → place ≡ placeIn recordsLayout k cells
+      → (1 ≤ recordsLayout .header) × (place ≤ n) × (startOf recordsLayout (n + added) ≤ length cells) × (n + added ≤ 4096)
   gap-fits n count k added room place at =
       let table : SoundRecords cells = records-known cells sound in
       let more : n + added ≤ roomOf recordsLayout cells = omega arith in (
-        omega (arith, placed n count k place at, place-within recordKey k (rowsOf recordsLayout cells)),
-        fits-cells recordsLayout records-lawful cells (n + added) (table .count-cell) more,
+        records-lawful .counted,
+        omega (arith, placed k place at, place-within recordKey k (rowsOf recordsLayout cells)),
+        fits-cells recordsLayout records-lawful cells (n + added) (table .header-within) more,
         omega (arith, room-most recordsLayout cells),
       )
 
   pub rows-filled : (id next : ℤ) (news : List Record) → nextOf (rowsOf recordsLayout cells) id ≤ℤ next → numbered id next news
       → length (rowsOf recordsLayout cells) + length news ≤ roomOf recordsLayout cells
-      → (place : ℕ) → place ≡ rowPlace 13 (keyOf id next) (length (rowsOf recordsLayout cells)) cells
-      → filled 13 (encode recordCells news) place (gapped 13 (length (rowsOf recordsLayout cells)) place (length news) cells)
+      → (place : ℕ) → place ≡ placeIn recordsLayout (keyOf id next) cells
+      → filled (recordsLayout .header) (recordsLayout .width) (encode recordCells news) place (gapped (recordsLayout .header) (recordsLayout .width) (length (rowsOf recordsLayout cells)) place (length news) cells)
       ≡ write recordsLayout cells (upsertAll recordKey news (rowsOf recordsLayout cells))
   rows-filled id next news free n room place at =
       let rows : List Record = rowsOf recordsLayout cells in
       let k : Key = keyOf id next in
       let table : SoundRecords cells = records-known cells sound in
-      let p : place ≡ placeFrom 0 k (map recordKey rows) = placed (length rows) refl k place at in
-      let fits : (place ≤ length rows) × (1 + (length rows + length news) * 13 ≤ length cells) × (length rows + length news ≤ 4096)
+      let p : place ≡ placeFrom 0 k (map recordKey rows) = placed k place at in
+      let fits : (1 ≤ recordsLayout .header) × (place ≤ length rows) × (startOf recordsLayout (length rows + length news) ≤ length cells) × (length rows + length news ≤ 4096)
       = gap-fits (length rows) refl k (length news) room place at in
       let absent : (s : ℤ) → next ≤ℤ s → find recordKey (keyOf id s) rows ≡ none = λ s h. free-from-next rows id s (omega zarith) in
       let pre : allBelow recordKey k (take place rows) ≡ true
@@ -100,15 +97,15 @@ module _ (cells : List ℤ) (sound : soundRecords cells ≡ true) where
       = subst (λ (m : ℕ). belowAll recordKey k (drop m rows) ≡ true) (sym p) (from-place recordKey k rows (table .rows-rise)) in
       let between : Between recordKey (take place rows) (drop place rows) news
       = numbered-between id next news (take place rows) (drop place rows) n pre post (λ s h. absent-past recordKey (keyOf id s) place rows (absent s h)) in
-      gap-written recordsLayout records-lawful cells (table .count-sound) place news (fits .0) (fits .1)
+      gap-written recordsLayout records-lawful cells (table .count-sound) place news (fits .1) (fits .2)
       ∙ ap (write recordsLayout cells)
       (sym (upsertAll-run recordKey news (take place rows) (drop place rows) (numbered-rise id next news n) between)
       ∙ ap (upsertAll recordKey news) (take-append-drop place rows))
 
 -- One record written in a row's place, and a run of records written one by one.
-pub record-filled : (x : Record) (place : ℕ) (cells : List ℤ) → filled 13 (recordCells x) place cells ≡ replaced (recordCells x) place cells
-record-filled x place cells = filled-row 13 (recordCells x) place cells (length-recordCells x)
+pub record-filled : (x : Record) (place : ℕ) (cells : List ℤ) → filled (recordsLayout .header) (recordsLayout .width) (recordCells x) place cells ≡ replaced (recordsLayout .header) (recordCells x) place cells
+record-filled x place cells = filled-row (recordsLayout .header) (recordsLayout .width) (recordCells x) place cells (length-recordCells x)
 
-pub records-filled : (x : Record) (rest : List Record) (place : ℕ) (cells : List ℤ) → 1 + place * 13 ≤ length cells
-    → filled 13 (encode recordCells (x ∷ rest)) place cells ≡ filled 13 (encode recordCells rest) (place + 1) (replaced (recordCells x) place cells)
+pub records-filled : (x : Record) (rest : List Record) (place : ℕ) (cells : List ℤ) → startOf recordsLayout place ≤ length cells
+    → filled (recordsLayout .header) (recordsLayout .width) (encode recordCells (x ∷ rest)) place cells ≡ filled (recordsLayout .header) (recordsLayout .width) (encode recordCells rest) (place + 1) (replaced (recordsLayout .header) (recordCells x) place cells)
 records-filled x rest place cells fits = rows-next recordsLayout records-lawful x rest place cells fits

@@ -20,9 +20,9 @@ use Rattle.lookup.proofs.TableLookup.{KeyFirst, table-found, table-absent, tabl
 
 -- A lookup over the counted rows that answers no row: the rules find none.
 pub absent-row : {A : Type 0} (l : Layout A) (key : A → Key) (first : KeyFirst l key) (cells : List ℤ) (k : Key) (n : ℕ) → n ≡ length (rowsOf l cells)
-    → Absent ≡ rowFound (l .width) k n cells → find key k (rowsOf l cells) ≡ none
+    → Absent ≡ rowFound (l .header) (l .width) k n cells → find key k (rowsOf l cells) ≡ none
 absent-row l key first cells k n count f =
-    table-absent l key first cells k (ap (λ (m : ℕ). rowFound (l .width) k m cells) (sym (count ∙ length-rowsOf l cells)) ∙ sym f)
+    table-absent l key first cells k (ap (λ (m : ℕ). rowFound (l .header) (l .width) k m cells) (sym (count ∙ length-rowsOf l cells)) ∙ sym f)
 
 -- Room for the rows and an absent one.
 pub room-for-one : {A : Type 0} (key : A → Key) (new : A) (rows : List A) {room : ℕ} → find key (key new) rows ≡ none
@@ -38,18 +38,19 @@ module _ {A : Type 0} (l : Layout A) (lawful : Lawful l) (key : A → Key) (firs
   wide : l .width ≡ length row
   wide = sym (ap length cells-of ∙ lawful .put-length new)
 
-  pub insertion-fits : l .most ≤ 4096 → length (rowsOf l cells) < roomOf l cells → (place : ℕ) → place ≡ rowPlace (l .width) k n cells
-      → (place ≤ n) × (1 + suc n * length row ≤ length cells) × (n < 4096)
+  pub insertion-fits : l .most ≤ 4096 → length (rowsOf l cells) < roomOf l cells → (place : ℕ) → place ≡ rowPlace (l .header) (l .width) k n cells
+      → (1 ≤ l .header) × (place ≤ n) × (l .header + suc n * length row ≤ length cells) × (n < 4096)
   insertion-fits small room place at =
-      let placed : place ≡ rowPlace (l .width) k (natAbs (countOf cells)) cells = at ∙ ap (λ (m : ℕ). rowPlace (l .width) k m cells) counted in
+      let placed : place ≡ rowPlace (l .header) (l .width) k (natAbs (countOf cells)) cells = at ∙ ap (λ (m : ℕ). rowPlace (l .header) (l .width) k m cells) counted in
       let more : suc n ≤ roomOf l cells = omega arith in (
+        lawful .counted,
         omega (arith, table-place l key first cells k),
-        subst (λ (w : ℕ). 1 + suc n * w ≤ length cells) wide (fits-cells l lawful cells (suc n) (table .count-cell) more),
+        subst (λ (w : ℕ). l .header + suc n * w ≤ length cells) wide (fits-cells l lawful cells (suc n) (table .header-within) more),
         omega (arith, room-most l cells),
       )
 
-  pub replacement-fits : (at : ℕ) → Row at ≡ rowFound (l .width) k n cells → 1 + suc at * length row ≤ length cells
+  pub replacement-fits : (at : ℕ) → Row at ≡ rowFound (l .header) (l .width) k n cells → l .header + suc at * length row ≤ length cells
   replacement-fits at f =
       let below : at < length (rowsOf l cells)
-      = table-found l key first cells k at (ap (λ (m : ℕ). rowFound (l .width) k m cells) (sym counted) ∙ sym f) .0 in
-      subst (λ (w : ℕ). 1 + suc at * w ≤ length cells) wide (omega (arith, table .rows-within, mul-le-mul-right (l .width) below))
+      = table-found l key first cells k at (ap (λ (m : ℕ). rowFound (l .header) (l .width) k m cells) (sym counted) ∙ sym f) .0 in
+      subst (λ (w : ℕ). l .header + suc at * w ≤ length cells) wide (omega (arith, table .rows-within, mul-le-mul-right (l .width) below))

@@ -9,7 +9,7 @@ use mathlib.Core.Option.{none, some}
 use lib.IntN.{ℤ, natAbs}
 use lib.ListN.{length}
 use Rattle.rules.specs.Keyed.{Key, find, upsert}
-use Rattle.rules.specs.Layout.{Layout, countOf, roomOf, rowsOf, write}
+use Rattle.rules.specs.Layout.{Layout, countOf, rowAt, roomOf, rowsOf, write}
 use Rattle.rules.specs.Tables.{soundTable}
 use Rattle.cells.specs.Lawful.{Lawful}
 use Rattle.cells.specs.SoundTable.{SoundTable}
@@ -32,46 +32,46 @@ module _ {A : Type 0} (l : Layout A) (lawful : Lawful l) (key : A → Key) (firs
   put-sound : out ≡ write l cells (upsert key new (rowsOf l cells)) → length (upsert key new (rowsOf l cells)) ≤ roomOf l cells → soundTable l key soundRow out ≡ true
   put-sound e fits =
       rw e
-      (sound-write l lawful key soundRow cells (upsert key new (rowsOf l cells)) (table .count-cell) fits
+      (sound-write l lawful key soundRow cells (upsert key new (rowsOf l cells)) (table .header-within) fits
       (upsert-rises key new (rowsOf l cells) (table .rows-rise))
       (all-upsert key soundRow new (rowsOf l cells) sound (table .rows-sound)))
 
   pub put-inserted : find key (key new) (rowsOf l cells) ≡ none → length (rowsOf l cells) < roomOf l cells
-      → (place : ℕ) → place ≡ rowPlace (l .width) (key new) n cells → out ≡ inserted row n place cells
+      → (place : ℕ) → place ≡ rowPlace (l .header) (l .width) (key new) n cells → out ≡ inserted (l .header) row n place cells
       → (out ≡ write l cells (upsert key new (rowsOf l cells))) × (soundTable l key soundRow out ≡ true)
   put-inserted absent room place at e = (written, put-sound written (omega (arith, upsert-adds key new (rowsOf l cells) absent)))
     where
       p : ℕ
-      p = rowPlace (l .width) (key new) (natAbs (countOf cells)) cells
+      p = rowPlace (l .header) (l .width) (key new) (natAbs (countOf cells)) cells
 
       placed : place ≡ p
-      placed = at ∙ ap (λ (m : ℕ). rowPlace (l .width) (key new) m cells) counted
+      placed = at ∙ ap (λ (m : ℕ). rowPlace (l .header) (l .width) (key new) m cells) counted
 
       written : out ≡ write l cells (upsert key new (rowsOf l cells))
       written =
           e
-          ∙ ap (λ (c : List ℤ). inserted c n place cells) cells-of
-          ∙ ap (λ (m : ℕ). inserted (l .put new) m place cells) count
-          ∙ ap (λ (m : ℕ). inserted (l .put new) (length (rowsOf l cells)) m cells) placed
+          ∙ ap (λ (c : List ℤ). inserted (l .header) c n place cells) cells-of
+          ∙ ap (λ (m : ℕ). inserted (l .header) (l .put new) m place cells) count
+          ∙ ap (λ (m : ℕ). inserted (l .header) (l .put new) (length (rowsOf l cells)) m cells) placed
           ∙ inserted-written l lawful cells (table .count-sound) p new (table-place l key first cells (key new))
           ∙ ap (write l cells) (sym (table-inserted l key first cells new absent))
 
-  pub put-replaced : (at : ℕ) → Row at ≡ rowFound (l .width) (key new) n cells → out ≡ replaced row at cells
+  pub put-replaced : (at : ℕ) → Row at ≡ rowFound (l .header) (l .width) (key new) n cells → out ≡ replaced (l .header) row at cells
       → (out ≡ write l cells (upsert key new (rowsOf l cells))) × (soundTable l key soundRow out ≡ true)
   put-replaced at f e = (written, put-sound written (omega (arith, same-count, table .rows-fit)))
     where
-      there : rowFound (l .width) (key new) (natAbs (countOf cells)) cells ≡ Row at
-      there = ap (λ (m : ℕ). rowFound (l .width) (key new) m cells) (sym counted) ∙ sym f
+      there : rowFound (l .header) (l .width) (key new) (natAbs (countOf cells)) cells ≡ Row at
+      there = ap (λ (m : ℕ). rowFound (l .header) (l .width) (key new) m cells) (sym counted) ∙ sym f
 
-      known : (at < length (rowsOf l cells)) × (find key (key new) (rowsOf l cells) ≡ some (l .get cells (1 + at * l .width))) × (key (l .get cells (1 + at * l .width)) ≡ key new)
+      known : (at < length (rowsOf l cells)) × (find key (key new) (rowsOf l cells) ≡ some (rowAt l cells at)) × (key (rowAt l cells at) ≡ key new)
       known = table-found l key first cells (key new) at there
 
       same-count : length (upsert key new (rowsOf l cells)) ≡ length (rowsOf l cells)
-      same-count = upsert-replaces key new (l .get cells (1 + at * l .width)) (rowsOf l cells) (table .rows-rise) (known .1)
+      same-count = upsert-replaces key new (rowAt l cells at) (rowsOf l cells) (table .rows-rise) (known .1)
 
       written : out ≡ write l cells (upsert key new (rowsOf l cells))
       written =
           e
-          ∙ ap (λ (c : List ℤ). replaced c at cells) cells-of
+          ∙ ap (λ (c : List ℤ). replaced (l .header) c at cells) cells-of
           ∙ replaced-written l lawful cells (table .count-sound) at new (known .0)
           ∙ ap (write l cells) (sym (table-replaced l key first cells new at (table .rows-rise) there))

@@ -6,7 +6,7 @@ use mathlib.Core.List.{List, [], _∷_, map}
 use lib.IntN.{ℤ, natAbs}
 use lib.ListN.{length, getD, length-map}
 use Rattle.rules.specs.Keyed.{Key, rising}
-use Rattle.rules.specs.Layout.{Layout, countOf, rowsOf}
+use Rattle.rules.specs.Layout.{Layout, countOf, rowAt, rowsOf}
 use Rattle.lookup.specs.Lookup.{foundFrom, rowFound}
 use Rattle.lookup.specs.declared.Found.the-variants.{Row}
 use Rattle.lookup.proofs.RisingKeys.{rising-map, found-there}
@@ -25,9 +25,9 @@ rising-found key rows i other rises h =
 
 module _ {A : Type 0} (l : Layout A) (key : A → Key) (first : KeyFirst l key) (cells : List ℤ) where
   pub row-there : (i : ℕ) → rising key (rowsOf l cells) ≡ true → i < length (rowsOf l cells)
-      → rowFound (l .width) (key (l .get cells (1 + i * l .width))) (natAbs (countOf cells)) cells ≡ Row i
+      → rowFound (l .header) (l .width) (key (rowAt l cells i)) (natAbs (countOf cells)) cells ≡ Row i
   row-there i rises h =
-      let here : A = l .get cells (1 + i * l .width) in
+      let here : A = rowAt l cells i in
       ap (foundFrom 0 (key here)) (table-keys l key first cells)
       ∙ ap (λ (r : A). foundFrom 0 (key r) (map key (rowsOf l cells))) (sym (table-row l key first cells i here h))
       ∙ rising-found key (rowsOf l cells) i here rises h

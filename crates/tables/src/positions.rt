@@ -1,6 +1,9 @@
 // The positions table, once it passes test 2: its rows, its lookup, and its changes.
 use lookup::Found;
 use rules::Position;
+use rules::layout::MOST_POSITIONS;
+use rules::layout::POSITION_WIDTH;
+use rules::layout::POSITIONS_HEADER;
 use scan::rows;
 ghost use mathlib.Core.Path.{_≡_};
 ghost use mathlib.Core.Bool.{true};
@@ -23,14 +26,26 @@ pub fn count(cells: &[i64]) -> usize
 pub fn room(cells: &[i64]) -> usize
     ensures { λ r. ⌜ r ≡ roomOf positionsLayout (now (cells .entry)) ⌝ }
 {
-    scan::soundness::room_for(5, 1024, cells.len())
+    scan::soundness::room_for(
+        POSITIONS_HEADER,
+        POSITION_WIDTH,
+        MOST_POSITIONS,
+        cells.len(),
+    )
 }
 
 pub fn find_position(cells: &[i64], account: i64, series: i64) -> Found
     requires { ⌜ soundPositions (now cells) ≡ true ⌝ }
     ensures { λ r. ⌜ r ≡ positionFound (now (cells .entry)) account series ⌝ }
 {
-    lookup::find_row(cells, count(cells), 5, account, series)
+    lookup::find_row(
+        cells,
+        POSITIONS_HEADER,
+        POSITION_WIDTH,
+        count(cells),
+        account,
+        series,
+    )
 }
 
 // The position of an account and series; zeros where it has no row.
@@ -39,7 +54,7 @@ pub fn position_of(cells: &[i64], account: i64, series: i64) -> Position
     ensures { λ r. ⌜ r ≡ orZeros account series (find positionKey (keyOf account series) (rowsOf positionsLayout (now (cells .entry)))) ⌝ }
 {
     match find_position(cells, account, series) {
-        Found::Row(row) => rows::position_at(cells, 1 + row * 5),
+        Found::Row(row) => rows::position_at(cells, POSITIONS_HEADER + row * POSITION_WIDTH),
         Found::Absent => Position {
             account,
             series,
@@ -59,11 +74,18 @@ pub fn put_position(cells: &mut [i64], p: Position)
     let series = p.series;
     let n = count(cells);
     let row = rows::position_cells(p);
-    match lookup::find_row(cells, n, 5, account, series) {
-        Found::Row(at) => shifter::replace_row(cells, at, &row),
+    match lookup::find_row(cells, POSITIONS_HEADER, POSITION_WIDTH, n, account, series) {
+        Found::Row(at) => shifter::replace_row(cells, POSITIONS_HEADER, at, &row),
         Found::Absent => {
-            let place = lookup::place_of(cells, n, 5, account, series);
-            shifter::insert_row(cells, n, place, &row);
+            let place = lookup::place_of(
+                cells,
+                POSITIONS_HEADER,
+                POSITION_WIDTH,
+                n,
+                account,
+                series,
+            );
+            shifter::insert_row(cells, POSITIONS_HEADER, n, place, &row);
         }
     }
 }

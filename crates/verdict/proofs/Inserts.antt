@@ -39,7 +39,7 @@ module _ {Row : Type 0} (key : Row → Key) where
 
 -- In a table as cells: `changed` are there, `done` and then `rest` are not; `changed` and `done` are put.
 module _ {Row : Type 0} (l : Layout Row) (lawful : Lawful l) (key : Row → Key) (cells : List ℤ) (changed done rest : List Row)
-    (first : 1 ≤ length cells)
+    (first : l .header ≤ length cells)
     (rises : rising key (rowsOf l cells) ≡ true)
     (there : hasAll key (rowsOf l cells) changed ≡ true)
     (new : lacksAll key (rowsOf l cells) (done ++ rest) ≡ true)
@@ -47,7 +47,7 @@ module _ {Row : Type 0} (l : Layout Row) (lawful : Lawful l) (key : Row → Key)
     (room : length (rowsOf l cells) + length (done ++ rest) ≤ roomOf l cells)
     (now : List ℤ) (so-far : now ≡ putAll l key cells (changed ++ done)) where
   rows-now : rowsOf l now ≡ upsertAll key (changed ++ done) (rowsOf l cells)
-  rows-now = ap (rowsOf l) so-far ∙ rows-put l key lawful cells (changed ++ done)
+  rows-now = ap (rowsOf l) so-far ∙ rows-put l key lawful cells (changed ++ done) first
 
   length-now : length (upsertAll key (changed ++ done) (rowsOf l cells)) ≡ length (rowsOf l cells) + length done
   length-now =
@@ -92,7 +92,7 @@ module _ {Row : Type 0} (key : Row → Key) where
 
 -- In a table as cells: `done`, then `x`, then `rest` are put, whether they are there or not.
 module _ {Row : Type 0} (l : Layout Row) (lawful : Lawful l) (key : Row → Key) (cells : List ℤ) (done : List Row) (x : Row) (rest : List Row)
-    (first : 1 ≤ length cells)
+    (first : l .header ≤ length cells)
     (rises : rising key (rowsOf l cells) ≡ true)
     (differ : distinct key (done ++ (x ∷ rest)) ≡ true)
     (room : length (rowsOf l cells) + absentFrom key (rowsOf l cells) (done ++ (x ∷ rest)) ≤ roomOf l cells)
@@ -100,7 +100,7 @@ module _ {Row : Type 0} (l : Layout Row) (lawful : Lawful l) (key : Row → Key)
   pub put-room : length (rowsOf l now) + absentFrom key (rowsOf l now) (x ∷ []) ≤ roomOf l now
   put-room =
       let t : List Row = rowsOf l cells in
-      let rows-so-far : rowsOf l now ≡ upsertAll key done t = ap (rowsOf l) so-far ∙ rows-put l key lawful cells done in
+      let rows-so-far : rowsOf l now ≡ upsertAll key done t = ap (rowsOf l) so-far ∙ rows-put l key lawful cells done first in
       let count : length (upsertAll key done t) ≡ length t + absentFrom key t done = upsertAll-counts key done t rises (distinct-first key done (x ∷ rest) differ) in
       let sum : absentFrom key t (done ++ (x ∷ rest)) ≡ absentFrom key t done + absentFrom key t (x ∷ rest) = absent-sum key t done (x ∷ rest) in
       let kept : absentFrom key (upsertAll key done t) (x ∷ rest) ≡ absentFrom key t (x ∷ rest) = absent-later key done (x ∷ rest) t differ in

@@ -19,6 +19,7 @@ use Rattle.keys.proofs.Lookup.{find-upsert-other}
 use Rattle.keys.proofs.Greatest.{greatest-found, found-greatest}
 use Rattle.cells.proofs.RowCells.{records-lawful}
 use Rattle.cells.proofs.Write.{rows-write}
+use Rattle.cells.proofs.SoundCells.{records-known}
 use Rattle.soundness.proofs.NamedRecord.{nextOf}
 use Rattle.verdict.proofs.Puts.{putOne}
 use Rattle.verdict.proofs.SoundReads.{FoundRecord, found-record, next-range}
@@ -63,5 +64,5 @@ module _ (rs : List ℤ) (sound : soundRecords rs ≡ true) (id suffix : ℤ) (r
   unfolding adjustedRecord
   adjusted-next rs₁ e =
       let rows : rowsOf recordsLayout rs₁ ≡ upsert recordKey (adjustedRecord r) t =
-      ap (rowsOf recordsLayout) e ∙ rows-write recordsLayout records-lawful rs (upsert recordKey (adjustedRecord r) t) in
+      ap (rowsOf recordsLayout) e ∙ rows-write recordsLayout records-lawful rs (upsert recordKey (adjustedRecord r) t) (records-known rs sound .header-within) in
       rw rows (next-upsert (adjustedRecord r) t id (nextOf t id) (≤ℤ-refl (nextOf t id)) own-below (next-range rs sound id .0))

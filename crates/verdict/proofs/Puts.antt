@@ -25,28 +25,28 @@ module _ {Row : Type 0} (l : Layout Row) (key : Row → Key) where
   put-one cells x = ap (write l cells) (sym (upsertAll-cons key x [] (rowsOf l cells) ∙ upsertAll-nil key (upsert key x (rowsOf l cells))))
 
   module _ (lawful : Lawful l) where
-    pub rows-put : (cells : List ℤ) (xs : List Row) → rowsOf l (putAll cells xs) ≡ upsertAll key xs (rowsOf l cells)
-    rows-put cells xs = rows-write l lawful cells (upsertAll key xs (rowsOf l cells))
+    pub rows-put : (cells : List ℤ) (xs : List Row) → l .header ≤ length cells → rowsOf l (putAll cells xs) ≡ upsertAll key xs (rowsOf l cells)
+    rows-put cells xs h = rows-write l lawful cells (upsertAll key xs (rowsOf l cells)) h
 
     -- A table whose count is sound, before any put.
     pub put-none : (cells : List ℤ) → countIsSound l cells ≡ true → cells ≡ putAll cells []
     put-none cells sound = sym (ap (write l cells) (upsertAll-nil key (rowsOf l cells)) ∙ write-own l lawful cells sound)
 
-    pub put-put : (cells : List ℤ) (xs ys : List Row) → putAll (putAll cells xs) ys ≡ putAll cells (xs ++ ys)
-    put-put cells xs ys =
+    pub put-put : (cells : List ℤ) (xs ys : List Row) → l .header ≤ length cells → putAll (putAll cells xs) ys ≡ putAll cells (xs ++ ys)
+    put-put cells xs ys h =
         let t : List Row = upsertAll key xs (rowsOf l cells) in
-        ap (λ (rows : List Row). write l (putAll cells xs) (upsertAll key ys rows)) (rows-put cells xs)
-        ∙ write-write l lawful cells t (upsertAll key ys t) (upsertAll-longer key ys t)
+        ap (λ (rows : List Row). write l (putAll cells xs) (upsertAll key ys rows)) (rows-put cells xs h)
+        ∙ write-write l lawful cells t (upsertAll key ys t) h (upsertAll-longer key ys t)
         ∙ ap (write l cells) (sym (upsertAll-append key xs ys (rowsOf l cells)))
 
-    pub room-put : (cells : List ℤ) (xs : List Row) → 1 ≤ length cells → length (upsertAll key xs (rowsOf l cells)) ≤ roomOf l cells
+    pub room-put : (cells : List ℤ) (xs : List Row) → l .header ≤ length cells → length (upsertAll key xs (rowsOf l cells)) ≤ roomOf l cells
         → roomOf l (putAll cells xs) ≡ roomOf l cells
     room-put cells xs h fit = room-write l lawful cells (upsertAll key xs (rowsOf l cells)) h fit
 
     -- A put, or several, after others.
-    module _ (before now : List ℤ) (xs : List Row) (e : now ≡ putAll before xs) where
+    module _ (before now : List ℤ) (headed : l .header ≤ length before) (xs : List Row) (e : now ≡ putAll before xs) where
       pub put-more : (after : List ℤ) (ys : List Row) → after ≡ putAll now ys → after ≡ putAll before (xs ++ ys)
-      put-more after ys f = f ∙ ap (λ (c : List ℤ). putAll c ys) e ∙ put-put before xs ys
+      put-more after ys f = f ∙ ap (λ (c : List ℤ). putAll c ys) e ∙ put-put before xs ys headed
 
       pub put-next : (after : List ℤ) (x : Row) → after ≡ putOne now x → after ≡ putAll before (xs ++ (x ∷ []))
       put-next after x f = put-more after (x ∷ []) (f ∙ put-one now x)

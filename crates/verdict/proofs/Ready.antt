@@ -77,13 +77,13 @@ module _ (rs ps : List ℤ) (changed done rest : List Record) (moves : List Posi
   pub rows-left-room : length (rowsOf recordsLayout now) + length rest ≤ roomOf recordsLayout now
   rows-left-room =
       let known : SoundRecords rs = records-known rs records-sound in
-      left-room recordsLayout records-lawful recordKey rs changed done rest (known .count-cell) (known .rows-rise)
+      left-room recordsLayout records-lawful recordKey rs changed done rest (known .header-within) (known .rows-rise)
       (is-ready .changed-present) (is-ready .added-absent) (is-ready .added-distinct) (is-ready .records-room) now so-far
 
   next-row-absent : (x : Record) (more : List Record) → rest ≡ x ∷ more → find recordKey (recordKey x) (rowsOf recordsLayout now) ≡ none
   next-row-absent x more e =
       let known : SoundRecords rs = records-known rs records-sound in
-      insert-absent recordsLayout records-lawful recordKey rs changed done rest (known .count-cell) (known .rows-rise)
+      insert-absent recordsLayout records-lawful recordKey rs changed done rest (known .header-within) (known .rows-rise)
       (is-ready .changed-present) (is-ready .added-absent) (is-ready .added-distinct) (is-ready .records-room) now so-far x more e
 
 -- The next row.
@@ -103,6 +103,6 @@ module _ (rs ps : List ℤ) (changed added : List Record) (done rest : List Posi
       let known : SoundPositions ps = positions-known ps positions-sound in (
         sound,
         all-at soundPosition done x rest (is-ready .moves-sound),
-        put-room positionsLayout positions-lawful positionKey ps done x rest (known .count-cell) (known .rows-rise)
+        put-room positionsLayout positions-lawful positionKey ps done x rest (known .header-within) (known .rows-rise)
             (is-ready .moves-distinct) (is-ready .moves-room) now so-far,
       )

@@ -25,6 +25,7 @@ use Rattle.rules.specs.declared.Reply.the-variants.{Booked}
 use Rattle.keys.proofs.Clauses.{isSome-none}
 use Rattle.keys.proofs.Split.{clash}
 use Rattle.cells.proofs.RowCells.{records-lawful}
+use Rattle.cells.proofs.SoundCells.{records-known}
 use Rattle.soundness.specs.SoundBooks.{Accepts}
 use Rattle.soundness.proofs.Accepted.{booking-passed}
 use Rattle.soundness.proofs.NamedRecord.{nextOf}
@@ -95,7 +96,7 @@ module _ (rs ps : List ℤ) (id suffix account series : ℤ) (parts : List ℤ)
 
 -- ---- what it comes to
 
-module _ (rs ps : List ℤ) (id suffix account series : ℤ) (parts : List ℤ) (positions-sound : soundPositions ps ≡ true)
+module _ (rs ps : List ℤ) (id suffix account series : ℤ) (parts : List ℤ) (records-sound : soundRecords rs ≡ true) (positions-sound : soundPositions ps ≡ true)
     (r : Record) (named : find recordKey (keyOf id suffix) (rowsOf recordsLayout rs) ≡ some r) where
   abbrev first : ℤ
   first = nextOf (rowsOf recordsLayout rs) id
@@ -107,6 +108,6 @@ module _ (rs ps : List ℤ) (id suffix account series : ℤ) (parts : List ℤ) 
   separation-returns rs₁ rs₂ e₁ e₂ =
       let adjusted : rs₁ ≡ putAll recordsLayout recordKey rs (adjustedRecord r ∷ []) = e₁ ∙ put-one recordsLayout recordKey rs (adjustedRecord r) in
       let whole : rs₂ ≡ putAll recordsLayout recordKey rs (separationRows r first parts) =
-      put-more recordsLayout recordKey records-lawful rs rs₁ (adjustedRecord r ∷ []) adjusted rs₂ (separationInverse r first ∷ partRecords r (first +ℤ pos 1) parts) e₂ in
+      put-more recordsLayout recordKey records-lawful rs rs₁ (records-known rs records-sound .header-within) (adjustedRecord r ∷ []) adjusted rs₂ (separationInverse r first ∷ partRecords r (first +ℤ pos 1) parts) e₂ in
       ap (λ (c : List ℤ). answered (Booked (pos (length parts) +ℤ pos 1) (pos 0)) c ps) whole
       ∙ sym (separation-booked rs ps id suffix account series parts positions-sound r named)

@@ -22,7 +22,7 @@ use Rattle.rules.specs.declared.Reply.the-variants.{Booked}
 use Rattle.keys.proofs.Clauses.{isSome-none, allOf-head, allOf-tail}
 use Rattle.keys.proofs.Split.{clash}
 use Rattle.cells.proofs.RowCells.{records-lawful, positions-lawful}
-use Rattle.cells.proofs.SoundCells.{positions-known}
+use Rattle.cells.proofs.SoundCells.{records-known, positions-known}
 use Rattle.soundness.specs.SoundBooks.{Accepts}
 use Rattle.soundness.proofs.FigureRanges.{suffix-range}
 use Rattle.soundness.proofs.NamedRecord.{nextOf}
@@ -104,7 +104,8 @@ module _ (rs ps : List ℤ) (id suffix from to series : ℤ)
 
 -- ---- what it comes to
 
-module _ (rs ps : List ℤ) (id suffix from to series : ℤ) (r : Record) (named : find recordKey (keyOf id suffix) (rowsOf recordsLayout rs) ≡ some r) where
+module _ (rs ps : List ℤ) (id suffix from to series : ℤ) (r : Record) (named : find recordKey (keyOf id suffix) (rowsOf recordsLayout rs) ≡ some r)
+    (records-sound : soundRecords rs ≡ true) (positions-sound : soundPositions ps ≡ true) where
   abbrev after : ℤ
   after = nextOf (rowsOf recordsLayout rs) id
 
@@ -117,8 +118,8 @@ module _ (rs ps : List ℤ) (id suffix from to series : ℤ) (r : Record) (named
   transfer-returns rs₁ rs₂ ps₁ ps₂ e₁ e₂ f₁ f₂ =
       let adjusted : rs₁ ≡ putAll recordsLayout recordKey rs (adjustedRecord r ∷ []) = e₁ ∙ put-one recordsLayout recordKey rs (adjustedRecord r) in
       let arrived : rs₂ ≡ putAll recordsLayout recordKey rs (transferRows r after to) =
-      put-more recordsLayout recordKey records-lawful rs rs₁ (adjustedRecord r ∷ []) adjusted rs₂ (transferInverse r after ∷ transferArrived r after to ∷ []) e₂ in
+      put-more recordsLayout recordKey records-lawful rs rs₁ (records-known rs records-sound .header-within) (adjustedRecord r ∷ []) adjusted rs₂ (transferInverse r after ∷ transferArrived r after to ∷ []) e₂ in
       let moved : ps₂ ≡ putAll positionsLayout positionKey ps (transferOld ps r from series ∷ transferNew ps r to series ∷ []) =
-      put-next positionsLayout positionKey positions-lawful ps ps₁ (transferOld ps r from series ∷ []) (f₁ ∙ put-one positionsLayout positionKey ps (transferOld ps r from series))
+      put-next positionsLayout positionKey positions-lawful ps ps₁ (positions-known ps positions-sound .header-within) (transferOld ps r from series ∷ []) (f₁ ∙ put-one positionsLayout positionKey ps (transferOld ps r from series))
       ps₂ (transferNew ps r to series) f₂ in
       (λ i. answered (Booked (pos 2) (pos 0)) (arrived i) (moved i)) ∙ sym (transfer-booked rs ps id suffix from to series r named)

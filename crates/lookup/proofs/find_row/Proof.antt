@@ -19,7 +19,7 @@ use Rattle.lookup.proofs.find_row.Tie as tie
 abbrev sought : tie.Start → Key
 sought s = keyOf (s .args .major) (s .args .minor)
 
-placed : (c : tie.After-place-of) → c .place-of .result ≡ rowPlace (c .before .args .width) (sought (c .before)) (c .before .args .count) (c .before .args .cells .now)
+placed : (c : tie.After-place-of) → c .place-of .result ≡ rowPlace (c .before .args .header) (c .before .args .width) (sought (c .before)) (c .before .args .count) (c .before .args .cells .now)
 placed c = simp (toZ-ofZ (c .before .fits .major), toZ-ofZ (c .before .fits .minor)) at (c .place-of .ensures)
 
 -- The row before the place.
@@ -30,14 +30,14 @@ module _ (c : tie.Else1) where
   abbrev row : ℕ
   row = c .before .place-of .result - 1
 
-  row-before : rowPlace (start .args .width) (sought start) (start .args .count) (start .args .cells .now) ≡ suc row
+  row-before : rowPlace (start .args .header) (start .args .width) (sought start) (start .args .count) (start .args .cells .now) ≡ suc row
   row-before = omega (arith, placed (c .before))
 
   one-of : row < start .args .count
-  one-of = omega (arith, row-before, place-at-most (start .args .cells .now) (start .args .width) (start .args .count) (sought start))
+  one-of = omega (arith, row-before, place-at-most (start .args .cells .now) (start .args .header) (start .args .width) (start .args .count) (sought start))
 
-  within : 1 + row * start .args .width + 1 < length (start .args .cells .now)
-  within = row-within row (start .args .count) (start .args .width) (length (start .args .cells .now)) one-of (start .pre .0) (start .pre .1)
+  within : start .args .header + row * start .args .width + 1 < length (start .args .cells .now)
+  within = row-within (start .args .header) (start .args .width) (start .args .count) (start .args .cells .now) (start .pre) row one-of
 
 place-of-requires : tie.Need-place-of-requires
 place-of-requires c κs = search needs
@@ -45,7 +45,7 @@ place-of-requires c κs = search needs
 returns : tie.Need-returns
 returns c =
     let s : tie.Start = c .before .before in
-    sym (absent-first (s .args .cells .now) (s .args .width) (s .args .count) (s .pre .2) (sought s) (sym (placed (c .before)) ∙ c .if1 .taken))
+    sym (absent-first (s .args .cells .now) (s .args .header) (s .args .width) (s .args .count) (s .pre .keys-rise) (sought s) (sym (placed (c .before)) ∙ c .if1 .taken))
 
 sub-row : tie.Need-sub-row
 sub-row c = search needs
@@ -79,23 +79,23 @@ module _ (c : tie.After-key-same) where
   abbrev there : tie.Else1
   there = c .before .before .before
 
-  tested : c .key-same .result ≡ same (keyAt (start there .args .cells .now) (1 + row there * start there .args .width)) (sought (start there))
+  tested : c .key-same .result ≡ same (keyAt (start there .args .cells .now) (start there .args .header + row there * start there .args .width)) (sought (start there))
   tested =
-      let f : SFits w64 (getD (start there .args .cells .now) (1 + row there * start there .args .width) (pos 0)) = sfits-of (c .before .before .key-same-arg .given) in
-      let g : SFits w64 (getD (start there .args .cells .now) (1 + row there * start there .args .width + 1) (pos 0)) = sfits-of (c .before .key-same-arg2 .given) in
+      let f : SFits w64 (getD (start there .args .cells .now) (start there .args .header + row there * start there .args .width) (pos 0)) = sfits-of (c .before .before .key-same-arg .given) in
+      let g : SFits w64 (getD (start there .args .cells .now) (start there .args .header + row there * start there .args .width + 1) (pos 0)) = sfits-of (c .before .key-same-arg2 .given) in
       simp (toZ-ofZ f, toZ-ofZ g, toZ-ofZ (start there .fits .major), toZ-ofZ (start there .fits .minor)) at (c .key-same .ensures)
 
 returns-2 : tie.Need-returns-2
 returns-2 c =
     let e : tie.Else1 = there (c .before) in
     let s : tie.Start = start e in
-    sym (found-before (s .args .cells .now) (s .args .width) (s .args .count) (s .pre .2) (sought s) (row e) (row-before e) (sym (tested (c .before)) ∙ c .if2 .taken))
+    sym (found-before (s .args .cells .now) (s .args .header) (s .args .width) (s .args .count) (s .pre .keys-rise) (sought s) (row e) (row-before e) (sym (tested (c .before)) ∙ c .if2 .taken))
 
 returns-3 : tie.Need-returns-3
 returns-3 c =
     let e : tie.Else1 = there (c .before) in
     let s : tie.Start = start e in
-    sym (absent-before (s .args .cells .now) (s .args .width) (s .args .count) (s .pre .2) (sought s) (row e) (row-before e) (sym (tested (c .before)) ∙ c .if2 .left))
+    sym (absent-before (s .args .cells .now) (s .args .header) (s .args .width) (s .args .count) (s .pre .keys-rise) (sought s) (row e) (row-before e) (sym (tested (c .before)) ∙ c .if2 .left))
 
 pub find-row-spec : {M : Type 1} → statement M
 find-row-spec =

@@ -16,10 +16,10 @@ use Rattle.lookup.proofs.place_of.Statement.{statement}
 use Rattle.lookup.proofs.place_of.Tie as tie
 
 abbrev Inv-loop : tie.InvT-loop
-Inv-loop cells count width major minor place₀ place = place ≤ rowPlace width (keyOf (toZ w64 major) (toZ w64 minor)) count cells
+Inv-loop cells header width count major minor place₀ place = place ≤ rowPlace header width (keyOf (toZ w64 major) (toZ w64 minor)) count cells
 
 abbrev μ-loop : tie.MeasureT-loop
-μ-loop cells count width major minor place₀ place = count - place
+μ-loop cells header width count major minor place₀ place = count - place
 
 -- The key sought, read from its bits.
 abbrev sought : tie.Start Inv-loop μ-loop → Key
@@ -32,8 +32,8 @@ module _ (c : tie.In-loop Inv-loop μ-loop) where
   one-of : c .before .loop .place < start .args .count
   one-of = omega arith
 
-  within : 1 + c .before .loop .place * start .args .width + 1 < length (start .args .cells .now)
-  within = row-within (c .before .loop .place) (start .args .count) (start .args .width) (length (start .args .cells .now)) one-of (start .pre .0) (start .pre .1)
+  within : start .args .header + c .before .loop .place * start .args .width + 1 < length (start .args .cells .now)
+  within = row-within (start .args .header) (start .args .width) (start .args .count) (start .args .cells .now) (start .pre) (c .before .loop .place) one-of
 
 row-near-requires : tie.Need-row-near-requires Inv-loop μ-loop
 row-near-requires c κs = search needs
@@ -70,21 +70,21 @@ module _ (c : tie.After-key-below Inv-loop μ-loop) where
   abbrev inside : tie.In-loop Inv-loop μ-loop
   inside = c .before .before .before
 
-  tested : c .key-below .result ≡ below (sought (start inside)) (keyAt (start inside .args .cells .now) (1 + inside .before .loop .place * start inside .args .width))
+  tested : c .key-below .result ≡ below (sought (start inside)) (keyAt (start inside .args .cells .now) (start inside .args .header + inside .before .loop .place * start inside .args .width))
   tested =
-      let f : SFits w64 (getD (start inside .args .cells .now) (1 + inside .before .loop .place * start inside .args .width) (pos 0)) = sfits-of (c .before .before .key-below-arg .given) in
-      let g : SFits w64 (getD (start inside .args .cells .now) (1 + inside .before .loop .place * start inside .args .width + 1) (pos 0)) = sfits-of (c .before .key-below-arg2 .given) in
+      let f : SFits w64 (getD (start inside .args .cells .now) (start inside .args .header + inside .before .loop .place * start inside .args .width) (pos 0)) = sfits-of (c .before .before .key-below-arg .given) in
+      let g : SFits w64 (getD (start inside .args .cells .now) (start inside .args .header + inside .before .loop .place * start inside .args .width + 1) (pos 0)) = sfits-of (c .before .key-below-arg2 .given) in
       rw (toZ-ofZ f, toZ-ofZ g) at (c .key-below .ensures)
 
 returns : tie.Need-returns Inv-loop μ-loop
 returns c =
     let i : tie.In-loop Inv-loop μ-loop = inside (c .before) in
     let s : tie.Start Inv-loop μ-loop = start i in
-    let placed : i .before .loop .place ≡ rowPlace (s .args .width) (sought s) (s .args .count) (s .args .cells .now) =
+    let placed : i .before .loop .place ≡ rowPlace (s .args .header) (s .args .width) (sought s) (s .args .count) (s .args .cells .now) =
     omega (
       arith,
       i .before .loop .inv,
-      place-to (s .args .cells .now) (s .args .width) (s .args .count) (sought s) (i .before .loop .place) (one-of i) (sym (tested (c .before)) ∙ c .if1 .taken),
+      place-to (s .args .cells .now) (s .args .header) (s .args .width) (s .args .count) (sought s) (i .before .loop .place) (one-of i) (sym (tested (c .before)) ∙ c .if1 .taken),
     ) in
     simp (toZ-ofZ (s .fits .major), toZ-ofZ (s .fits .minor)) at placed
 
@@ -100,14 +100,14 @@ loop-again c =
     let s : tie.Start Inv-loop μ-loop = start i in
     omega (
       arith,
-      place-past (s .args .cells .now) (s .args .width) (s .args .count) (sought s) (i .before .loop .place) (one-of i) (s .pre .2) (sym (tested (c .before)) ∙ c .if1 .left),
+      place-past (s .args .cells .now) (s .args .header) (s .args .width) (s .args .count) (sought s) (i .before .loop .place) (one-of i) (s .pre .keys-rise) (sym (tested (c .before)) ∙ c .if1 .left),
     )
 
 returns-2 : tie.Need-returns-2 Inv-loop μ-loop
 returns-2 c =
     let s : tie.Start Inv-loop μ-loop = c .before .before .before in
-    let placed : c .before .loop .place ≡ rowPlace (s .args .width) (sought s) (s .args .count) (s .args .cells .now) =
-    omega (arith, c .before .loop .inv, place-at-most (s .args .cells .now) (s .args .width) (s .args .count) (sought s)) in
+    let placed : c .before .loop .place ≡ rowPlace (s .args .header) (s .args .width) (sought s) (s .args .count) (s .args .cells .now) =
+    omega (arith, c .before .loop .inv, place-at-most (s .args .cells .now) (s .args .header) (s .args .width) (s .args .count) (sought s)) in
     simp (toZ-ofZ (s .fits .major), toZ-ofZ (s .fits .minor)) at placed
 
 pub place-of-spec : {M : Type 1} → statement M

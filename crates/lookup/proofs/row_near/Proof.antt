@@ -20,10 +20,10 @@ use Rattle.lookup.proofs.row_near.Statement.{statement}
 use Rattle.lookup.proofs.row_near.Tie as tie
 
 abbrev Inv-loop : tie.InvT-loop
-Inv-loop cells count width major minor low₀ left₀ low left = (low ≤ rowPlace width (keyOf (toZ w64 major) (toZ w64 minor)) count cells) × (low + left ≤ count)
+Inv-loop cells header width count major minor low₀ left₀ low left = (low ≤ rowPlace header width (keyOf (toZ w64 major) (toZ w64 minor)) count cells) × (low + left ≤ count)
 
 abbrev μ-loop : tie.MeasureT-loop
-μ-loop cells count width major minor low₀ left₀ low left = left
+μ-loop cells header width count major minor low₀ left₀ low left = left
 
 -- The key sought, read from its bits.
 abbrev sought : tie.Start Inv-loop μ-loop → Key
@@ -43,8 +43,8 @@ module _ (c : tie.In-loop Inv-loop μ-loop) where
   one-of : middle < start .args .count
   one-of = omega (arith, halved)
 
-  within : 1 + middle * start .args .width + 1 < length (start .args .cells .now)
-  within = row-within middle (start .args .count) (start .args .width) (length (start .args .cells .now)) one-of (start .pre .0) (start .pre .1)
+  within : start .args .header + middle * start .args .width + 1 < length (start .args .cells .now)
+  within = row-within (start .args .header) (start .args .width) (start .args .count) (start .args .cells .now) (start .pre) middle one-of
 
 loop-holds : tie.Need-loop-holds Inv-loop μ-loop
 loop-holds c = omega arith
@@ -81,16 +81,16 @@ module _ (c : tie.After-comes-before Inv-loop μ-loop) where
   abbrev inside : tie.In-loop Inv-loop μ-loop
   inside = c .before .before .before
 
-  tested : c .comes-before .result ≡ below (sought (start inside)) (keyAt (start inside .args .cells .now) (1 + middle inside * start inside .args .width))
+  tested : c .comes-before .result ≡ below (sought (start inside)) (keyAt (start inside .args .cells .now) (start inside .args .header + middle inside * start inside .args .width))
   tested =
-      let f : SFits w64 (getD (start inside .args .cells .now) (1 + middle inside * start inside .args .width) (pos 0)) = sfits-of (c .before .before .comes-before-arg .given) in
-      let g : SFits w64 (getD (start inside .args .cells .now) (1 + middle inside * start inside .args .width + 1) (pos 0)) = sfits-of (c .before .comes-before-arg2 .given) in
+      let f : SFits w64 (getD (start inside .args .cells .now) (start inside .args .header + middle inside * start inside .args .width) (pos 0)) = sfits-of (c .before .before .comes-before-arg .given) in
+      let g : SFits w64 (getD (start inside .args .cells .now) (start inside .args .header + middle inside * start inside .args .width + 1) (pos 0)) = sfits-of (c .before .comes-before-arg2 .given) in
       rw (toZ-ofZ f, toZ-ofZ g) at (c .comes-before .ensures)
 
   -- Past the middle row.
-  past : c .comes-before .result ≡ false → middle inside < rowPlace (start inside .args .width) (sought (start inside)) (start inside .args .count) (start inside .args .cells .now)
+  past : c .comes-before .result ≡ false → middle inside < rowPlace (start inside .args .header) (start inside .args .width) (sought (start inside)) (start inside .args .count) (start inside .args .cells .now)
   past e =
-      place-past (start inside .args .cells .now) (start inside .args .width) (start inside .args .count) (sought (start inside)) (middle inside) (one-of inside) (start inside .pre .2)
+      place-past (start inside .args .cells .now) (start inside .args .header) (start inside .args .width) (start inside .args .count) (sought (start inside)) (middle inside) (one-of inside) (start inside .pre .keys-rise)
       (sym tested ∙ e)
 
 add-low : tie.Need-add-low Inv-loop μ-loop
@@ -114,7 +114,7 @@ loop-again c =
 returns : tie.Need-returns Inv-loop μ-loop
 returns c =
     let s : tie.Start Inv-loop μ-loop = c .before .before in
-    let near : c .before .loop .low ≤ rowPlace (s .args .width) (sought s) (s .args .count) (s .args .cells .now) = c .before .loop .inv .0 in
+    let near : c .before .loop .low ≤ rowPlace (s .args .header) (s .args .width) (sought s) (s .args .count) (s .args .cells .now) = c .before .loop .inv .0 in
     simp (toZ-ofZ (s .fits .major), toZ-ofZ (s .fits .minor)) at near
 
 pub row-near-spec : {M : Type 1} → statement M

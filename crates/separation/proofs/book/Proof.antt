@@ -17,12 +17,12 @@ use Rattle.rules.specs.Figures.{greatestOfSuffixes}
 use Rattle.rules.specs.Keyed.{find}
 use Rattle.rules.specs.Rows.{keyOf, recordKey, adjustedRecord}
 use Rattle.rules.specs.Separation.{partRecords}
-use Rattle.rules.specs.Layout.{roomOf, rowsOf}
+use Rattle.rules.specs.Layout.{roomOf, rowsOf, rowAt, startOf}
 use Rattle.rules.specs.Tables.{recordAt, recordCells, recordsLayout}
 use Rattle.rules.specs.Handle.{answered}
 use Rattle.rules.specs.declared.Record.{Record}
 use Rattle.rules.specs.declared.Reply.the-variants.{Booked}
-use Rattle.lookup.specs.Lookup.{rowPlace, recordFound}
+use Rattle.lookup.specs.Lookup.{rowPlace, recordFound, placeIn}
 use Rattle.lookup.proofs.TableLookup.{record-found, record-absent}
 use Rattle.shifter.specs.Insertion.{replaced}
 use Rattle.soundness.proofs.NamedRecord.{nextOf}
@@ -79,7 +79,7 @@ module _ (c : tie.After-row) where
   found = sought (c .before .before)
 
   abbrev found-at : Record
-  found-at = recordAt (rs found) (1 + c .row .given .0 .0 * 13)
+  found-at = rowAt recordsLayout (rs found) (c .row .given .0 .0)
 
   there : (c .row .given .0 .0 < length (rowsOf recordsLayout (rs found)))
       × (find recordKey (keyOf (found .args .id) (found .args .suffix)) (rowsOf recordsLayout (rs found)) ≡ some found-at)
@@ -165,7 +165,7 @@ module _ (c : tie.After-open-rows) where
   abbrev rs₁ : List ℤ
   rs₁ = adjusting .adjust-record .last .0
 
-  place-is : c .open-rows .result ≡ rowPlace 13 (keyOf (s read2 .args .id) (next (s read2))) (length (rowsOf recordsLayout rs₁)) rs₁
+  place-is : c .open-rows .result ≡ placeIn recordsLayout (keyOf (s read2 .args .id) (next (s read2))) rs₁
   place-is = simp (toZ-ofZ (s read2 .fits .id), next-is (adjusting .before .before)) at (c .open-rows .ensures .0)
 
 module _ (a : tie.After-adjust-record) where
@@ -186,8 +186,9 @@ module _ (a : tie.After-adjust-record) where
   own = found-record (rs (s (read1 a))) (s (read1 a) .pre .0) (s (read1 a) .args .id) (s (read1 a) .args .suffix) (r (read1 a)) (named (read1 a)) .id-is
 
 there-are : (c : tie.After-open-rows)
-    → (c .open-rows .result ≤ length (rowsOf recordsLayout (rs₁ c)))
-    × (1 + (length (rowsOf recordsLayout (rs₁ c)) + (length (parts (s (read2 c))) + 1)) * 13 ≤ length (rs₁ c))
+    → (1 ≤ recordsLayout .header)
+    × (c .open-rows .result ≤ length (rowsOf recordsLayout (rs₁ c)))
+    × (startOf recordsLayout (length (rowsOf recordsLayout (rs₁ c)) + (length (parts (s (read2 c))) + 1)) ≤ length (rs₁ c))
     × (length (rowsOf recordsLayout (rs₁ c)) + (length (parts (s (read2 c))) + 1) ≤ 4096)
 there-are c =
     cells-there (rs₁ c) (adjusting c .adjust-record .ensures .1) (s (read2 c) .args .id) (next (s (read2 c))) (r (read2 c)) (own (adjusting c)) (parts (s (read2 c)))
@@ -264,7 +265,7 @@ parts-put c =
     gap-written (rs₁ o) (a .adjust-record .ensures .1) (t .args .id) (next t) (r p) (own a) (parts t) (free a) (room a) (o .open-rows .result) (place-is o)
     (o .open-rows .last .0) (writing i .write-record .last .0) (c .write-parts .last .0)
     (o .open-rows .ensures .1) (o .open-rows .kept .0)
-    (writing i .write-record .ensures ∙ ap (λ (x : Record). replaced (recordCells x) (o .open-rows .result) (o .open-rows .last .0)) (inverse-row (writing i .before)))
+    (writing i .write-record .ensures ∙ ap (λ (x : Record). replaced (recordsLayout .header) (recordCells x) (o .open-rows .result) (o .open-rows .last .0)) (inverse-row (writing i .before)))
     (subst (λ (z : ℤ). c .write-parts .last .0 ≡ written (r p) z (parts t) (o .open-rows .result + 1) (writing i .write-record .last .0)) (first i) (c .write-parts .ensures))
 
 -- ---- the answer
@@ -288,7 +289,7 @@ returns-2 c =
     let p : tie.After-read-record = read3 (q .before) in
     let t : tie.Start = s p in
     ap (λ (z : ℤ). answered (Booked z (pos 0)) (q .write-parts .last .0) (t .args .positions .now)) (rows t)
-    ∙ separation-returns (rs t) (t .args .positions .now) (t .args .id) (t .args .suffix) (t .args .account) (t .args .series) (parts t) (t .pre .1) (r p) (named p)
+    ∙ separation-returns (rs t) (t .args .positions .now) (t .args .id) (t .args .suffix) (t .args .account) (t .args .series) (parts t) (t .pre .0) (t .pre .1) (r p) (named p)
     (a .adjust-record .last .0) (q .write-parts .last .0) (adjusted a) (parts-put q)
 
 pub book-spec : {M : Type 1} → statement M

@@ -9,7 +9,7 @@ use mir.Facts.{toZ-ofZ}
 use mir.Syntax.{w64}
 use mir.Val.{SFits, toZ, ofZ}
 use borrow.Author.Needs.{needs}
-use Rattle.rules.specs.Tables.{recordCells}
+use Rattle.rules.specs.Tables.{recordCells, recordsLayout}
 use Rattle.scan.proofs.ReadBack.{read-back}
 use Rattle.shifter.specs.Insertion.{replaced}
 use Rattle.separation.proofs.PartsWritten.{partRecord, WrittenSoFar, written-start, row-fits, suffix-fits, written-next, written-end}
@@ -92,7 +92,7 @@ loop-less c = omega arith
 loop-again : tie.Need-loop-again Inv-loop μ-loop
 loop-again c =
     let a : tie.After-adjustable-record Inv-loop μ-loop = c .before .before in
-    let put : c .before .write-record .last .0 ≡ replaced (recordCells (partRecord (start a .args .r) (suffix a) (part a))) (start a .args .place + turn a .loop .at) (turn a .loop .records) =
+    let put : c .before .write-record .last .0 ≡ replaced (recordsLayout .header) (recordCells (partRecord (start a .args .r) (suffix a) (part a))) (start a .args .place + turn a .loop .at) (turn a .loop .records) =
     rw (row a) at (c .before .write-record .ensures) in
     subst
     (λ (z : ℤ). WrittenSoFar (start a .args .records .now) (start a .args .place) (start a .args .r) (toZ w64 (ofZ w64 (start a .args .first))) (start a .args .parts .now) (c .before .write-record .last .0) z (turn a .loop .at + 1))

@@ -12,7 +12,7 @@ use Rattle.shifter.proofs.insert_row.Tie as tie
 
 -- The cells up to the row's place, and of the rows that move up.
 cells-before : (s : tie.Start) → s .args .count * length (s .args .row .now) ≡ s .args .place * length (s .args .row .now) + (s .args .count - s .args .place) * length (s .args .row .now)
-cells-before s = rows-split (length (s .args .row .now)) (s .args .count) (s .args .place) (s .pre .0)
+cells-before s = rows-split (length (s .args .row .now)) (s .args .count) (s .args .place) (s .pre .1)
 
 mul-at : tie.Need-mul-at
 mul-at c = omega (arith, cells-before c)
@@ -56,7 +56,8 @@ same-length c = search needs
 returns : tie.Need-returns
 returns c =
     let s : tie.Start = c .before .before .before in
-    insertion (s .args .cells .now) (s .args .row .now) (c .before .shift-in .last .0) (s .args .count) (s .args .place) _ (count-cell (s .args .count) (add-one (s .args .count)) (s .pre .2)) (s .pre .0) (s .pre .1) (c .before .shift-in .ensures)
+    insertion (s .args .header) (s .args .cells .now) (s .args .row .now) (c .before .shift-in .last .0) (s .args .count) (s .args .place) _
+    (count-cell (s .args .count) (add-one (s .args .count)) (s .pre .3)) (s .pre .0) (s .pre .1) (s .pre .2) (c .before .shift-in .ensures)
 
 pub insert-row-spec : {M : Type 1} → statement M
 insert-row-spec =

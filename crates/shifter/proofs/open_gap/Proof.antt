@@ -11,7 +11,7 @@ use Rattle.shifter.proofs.open_gap.Tie as tie
 
 -- The cells up to the gap's place, and of the rows that move up.
 cells-before : (s : tie.Start) → s .args .count * s .args .width ≡ s .args .place * s .args .width + (s .args .count - s .args .place) * s .args .width
-cells-before s = rows-split (s .args .width) (s .args .count) (s .args .place) (s .pre .0)
+cells-before s = rows-split (s .args .width) (s .args .count) (s .args .place) (s .pre .1)
 
 mul-at : tie.Need-mul-at
 mul-at c = omega (arith, cells-before c)
@@ -58,7 +58,8 @@ same-length c = search needs
 returns : tie.Need-returns
 returns c =
     let s : tie.Start = c .before .before .before in
-    gap (s .args .cells .now) (c .before .move-up .last .0) (s .args .width) (s .args .count) (s .args .place) (s .args .added) _ (raised-cell (s .args .count) (s .args .added) (s .pre .2)) (s .pre .0) (s .pre .1) (c .before .move-up .ensures)
+    gap (s .args .header) (s .args .cells .now) (c .before .move-up .last .0) (s .args .width) (s .args .count) (s .args .place) (s .args .added) _
+    (raised-cell (s .args .count) (s .args .added) (s .pre .3)) (s .pre .0) (s .pre .1) (s .pre .2) (c .before .move-up .ensures)
 
 pub open-gap-spec : {M : Type 1} → statement M
 open-gap-spec =

@@ -31,7 +31,7 @@ same-length c = search needs
 returns : tie.Need-returns
 returns c =
     let s : tie.Start = c .before .before .before in
-    replacement (s .args .cells .now) (s .args .row .now) (c .before .overwrite .last .0) (s .args .place) (s .pre) (c .before .overwrite .ensures)
+    replacement (s .args .header) (s .args .cells .now) (s .args .row .now) (c .before .overwrite .last .0) (s .args .place) (s .pre) (c .before .overwrite .ensures)
 
 pub replace-row-spec : {M : Type 1} → statement M
 replace-row-spec =

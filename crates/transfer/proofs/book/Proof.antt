@@ -125,7 +125,7 @@ returns-2 c =
     let s : tie.Start = s p in
     let b : tie.After-write-record2 = written2 (put g .before) in
     let a : tie.After-adjust-record = adjusted1 (opened (written (b .before) .before)) in
-    transfer-returns (rs s) (ps s) (id s) (suffix s) (from s) (to s) (series s) (r p) (named p)
+    transfer-returns (rs s) (ps s) (id s) (suffix s) (from s) (to s) (series s) (r p) (named p) (s .pre .0) (s .pre .1)
     (a .adjust-record .last .0) (b .write-record2 .last .0) (put g .put-position .last .0) (c .before .put-position2 .last .0)
     (adjusted-put a) (both-put b) (old-put (put g)) (new-put (c .before))
 

@@ -9,7 +9,7 @@ use lib.ListN.{length}
 use mir.Facts.{toZ-ofZ}
 use Rattle.rules.specs.Keyed.{isSome, find, upsert}
 use Rattle.rules.specs.Rows.{keyOf, recordKey, adjustedRecord}
-use Rattle.rules.specs.Layout.{rowsOf, write}
+use Rattle.rules.specs.Layout.{rowsOf, write, rowAt}
 use Rattle.rules.specs.Tables.{recordsLayout, recordAt}
 use Rattle.rules.specs.declared.Record.{Record}
 use Rattle.keys.proofs.Split.{clash}
@@ -42,12 +42,12 @@ module _ (c : tie.After-row) where
   row = c .row .given .0 .0
 
   there : (row < length (rowsOf recordsLayout (cells start)))
-      × (find recordKey (keyOf (start .args .id) (start .args .suffix)) (rowsOf recordsLayout (cells start)) ≡ some (recordAt (cells start) (1 + row * 13)))
-      × (recordKey (recordAt (cells start) (1 + row * 13)) ≡ keyOf (start .args .id) (start .args .suffix))
+      × (find recordKey (keyOf (start .args .id) (start .args .suffix)) (rowsOf recordsLayout (cells start)) ≡ some (rowAt recordsLayout (cells start) row))
+      × (recordKey (rowAt recordsLayout (cells start) row) ≡ keyOf (start .args .id) (start .args .suffix))
   there = record-found (cells start) (start .args .id) (start .args .suffix) row (sym (answer (c .before .before)) ∙ c .row .given .1)
 
-  named : recordNamed (cells start) (keyOf (start .args .id) (start .args .suffix)) ≡ recordAt (cells start) (1 + row * 13)
-  named = found-record (find recordKey (keyOf (start .args .id) (start .args .suffix)) (rowsOf recordsLayout (cells start))) (recordAt (cells start) (1 + row * 13)) (there .1)
+  named : recordNamed (cells start) (keyOf (start .args .id) (start .args .suffix)) ≡ rowAt recordsLayout (cells start) row
+  named = found-record (find recordKey (keyOf (start .args .id) (start .args .suffix)) (rowsOf recordsLayout (cells start))) (rowAt recordsLayout (cells start) row) (there .1)
 
 find-record-requires : tie.Need-find-record-requires
 find-record-requires c κs = search needs

@@ -13,7 +13,7 @@ use mir.Val.{toZ, ofZ}
 use Rattle.rules.specs.Keyed.{Key, isSome, find}
 use Rattle.rules.specs.Figures.{mergeKind}
 use Rattle.rules.specs.Rows.{keyOf, recordKey, inverseRecord}
-use Rattle.rules.specs.Layout.{rowsOf}
+use Rattle.rules.specs.Layout.{rowsOf, rowAt}
 use Rattle.rules.specs.Tables.{recordsLayout, recordAt}
 use Rattle.rules.specs.declared.Record.{Record}
 use Rattle.keys.proofs.Split.{clash}
@@ -50,8 +50,8 @@ module _ (c : tie.After-row) where
   abbrev row : ℕ
   row = c .row .given .0 .0
 
-  there : (row < length (rowsOf recordsLayout (cells start))) × (find recordKey (key start) (rowsOf recordsLayout (cells start)) ≡ some (recordAt (cells start) (1 + row * 13)))
-      × (recordKey (recordAt (cells start) (1 + row * 13)) ≡ key start)
+  there : (row < length (rowsOf recordsLayout (cells start))) × (find recordKey (key start) (rowsOf recordsLayout (cells start)) ≡ some (rowAt recordsLayout (cells start) row))
+      × (recordKey (rowAt recordsLayout (cells start) row) ≡ key start)
   there = record-found (cells start) (start .args .id) (start .args .suffix) row (sym (answer (c .before .before)) ∙ c .row .given .1)
 
 -- ---- the record and its inverse

@@ -8,17 +8,16 @@ use mir.Val.{toZ, ofZ}
 use Rattle.rules.specs.Layout.{countOf, countIsSound}
 use Rattle.rules.specs.Rows.{positionKey, soundPosition}
 use Rattle.rules.specs.Tables.{positionsLayout, soundPositions}
-use Rattle.cells.proofs.Count.{sound-count-cell}
 use Rattle.cells.proofs.RowCells.{positions-lawful}
 use Rattle.figures.proofs.Tests.{failed, passed}
 use Rattle.scan.proofs.ReadBack.{read-back}
-use Rattle.scan.proofs.Room.{positions-count}
-use Rattle.scan.proofs.TableScan.{unsound-count, count-casts, counted-rows-within, rows-decide}
+use Rattle.scan.proofs.Room.{layout-count}
+use Rattle.scan.proofs.TableScan.{unsound-count, count-there, count-casts, counted-rows-within, rows-decide}
 use Rattle.scan.proofs.soundness.positions_sound.Statement.{statement}
 use Rattle.scan.proofs.soundness.positions_sound.Tie as tie
 
 answer : (c : tie.After-count-sound) → c .count-sound .result ≡ countIsSound positionsLayout (c .before .args .cells .now)
-answer c = c .count-sound .ensures ∙ positions-count (c .before .args .cells .now)
+answer c = c .count-sound .ensures ∙ layout-count positionsLayout (c .before .args .cells .now)
 
 sound : (c : tie.Else1) → countIsSound positionsLayout (c .before .before .args .cells .now) ≡ true
 sound c = passed (answer (c .before)) (c .if1 .left)
@@ -36,7 +35,7 @@ returns c =
     (failed (answer (c .before)) (c .if1 .taken))
 
 shared-slice-copy-out-count : tie.Need-shared-slice-copy-out-count
-shared-slice-copy-out-count c = sound-count-cell positionsLayout positions-lawful (c .before .before .args .cells .now) (sound c)
+shared-slice-copy-out-count c = count-there positionsLayout positions-lawful (c .before .before .args .cells .now) (sound c)
 
 cast-count : tie.Need-cast-count
 cast-count c =
@@ -51,7 +50,7 @@ returns-2 : tie.Need-returns-2
 unfolding soundPositions
 returns-2 c =
     (simp (count (c .before)) at (c .position-rows-sound .ensures))
-    ∙ rows-decide positionsLayout positionKey soundPosition (c .before .before .before .before .args .cells .now) positions-lawful (sound (c .before .before))
+    ∙ rows-decide positionsLayout positionKey soundPosition (c .before .before .before .before .args .cells .now) (sound (c .before .before))
 
 pub positions-sound-spec : {M : Type 1} → statement M
 positions-sound-spec =

@@ -8,17 +8,16 @@ use mir.Val.{toZ, ofZ}
 use Rattle.rules.specs.Layout.{countOf, countIsSound}
 use Rattle.rules.specs.Rows.{recordKey, soundRecord}
 use Rattle.rules.specs.Tables.{recordsLayout, soundRecords}
-use Rattle.cells.proofs.Count.{sound-count-cell}
 use Rattle.cells.proofs.RowCells.{records-lawful}
 use Rattle.figures.proofs.Tests.{failed, passed}
 use Rattle.scan.proofs.ReadBack.{read-back}
-use Rattle.scan.proofs.Room.{records-count}
-use Rattle.scan.proofs.TableScan.{unsound-count, count-casts, counted-rows-within, rows-decide}
+use Rattle.scan.proofs.Room.{layout-count}
+use Rattle.scan.proofs.TableScan.{unsound-count, count-there, count-casts, counted-rows-within, rows-decide}
 use Rattle.scan.proofs.soundness.records_sound.Statement.{statement}
 use Rattle.scan.proofs.soundness.records_sound.Tie as tie
 
 answer : (c : tie.After-count-sound) → c .count-sound .result ≡ countIsSound recordsLayout (c .before .args .cells .now)
-answer c = c .count-sound .ensures ∙ records-count (c .before .args .cells .now)
+answer c = c .count-sound .ensures ∙ layout-count recordsLayout (c .before .args .cells .now)
 
 sound : (c : tie.Else1) → countIsSound recordsLayout (c .before .before .args .cells .now) ≡ true
 sound c = passed (answer (c .before)) (c .if1 .left)
@@ -36,7 +35,7 @@ returns c =
     (failed (answer (c .before)) (c .if1 .taken))
 
 shared-slice-copy-out-count : tie.Need-shared-slice-copy-out-count
-shared-slice-copy-out-count c = sound-count-cell recordsLayout records-lawful (c .before .before .args .cells .now) (sound c)
+shared-slice-copy-out-count c = count-there recordsLayout records-lawful (c .before .before .args .cells .now) (sound c)
 
 cast-count : tie.Need-cast-count
 cast-count c =
@@ -51,7 +50,7 @@ returns-2 : tie.Need-returns-2
 unfolding soundRecords
 returns-2 c =
     (simp (count (c .before)) at (c .record-rows-sound .ensures))
-    ∙ rows-decide recordsLayout recordKey soundRecord (c .before .before .before .before .args .cells .now) records-lawful (sound (c .before .before))
+    ∙ rows-decide recordsLayout recordKey soundRecord (c .before .before .before .before .args .cells .now) (sound (c .before .before))
 
 pub records-sound-spec : {M : Type 1} → statement M
 records-sound-spec =

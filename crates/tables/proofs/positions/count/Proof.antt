@@ -9,7 +9,7 @@ use Rattle.cells.proofs.Count.{length-rowsOf}
 use Rattle.cells.proofs.RowCells.{positions-lawful}
 use Rattle.cells.proofs.SoundCells.{positions-known}
 use Rattle.scan.proofs.ReadBack.{read-back}
-use Rattle.scan.proofs.TableScan.{count-casts}
+use Rattle.scan.proofs.TableScan.{count-there, count-casts}
 use Rattle.tables.proofs.positions.count.Statement.{statement}
 use Rattle.tables.proofs.positions.count.Tie as tie
 
@@ -17,7 +17,7 @@ cell : (c : tie.After-result) → toZ w64 (ofZ w64 (countOf (c .before .args .ce
 cell c = read-back (countOf (c .before .args .cells .now)) (c .result .given)
 
 shared-slice-copy-out-result : tie.Need-shared-slice-copy-out-result
-shared-slice-copy-out-result c = positions-known (c .args .cells .now) (c .pre) .count-cell
+shared-slice-copy-out-result c = count-there positionsLayout positions-lawful (c .args .cells .now) (positions-known (c .args .cells .now) (c .pre) .count-sound)
 
 cast-result : tie.Need-cast-result
 cast-result c =

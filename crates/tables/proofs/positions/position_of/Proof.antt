@@ -7,7 +7,7 @@ use lib.ListN.{length}
 use mir.Facts.{toZ-ofZ}
 use borrow.Author.Needs.{needs}
 use Rattle.rules.specs.Rows.{zeroPosition}
-use Rattle.rules.specs.Layout.{rowsOf}
+use Rattle.rules.specs.Layout.{startOf, rowsOf}
 use Rattle.rules.specs.Tables.{positionsLayout}
 use Rattle.cells.proofs.SoundCells.{positions-known}
 use Rattle.lookup.specs.Lookup.{positionFound}
@@ -27,11 +27,11 @@ module _ (c : tie.After-row) where
   found : positionFound (s .args .cells .now) (s .args .account) (s .args .series) ≡ Row (c .row .given .0 .0)
   found = sym (answer (c .before .before)) ∙ c .row .given .1
 
-  within : 1 + suc (c .row .given .0 .0) * 5 ≤ length (s .args .cells .now)
+  within : startOf positionsLayout (suc (c .row .given .0 .0)) ≤ length (s .args .cells .now)
   within =
       let below : c .row .given .0 .0 < length (rowsOf positionsLayout (s .args .cells .now))
       = position-found (s .args .cells .now) (s .args .account) (s .args .series) (c .row .given .0 .0) found .0 in
-      omega (arith, positions-known (s .args .cells .now) (s .pre) .rows-within, mul-le-mul-right 5 below)
+      omega (arith, positions-known (s .args .cells .now) (s .pre) .rows-within, mul-le-mul-right (positionsLayout .width) below)
 
 find-position-requires : tie.Need-find-position-requires
 find-position-requires c κs = search needs

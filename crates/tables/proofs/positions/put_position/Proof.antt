@@ -13,9 +13,9 @@ use Rattle.rules.specs.Tables.{positionsLayout, soundPositions}
 use Rattle.cells.specs.SoundTable.{SoundPositions}
 use Rattle.cells.proofs.RowCells.{positions-lawful}
 use Rattle.cells.proofs.SoundCells.{positions-known}
-use Rattle.lookup.specs.Lookup.{rowFound, rowPlace, keysRise}
+use Rattle.lookup.specs.Lookup.{rowFound, rowPlace, Searchable}
 use Rattle.lookup.specs.declared.Found.the-variants.{Row}
-use Rattle.lookup.proofs.TableLookup.{positions-first, table-rises}
+use Rattle.lookup.proofs.TableLookup.{positions-first, table-searchable}
 use Rattle.scan.proofs.ReadBack.{read-back}
 use Rattle.tables.proofs.RowFits.{absent-row, room-for-one, insertion-fits, replacement-fits}
 use Rattle.tables.proofs.RowPut.{put-inserted, put-replaced}
@@ -26,14 +26,10 @@ table : (s : tie.Start) → SoundPositions (s .args .cells .now)
 table s = positions-known (s .args .cells .now) (s .pre .0)
 
 -- What the lookup asks of the rows.
-searched : (c : tie.After-count) → let cells = c .before .before .before .before .args .cells .now in
-    (2 ≤ 5) × (1 + c .count .result * 5 ≤ length cells) × (keysRise 5 (c .count .result) cells ≡ true)
+searched : (c : tie.After-count) → Searchable (positionsLayout .header) (positionsLayout .width) (c .count .result) (c .before .before .before .before .args .cells .now)
 searched c =
-    let s : tie.Start = c .before .before .before .before in (
-      omega arith,
-      omega (arith, table s .rows-within, c .count .ensures),
-      table-rises positionsLayout positionKey positions-first (s .args .cells .now) (table s .rows-rise) (c .count .result) (c .count .ensures),
-    )
+    let s : tie.Start = c .before .before .before .before in
+    table-searchable positionsLayout positionKey positions-first (s .args .cells .now) soundPosition (table s) (c .count .result) (c .count .ensures)
 
 -- What the lookup answered.
 module _ (c : tie.After-find-row) where
@@ -43,13 +39,13 @@ module _ (c : tie.After-find-row) where
   abbrev start : tie.Start
   start = counted .before .before .before .before
 
-  answer : c .find-row .result ≡ rowFound 5 (positionKey (start .args .p)) (counted .count .result) (start .args .cells .now)
+  answer : c .find-row .result ≡ rowFound (positionsLayout .header) (positionsLayout .width) (positionKey (start .args .p)) (counted .count .result) (start .args .cells .now)
   answer =
       let known = counted .before .before .before .struct-told .given in
       simp (read-back (start .args .p .account) (known .0 .1), read-back (start .args .p .series) (known .1 .0 .1)) at (c .find-row .ensures)
 
 -- The row with the key.
-there : (c : tie.After-at) → Row (c .at .given .0 .0) ≡ rowFound 5 (positionKey (start (c .before .before) .args .p)) (counted (c .before .before) .count .result) (start (c .before .before) .args .cells .now)
+there : (c : tie.After-at) → Row (c .at .given .0 .0) ≡ rowFound (positionsLayout .header) (positionsLayout .width) (positionKey (start (c .before .before) .args .p)) (counted (c .before .before) .count .result) (start (c .before .before) .args .cells .now)
 there c = sym (c .at .given .1) ∙ answer (c .before .before)
 
 -- No row with the key, and room for one.
@@ -66,7 +62,7 @@ module _ (c : tie.After-enum-told) where
   room = room-for-one positionKey (start found .args .p) (rowsOf positionsLayout (start found .args .cells .now)) lacking (start found .pre .2)
 
 placed : (c : tie.After-place-of) →
-    c .place-of .result ≡ rowPlace 5 (positionKey (start (c .before .before .before .before) .args .p)) (counted (c .before .before .before .before) .count .result) (start (c .before .before .before .before) .args .cells .now)
+    c .place-of .result ≡ rowPlace (positionsLayout .header) (positionsLayout .width) (positionKey (start (c .before .before .before .before) .args .p)) (counted (c .before .before .before .before) .count .result) (start (c .before .before .before .before) .args .cells .now)
 placed c =
     let s : tie.Start = start (c .before .before .before .before) in
     let known = counted (c .before .before .before .before) .before .before .before .struct-told .given in

@@ -1,7 +1,8 @@
--- `tables::positions::room` meets its contract: the layout's width and greatest room. Assumes nothing.
+-- `tables::positions::room` meets its contract: the layout's numbers. Assumes nothing.
 use mathlib.Core.Path.{_∙_}
 use borrow.Author.Needs.{needs}
-use Rattle.scan.proofs.Room.{positions-room}
+use Rattle.rules.specs.Tables.{positionsLayout}
+use Rattle.scan.proofs.Room.{layout-room}
 use Rattle.tables.proofs.positions.room.Statement.{statement}
 use Rattle.tables.proofs.positions.room.Tie as tie
 
@@ -9,7 +10,7 @@ room-for-requires : tie.Need-room-for-requires
 room-for-requires c κs = search needs
 
 returns : tie.Need-returns
-returns c = c .room-for .ensures ∙ positions-room (c .before .args .cells .now)
+returns c = c .room-for .ensures ∙ layout-room positionsLayout (c .before .args .cells .now)
 
 pub room-spec : {M : Type 1} → statement M
 room-spec = tie.close (tie.spec room-for-requires returns)

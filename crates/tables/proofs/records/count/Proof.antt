@@ -9,7 +9,7 @@ use Rattle.cells.proofs.Count.{length-rowsOf}
 use Rattle.cells.proofs.RowCells.{records-lawful}
 use Rattle.cells.proofs.SoundCells.{records-known}
 use Rattle.scan.proofs.ReadBack.{read-back}
-use Rattle.scan.proofs.TableScan.{count-casts}
+use Rattle.scan.proofs.TableScan.{count-there, count-casts}
 use Rattle.tables.proofs.records.count.Statement.{statement}
 use Rattle.tables.proofs.records.count.Tie as tie
 
@@ -17,7 +17,7 @@ cell : (c : tie.After-result) → toZ w64 (ofZ w64 (countOf (c .before .args .ce
 cell c = read-back (countOf (c .before .args .cells .now)) (c .result .given)
 
 shared-slice-copy-out-result : tie.Need-shared-slice-copy-out-result
-shared-slice-copy-out-result c = records-known (c .args .cells .now) (c .pre) .count-cell
+shared-slice-copy-out-result c = count-there recordsLayout records-lawful (c .args .cells .now) (records-known (c .args .cells .now) (c .pre) .count-sound)
 
 cast-result : tie.Need-cast-result
 cast-result c =

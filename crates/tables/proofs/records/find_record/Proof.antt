@@ -1,15 +1,13 @@
 -- `tables::records::find_record` meets its contract: the lookup over as many rows as the count says. Assumes nothing.
-use native.Mathlib.Omega.{arith}
 use mathlib.Core.Path.{_≡_, ap, _∙_}
 use Prim.Native.Nat.{ℕ}
 use mir.Facts.{toZ-ofZ}
-use Rattle.rules.specs.Rows.{keyOf, recordKey}
+use Rattle.rules.specs.Rows.{keyOf, recordKey, soundRecord}
 use Rattle.rules.specs.Tables.{recordsLayout}
-use Rattle.cells.specs.SoundTable.{SoundRecords}
 use Rattle.cells.proofs.Count.{length-rowsOf}
 use Rattle.cells.proofs.SoundCells.{records-known}
 use Rattle.lookup.specs.Lookup.{rowFound}
-use Rattle.lookup.proofs.TableLookup.{records-first, table-rises}
+use Rattle.lookup.proofs.TableLookup.{records-first, table-searchable}
 use borrow.Author.Needs.{needs}
 use Rattle.tables.proofs.records.find_record.Statement.{statement}
 use Rattle.tables.proofs.records.find_record.Tie as tie
@@ -19,14 +17,13 @@ count-requires c κs = search needs
 
 find-row-requires : tie.Need-find-row-requires
 find-row-requires c κs =
-    let table : SoundRecords (c .before .args .cells .now) = records-known (c .before .args .cells .now) (c .before .pre) in
-    (omega arith, omega (arith, table .rows-within), table-rises recordsLayout recordKey records-first (c .before .args .cells .now) (table .rows-rise) (c .count .result) (c .count .ensures))
+    table-searchable recordsLayout recordKey records-first (c .before .args .cells .now) soundRecord (records-known (c .before .args .cells .now) (c .before .pre)) (c .count .result) (c .count .ensures)
 
 returns : tie.Need-returns
 returns c =
     let s : tie.Start = c .before .before in
-    let answer : c .find-row .result ≡ rowFound 13 (keyOf (s .args .id) (s .args .suffix)) (c .before .count .result) (s .args .cells .now) = simp (toZ-ofZ (s .fits .id), toZ-ofZ (s .fits .suffix)) at (c .find-row .ensures) in
-    answer ∙ ap (λ (n : ℕ). rowFound 13 (keyOf (s .args .id) (s .args .suffix)) n (s .args .cells .now)) (c .before .count .ensures ∙ length-rowsOf recordsLayout (s .args .cells .now))
+    let answer : c .find-row .result ≡ rowFound (recordsLayout .header) (recordsLayout .width) (keyOf (s .args .id) (s .args .suffix)) (c .before .count .result) (s .args .cells .now) = simp (toZ-ofZ (s .fits .id), toZ-ofZ (s .fits .suffix)) at (c .find-row .ensures) in
+    answer ∙ ap (λ (n : ℕ). rowFound (recordsLayout .header) (recordsLayout .width) (keyOf (s .args .id) (s .args .suffix)) n (s .args .cells .now)) (c .before .count .ensures ∙ length-rowsOf recordsLayout (s .args .cells .now))
 
 pub find-record-spec : {M : Type 1} → statement M
 find-record-spec = tie.close (tie.spec count-requires find-row-requires returns)

@@ -8,7 +8,7 @@ use Rattle.cells.specs.SoundTable.{SoundRecords}
 use Rattle.cells.proofs.RowCells.{records-lawful}
 use Rattle.cells.proofs.SoundCells.{records-known}
 use Rattle.lookup.specs.Lookup.{rowPlace}
-use Rattle.lookup.proofs.TableLookup.{records-first, table-rises}
+use Rattle.lookup.proofs.TableLookup.{records-first, table-searchable}
 use Rattle.scan.proofs.ReadBack.{read-back}
 use Rattle.tables.proofs.RowFits.{insertion-fits}
 use Rattle.tables.proofs.RowPut.{put-inserted}
@@ -20,7 +20,7 @@ table s = records-known (s .args .cells .now) (s .pre .0)
 
 -- The place that the lookup answered.
 placed : (c : tie.After-place-of) →
-    c .place-of .result ≡ rowPlace 13 (recordKey (c .before .before .before .before .before .before .args .r)) (c .before .before .before .before .count .result) (c .before .before .before .before .before .before .args .cells .now)
+    c .place-of .result ≡ rowPlace (recordsLayout .header) (recordsLayout .width) (recordKey (c .before .before .before .before .before .before .args .r)) (c .before .before .before .before .count .result) (c .before .before .before .before .before .before .args .cells .now)
 placed c =
     let s : tie.Start = c .before .before .before .before .before .before in
     let known = c .before .before .before .struct-told .given in
@@ -33,7 +33,7 @@ place-of-requires : tie.Need-place-of-requires
 place-of-requires c κs =
     let s : tie.Start = c .before .before .before .before .before in
     let n : tie.After-count = c .before .before .before in
-    (omega arith, omega (arith, table s .rows-within, n .count .ensures), table-rises recordsLayout recordKey records-first (s .args .cells .now) (table s .rows-rise) (n .count .result) (n .count .ensures))
+    table-searchable recordsLayout recordKey records-first (s .args .cells .now) soundRecord (table s) (n .count .result) (n .count .ensures)
 
 record-cells-requires : tie.Need-record-cells-requires
 record-cells-requires c κs = search needs

@@ -4,12 +4,13 @@ use mathlib.Core.Path.{_≡_, ap, _∙_}
 use Prim.Native.Nat.{ℕ}
 use mir.Facts.{toZ-ofZ}
 use borrow.Author.Needs.{needs}
-use Rattle.rules.specs.Rows.{keyOf, recordKey}
+use Rattle.rules.specs.Rows.{keyOf, recordKey, soundRecord}
 use Rattle.rules.specs.Tables.{recordsLayout}
 use Rattle.cells.specs.SoundTable.{SoundRecords}
+use Rattle.cells.proofs.Count.{length-rowsOf}
 use Rattle.cells.proofs.SoundCells.{records-known}
-use Rattle.lookup.specs.Lookup.{rowPlace}
-use Rattle.lookup.proofs.TableLookup.{records-first, table-rises}
+use Rattle.lookup.specs.Lookup.{rowPlace, placeIn}
+use Rattle.lookup.proofs.TableLookup.{records-first, table-searchable}
 use Rattle.shifter.specs.Insertion.{gapped}
 use Rattle.tables.proofs.NewRows.{gap-fits}
 use Rattle.tables.proofs.records.open_rows.Statement.{statement}
@@ -26,8 +27,11 @@ module _ (c : tie.After-place-of) where
   start = counted .before .before
 
   -- The place that the lookup answered.
-  placed : c .place-of .result ≡ rowPlace 13 (keyOf (start .args .id) (start .args .suffix)) (counted .count .result) (start .args .cells .now)
-  placed = simp (toZ-ofZ (start .fits .id), toZ-ofZ (start .fits .suffix)) at (c .place-of .ensures)
+  placed : c .place-of .result ≡ placeIn recordsLayout (keyOf (start .args .id) (start .args .suffix)) (start .args .cells .now)
+  placed =
+      (simp (toZ-ofZ (start .fits .id), toZ-ofZ (start .fits .suffix)) at (c .place-of .ensures))
+      ∙ ap (λ (n : ℕ). rowPlace (recordsLayout .header) (recordsLayout .width) (keyOf (start .args .id) (start .args .suffix)) n (start .args .cells .now))
+      (counted .count .ensures ∙ length-rowsOf recordsLayout (start .args .cells .now))
 
 count-requires : tie.Need-count-requires
 count-requires c κs = search needs
@@ -36,7 +40,7 @@ place-of-requires : tie.Need-place-of-requires
 place-of-requires c κs =
     let s : tie.Start = c .before .before .before in
     let n : tie.After-count = c .before in
-    (omega arith, omega (arith, table s .rows-within, n .count .ensures), table-rises recordsLayout recordKey records-first (s .args .cells .now) (table s .rows-rise) (n .count .result) (n .count .ensures))
+    table-searchable recordsLayout recordKey records-first (s .args .cells .now) soundRecord (table s) (n .count .result) (n .count .ensures)
 
 open-gap-requires : tie.Need-open-gap-requires
 open-gap-requires c κs =
@@ -52,8 +56,9 @@ returns : tie.Need-returns
 returns c =
     let p : tie.After-place-of = c .before .before .before in
     let s : tie.Start = start p in (
-      placed p ∙ ap (λ (n : ℕ). rowPlace 13 (keyOf (s .args .id) (s .args .suffix)) n (s .args .cells .now)) (counted p .count .ensures),
-      c .before .open-gap .ensures ∙ ap (λ (n : ℕ). gapped 13 n (p .place-of .result) (s .args .added) (s .args .cells .now)) (counted p .count .ensures),
+      placed p,
+      c .before .open-gap .ensures
+          ∙ ap (λ (n : ℕ). gapped (recordsLayout .header) (recordsLayout .width) n (p .place-of .result) (s .args .added) (s .args .cells .now)) (counted p .count .ensures),
     )
 
 pub open-rows-spec : {M : Type 1} → statement M

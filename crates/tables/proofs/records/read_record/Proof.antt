@@ -2,14 +2,16 @@
 use native.Mathlib.Omega.{arith}
 use Prim.Native.Nat.{suc, _+_, _*_, _≤_}
 use lib.ListN.{length}
+use Rattle.rules.specs.Layout.{startOf}
+use Rattle.rules.specs.Tables.{recordsLayout}
 use Rattle.cells.proofs.SoundCells.{records-known}
-use Rattle.tables.proofs.AdjustedRow.{row-cells}
+use Rattle.tables.proofs.RowStatus.{row-cells}
 use borrow.Author.Needs.{needs}
 use Rattle.tables.proofs.records.read_record.Statement.{statement}
 use Rattle.tables.proofs.records.read_record.Tie as tie
 
 module _ (s : tie.Start) where
-  within : 1 + suc (s .args .row) * 13 ≤ length (s .args .cells .now)
+  within : startOf recordsLayout (suc (s .args .row)) ≤ length (s .args .cells .now)
   within = row-cells (s .args .cells .now) (records-known (s .args .cells .now) (s .pre .0)) (s .args .row) (s .pre .1)
 
 mul-record-at : tie.Need-mul-record-at

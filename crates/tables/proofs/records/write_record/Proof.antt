@@ -1,10 +1,11 @@
--- `tables::records::write_record` meets its contract: the record's cells, 13 of them, in place of the row's. Assumes nothing.
+-- `tables::records::write_record` meets its contract: the record's cells in place of the row's. Assumes nothing.
 use mathlib.Core.Path.{_≡_, sym, ap, subst, _∙_}
 use Prim.Native.Nat.{ℕ, suc, _+_, _*_, _≤_}
 use mathlib.Core.List.{List}
 use lib.IntN.{ℤ}
 use lib.ListN.{length}
 use borrow.Author.Needs.{needs}
+use Rattle.rules.specs.Tables.{recordsLayout}
 use Rattle.cells.proofs.RowCells.{records-lawful}
 use Rattle.shifter.specs.Insertion.{replaced}
 use Rattle.tables.proofs.records.write_record.Statement.{statement}
@@ -16,14 +17,14 @@ record-cells-requires c κs = search needs
 slice-aggregate-replace-row : tie.Need-slice-aggregate-replace-row
 slice-aggregate-replace-row c = search needs
 
-wide : (c : tie.After-record-cells) → length (c .record-cells .result) ≡ 13
+wide : (c : tie.After-record-cells) → length (c .record-cells .result) ≡ recordsLayout .width
 wide c = ap length (c .record-cells .ensures) ∙ records-lawful .put-length (c .before .args .r)
 
 replace-row-requires : tie.Need-replace-row-requires
 replace-row-requires c κs =
     let r : tie.After-record-cells = c .before .before in
     let s : tie.Start = r .before in
-    subst (λ (w : ℕ). 1 + suc (s .args .row) * w ≤ length (s .args .cells .now)) (sym (wide r)) (s .pre)
+    subst (λ (w : ℕ). recordsLayout .header + suc (s .args .row) * w ≤ length (s .args .cells .now)) (sym (wide r)) (s .pre)
 
 same-length : tie.Need-same-length
 same-length c = search needs
@@ -32,7 +33,7 @@ returns : tie.Need-returns
 returns c =
     let r : tie.After-record-cells = c .before .before .before .before in
     let s : tie.Start = r .before in
-    c .before .replace-row .ensures ∙ ap (λ (cells : List ℤ). replaced cells (s .args .row) (s .args .cells .now)) (r .record-cells .ensures)
+    c .before .replace-row .ensures ∙ ap (λ (cells : List ℤ). replaced (recordsLayout .header) cells (s .args .row) (s .args .cells .now)) (r .record-cells .ensures)
 
 pub write-record-spec : {M : Type 1} → statement M
 write-record-spec =

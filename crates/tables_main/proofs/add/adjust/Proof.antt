@@ -7,7 +7,7 @@ use lib.ListN.{length}
 use mir.Facts.{toZ-ofZ, sfits-lit}
 use borrow.Author.Needs.{needs, sfits-of}
 use Rattle.integers.proofs.Bits.{ofZ-inj}
-use Rattle.rules.specs.Layout.{rowsOf}
+use Rattle.rules.specs.Layout.{rowsOf, rowAt}
 use Rattle.rules.specs.Tables.{recordAt, recordsLayout, soundRecords}
 use Rattle.rules.specs.declared.Record.{Record}
 use Rattle.figures.proofs.Tests.{passed}
@@ -41,7 +41,7 @@ module _ (c : tie.Else2) where
   abbrev found : tie.After-row
   found = c .before .before .before .before .before .before
 
-  status-zero : (recordAt (start (tested found) .args .cells .now) (1 + found .row .given .0 .0 * 13)) .status ≡ pos 0
+  status-zero : (rowAt recordsLayout (start (tested found) .args .cells .now) (found .row .given .0 .0)) .status ≡ pos 0
   status-zero =
       sym (ap (λ (r : Record). r .status) (c .before .before .before .read-record .ensures))
       ∙ ofZ-inj (sfits-of (c .before .struct-told .given .1 .1 .1 .1 .0 .1)) (sfits-lit tt) (c .if2 .left)

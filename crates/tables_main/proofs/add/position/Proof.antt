@@ -11,7 +11,7 @@ use mir.Val.{toZ, ofZ}
 use borrow.Author.Needs.{needs}
 use Rattle.rules.specs.Keyed.{absentFrom}
 use Rattle.rules.specs.Rows.{positionKey, soundPosition}
-use Rattle.rules.specs.Layout.{roomOf, rowsOf}
+use Rattle.rules.specs.Layout.{roomOf, rowsOf, rowAt}
 use Rattle.rules.specs.Tables.{positionAt, positionsLayout, soundPositions}
 use Rattle.rules.specs.declared.Position.{Position}
 use Rattle.cells.proofs.SoundCells.{positions-known}
@@ -66,7 +66,7 @@ over-fits c =
     omega (
       arith,
       positions-known (s .args .cells .now) (table-sound (tested (c .before .before))) .rows-fit,
-      absentFrom-old positionKey (rowsOf positionsLayout (s .args .cells .now)) (new s) (positionAt (s .args .cells .now) (1 + c .enum-told .given .0 .0 * 5)) []
+      absentFrom-old positionKey (rowsOf positionsLayout (s .args .cells .now)) (new s) (rowAt positionsLayout (s .args .cells .now) (c .enum-told .given .0 .0)) []
           (position-found (s .args .cells .now) (new s .account) (new s .series) (c .enum-told .given .0 .0) (sym (answer (c .before .before)) ∙ c .enum-told .given .1) .1),
       absentFrom-nil positionKey (rowsOf positionsLayout (s .args .cells .now)),
     )

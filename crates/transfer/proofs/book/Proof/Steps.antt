@@ -12,11 +12,11 @@ use mir.Val.{toZ, ofZ}
 use Rattle.rules.specs.Figures.{transferKind}
 use Rattle.rules.specs.Rows.{keyOf, recordKey, positionKey, adjustedRecord, adjustableRecord, moved}
 use Rattle.rules.specs.Transfer.{inLong, inShort}
-use Rattle.rules.specs.Layout.{roomOf, rowsOf}
+use Rattle.rules.specs.Layout.{roomOf, rowsOf, startOf}
 use Rattle.rules.specs.Tables.{recordsLayout, positionsLayout}
 use Rattle.rules.specs.declared.Record.{Record}
 use Rattle.rules.specs.declared.Position.{Position}
-use Rattle.lookup.specs.Lookup.{rowPlace}
+use Rattle.lookup.specs.Lookup.{rowPlace, placeIn}
 use Rattle.soundness.proofs.NamedRecord.{nextOf}
 use Rattle.verdict.proofs.Puts.{putOne, putAll}
 use Rattle.verdict.proofs.Transfer.{transferInverse, transferArrived, transferOld, transferNew}
@@ -59,12 +59,12 @@ module _ (c : tie.After-open-rows) where
   abbrev pub rs₁ : List ℤ
   rs₁ = adjusted1 .adjust-record .last .0
 
-  pub place-is : c .open-rows .result ≡ rowPlace 13 (keyOf (id (s read2)) (next (s read2))) (length (rowsOf recordsLayout rs₁)) rs₁
+  pub place-is : c .open-rows .result ≡ placeIn recordsLayout (keyOf (id (s read2)) (next (s read2))) rs₁
   place-is =
       c .open-rows .ensures .0
-      ∙ (λ i. rowPlace 13 (keyOf (toZ-ofZ (s read2 .fits .id) i) (next-is read2 i)) (length (rowsOf recordsLayout rs₁)) rs₁)
+      ∙ (λ i. placeIn recordsLayout (keyOf (toZ-ofZ (s read2 .fits .id) i) (next-is read2 i)) rs₁)
 
-  pub fit : (1 + suc (c .open-rows .result) * 13 ≤ length (c .open-rows .last .0)) × (1 + suc (c .open-rows .result + 1) * 13 ≤ length (c .open-rows .last .0))
+  pub fit : (startOf recordsLayout (suc (c .open-rows .result)) ≤ length (c .open-rows .last .0)) × (startOf recordsLayout (suc (c .open-rows .result + 1)) ≤ length (c .open-rows .last .0))
       × (c .open-rows .result < 4096)
   fit =
       rows-fit rs₁ (adjusted1 .adjust-record .ensures .1) (id (s read2)) (next (s read2)) (c .open-rows .result) (room-left adjusted1) place-is

@@ -1,0 +1,58 @@
+-- A row of a sound records table with another status set in its cell: the table with the record in that status put among its rows, and sound where that record is.
+-- An adjustable record is sound when adjusted. Assumes nothing.
+use Prim.Native.Nat.{ℕ, suc, _+_, _*_, _≤_, _<_}
+use native.Mathlib.Nat.{mul-le-mul-right}
+use native.Mathlib.Omega.{arith}
+use mathlib.Core.Path.{_≡_, refl, sym, ap, _∙_}
+use mathlib.Core.Bool.{true}
+use mathlib.Core.List.{List}
+use lib.IntN.{ℤ, pos, natAbs}
+use lib.ListN.{length, set}
+use Rattle.rules.specs.Keyed.{Key, upsert}
+use Rattle.rules.specs.Figures.{adjustable}
+use Rattle.rules.specs.Rows.{recordKey, soundRecord, withStatus, adjustedRecord}
+use Rattle.rules.specs.Layout.{countOf, startOf, rowAt, rowsOf, write}
+use Rattle.rules.specs.Tables.{recordCells, statusCell, recordsLayout, soundRecords}
+use Rattle.rules.specs.declared.Record.{Record}
+use Rattle.cells.specs.SoundTable.{SoundRecords}
+use Rattle.cells.proofs.Count.{length-rowsOf}
+use Rattle.cells.proofs.RowCells.{records-lawful}
+use Rattle.keys.proofs.Lookup.{find-all}
+use Rattle.lookup.specs.Lookup.{rowFound}
+use Rattle.lookup.specs.declared.Found.the-variants.{Row}
+use Rattle.lookup.proofs.TableLookup.{records-first, table-found}
+use Rattle.soundness.proofs.SoundRecord.{record-sound}
+use Rattle.soundness.proofs.SoundRows.{adjusted-sound}
+use Rattle.tables.proofs.RowPut.{put-replaced}
+use Rattle.tables.proofs.RowThere.{row-there}
+use Rattle.tables.proofs.StatusSet.{status-set}
+
+module _ (cells : List ℤ) (table : SoundRecords cells) (row : ℕ) (within : row < length (rowsOf recordsLayout cells)) where
+  there : rowFound (recordsLayout .header) (recordsLayout .width) (recordKey (rowAt recordsLayout cells row)) (natAbs (countOf cells)) cells ≡ Row row
+  there = row-there recordsLayout recordKey records-first cells row (table .rows-rise) within
+
+  row-sound : soundRecord (rowAt recordsLayout cells row) ≡ true
+  row-sound =
+      find-all recordKey soundRecord (recordKey (rowAt recordsLayout cells row)) (rowsOf recordsLayout cells) (rowAt recordsLayout cells row) (table .rows-sound)
+      (table-found recordsLayout recordKey records-first cells (recordKey (rowAt recordsLayout cells row)) row there .1)
+
+  pub row-cells : startOf recordsLayout (suc row) ≤ length cells
+  row-cells = omega (arith, table .rows-within, mul-le-mul-right (recordsLayout .width) within)
+
+  -- In any status in which it is sound.
+  pub row-in-status : (s : ℤ) → soundRecord (withStatus s (rowAt recordsLayout cells row)) ≡ true
+      → (set cells (startOf recordsLayout row + statusCell) s ≡ write recordsLayout cells (upsert recordKey (withStatus s (rowAt recordsLayout cells row)) (rowsOf recordsLayout cells)))
+      × (soundRecords (set cells (startOf recordsLayout row + statusCell) s) ≡ true)
+  unfolding soundRecords
+  row-in-status s sound =
+      let r : Record = withStatus s (rowAt recordsLayout cells row) in
+      put-replaced recordsLayout records-lawful recordKey records-first soundRecord cells table
+      r sound
+      (natAbs (countOf cells)) (sym (length-rowsOf recordsLayout cells))
+      (recordCells r) refl
+      (set cells (startOf recordsLayout row + statusCell) s) row
+      (sym there)
+      (status-set s cells row row-cells)
+
+  pub adjusted-row-sound : rowAt recordsLayout cells row .status ≡ adjustable → soundRecord (adjustedRecord (rowAt recordsLayout cells row)) ≡ true
+  adjusted-row-sound open-status = adjusted-sound (rowAt recordsLayout cells row) (record-sound (rowAt recordsLayout cells row) row-sound) open-status
