@@ -8,6 +8,8 @@
  * Every call takes any tables of any length with any contents and any figures, and answers. A request that is refused changes nothing. What each
  * call answers and what it leaves in every cell is proved of the code behind these functions (see crates/velichundam/src/lib.rt).
  *
+ * docs/RULES.md has the rules of the book for a host's author: what each request writes, row by row with every cell, and the refusals in order.
+ *
  * A first program:
  *
  *     int64_t records[1 + 13 * 100] = {0};          // room for 100 records, none yet
@@ -57,6 +59,20 @@
  *   - nobody else writes any of them, nor reads a table that the call may write: where threads share a book, hold a lock.
  *
  * Different tables may be used from different threads at the same time: the functions have no state of their own.
+ *
+ * STACK
+ *
+ * A call needs stack, and nothing sees to it that there is enough: a thread with a small stack should allow for the call it makes. Lineage calls
+ * itself on the parent, once for each link, and a table of 4,096 records has chains of up to 4,095 links. A merge keeps the rows of its sources in
+ * an array of 1,000 numbers of 16 bits. In bytes, from the host's call down, rounded up:
+ *
+ *     lineage                        270,000 at the longest chain: 64 for each link, and 200
+ *     merge                            3,000
+ *     trade, separation, transfer      1,000
+ *
+ * These were measured with this archive on x86-64, on full tables, the longest chain, and lists of 1,000. They are no part of what is proved. The
+ * C library's memmove and memset are in them, but not the dynamic linker: where it looks these two up at the first call (lazy binding), that call
+ * took another 3,200.
  */
 #ifndef VELICHUNDAM_H
 #define VELICHUNDAM_H

@@ -2,7 +2,7 @@
 //!
 //! What each call answers and leaves in every cell is said in that header, and proved in crates/velichundam. The borrow checker sees to what the header asks of a
 //! host: slices of the right length that do not overlap, and nobody else who writes them. The archive is made by `rt staticlib velichundam`; its folder is
-//! VELICHUNDAM_LIB_DIR, or ../target/staticlib.
+//! VELICHUNDAM_LIB_DIR, or ../target/staticlib. The header also says how much stack a call may need.
 
 /// An answer.
 #[derive(Clone, Copy, Debug, PartialEq, Eq)]
@@ -17,6 +17,12 @@ pub enum Reply {
     Refused { number: i64, place: i64 },
 }
 
+/// The answer that the numbers of the C interface stand for.
+///
+/// # Panics
+///
+/// At a kind that is none of 0 to 3. The archive is proved to answer with these alone, so another number means that the archive that was linked and this crate
+/// don't belong together. To call it a refusal would be to say that no cell has changed, which nobody knows then.
 impl From<c::Coded> for Reply {
     fn from(coded: c::Coded) -> Reply {
         let c::Coded { kind, first, second } = coded;
@@ -24,7 +30,8 @@ impl From<c::Coded> for Reply {
             0 => Reply::Booked { rows: first, residual: second },
             1 => Reply::ClosingError { excess: first },
             2 => Reply::Lineage { price: first, links: second },
-            _ => Reply::Refused { number: first, place: second },
+            3 => Reply::Refused { number: first, place: second },
+            _ => panic!("an answer of kind {kind}: the archive that is linked is not the one that this crate was written for"),
         }
     }
 }

@@ -1,6 +1,6 @@
-//! A host in Rust: document 01's P11, the answers that carry other values, and a refusal that changes nothing.
+//! A host in Rust: document 01's P11, the answers that carry other values, a refusal that changes nothing, and what is no answer at all.
 
-use velichundam::{lineage, merge, separate, trade, transfer, Reply};
+use velichundam::{c::Coded, lineage, merge, separate, trade, transfer, Reply};
 
 #[test]
 fn each_call_answers_by_its_enum() {
@@ -17,4 +17,25 @@ fn each_call_answers_by_its_enum() {
 
     assert_eq!(merge(&mut records, &mut positions, 7, 2, 1, &[456789, 4, 456789, 5]), Reply::Booked { rows: 3, residual: 0 });
     assert_eq!(trade(&mut records, &mut positions, 8, 3, 1, 3, 5, 1), Reply::ClosingError { excess: 5 });
+}
+
+#[test]
+fn each_kind_has_its_case() {
+    let answer = |kind| Reply::from(Coded { kind, first: 7, second: 8 });
+    assert_eq!(answer(0), Reply::Booked { rows: 7, residual: 8 });
+    assert_eq!(answer(1), Reply::ClosingError { excess: 7 });
+    assert_eq!(answer(2), Reply::Lineage { price: 7, links: 8 });
+    assert_eq!(answer(3), Reply::Refused { number: 7, place: 8 });
+}
+
+#[test]
+#[should_panic(expected = "an answer of kind 4:")]
+fn an_unknown_kind_is_no_refusal() {
+    let _ = Reply::from(Coded { kind: 4, first: 7, second: 8 });
+}
+
+#[test]
+#[should_panic(expected = "an answer of kind -1:")]
+fn a_kind_below_0_is_no_refusal() {
+    let _ = Reply::from(Coded { kind: -1, first: 7, second: 8 });
 }

@@ -1,12 +1,13 @@
--- `worked::show::rows` meets its contract: it is safe, since a row is shown only where there are cells for it, and it ends, since each turn passes a row.
+-- `worked_main::show::rows` meets its contract: it is safe, since a row is shown only where there are cells for it, and it ends, since each turn passes a row.
 -- Assumes nothing.
 use Prim.Native.Nat.{_≤_, _-_}
+use lib.ListN.{length}
 use borrow.Author.Needs.{needs}
 use Rattle.worked_main.proofs.show.rows.Statement.{statement}
 use Rattle.worked_main.proofs.show.rows.Tie as tie
 
 abbrev Inv-loop : tie.InvT-loop
-Inv-loop cells count width row₀ at₀ row at = row ≤ count
+Inv-loop cells count width row₀ at₀ row at = (row ≤ count) × (at ≤ length cells)
 
 abbrev μ-loop : tie.MeasureT-loop
 μ-loop cells count width row₀ at₀ row at = count - row
@@ -14,14 +15,11 @@ abbrev μ-loop : tie.MeasureT-loop
 loop-holds : tie.Need-loop-holds Inv-loop μ-loop
 loop-holds c = search needs
 
+sub-if1 : tie.Need-sub-if1 Inv-loop μ-loop
+sub-if1 c = search needs
+
 returns : tie.Need-returns Inv-loop μ-loop
 returns c = search needs
-
-sub-if2 : tie.Need-sub-if2 Inv-loop μ-loop
-sub-if2 c = search needs
-
-returns-2 : tie.Need-returns-2 Inv-loop μ-loop
-returns-2 c = search needs
 
 add-end : tie.Need-add-end Inv-loop μ-loop
 add-end c = search needs
@@ -50,8 +48,8 @@ loop-less c = search needs
 loop-again : tie.Need-loop-again Inv-loop μ-loop
 loop-again c = search needs
 
-returns-3 : tie.Need-returns-3 Inv-loop μ-loop
-returns-3 c = search needs
+returns-2 : tie.Need-returns-2 Inv-loop μ-loop
+returns-2 c = search needs
 
 pub rows-spec : {M : Type 1} → statement M
 rows-spec =
@@ -60,9 +58,8 @@ rows-spec =
     Inv-loop
     μ-loop
     loop-holds
+    sub-if1
     returns
-    sub-if2
-    returns-2
     add-end
     mul-cells
     sub-cells
@@ -72,4 +69,4 @@ rows-spec =
     add-row
     loop-less
     loop-again
-    returns-3)
+    returns-2)

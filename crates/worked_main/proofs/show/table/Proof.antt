@@ -1,4 +1,4 @@
--- `worked::show::table` meets its contract: the count is cast only where it is not negative. Assumes nothing.
+-- `worked_main::show::table` meets its contract: the count is cast only where it is not negative. Assumes nothing.
 use native.Mathlib.Omega.{arith}
 use mathlib.Core.Path.{_≡_}
 use mathlib.Core.Bool.{false}
@@ -19,6 +19,12 @@ use Rattle.worked_main.proofs.show.table.Tie as tie
 casts : (z : ℤ) → SFits w64 z → ltZ z (pos 0) ≡ false → T (nonNeg z) × Fits w64 (natAbs z)
 casts (pos n) f above = let h : n < 2 ^ 63 = f .sfits in (tt, record { fits = omega arith })
 casts (negsuc n) f above = let e : _≡_ {A = ℕ} 0 1 = cc in absurd (omega arith)
+
+slice-aggregate-line : tie.Need-slice-aggregate-line
+slice-aggregate-line c = search needs
+
+line-requires : tie.Need-line-requires
+line-requires c κs = search needs
 
 returns : tie.Need-returns
 returns c = search needs
@@ -45,6 +51,9 @@ cast-rows c =
 rows-requires : tie.Need-rows-requires
 rows-requires c κs = search needs
 
+past-requires : tie.Need-past-requires
+past-requires c κs = search needs
+
 returns-3 : tie.Need-returns-3
 returns-3 c = search needs
 
@@ -52,6 +61,8 @@ pub table-spec : {M : Type 1} → statement M
 table-spec =
     tie.close
     (tie.spec
+    slice-aggregate-line
+    line-requires
     returns
     shared-slice-copy-out-count
     slice-aggregate-value
@@ -59,4 +70,5 @@ table-spec =
     returns-2
     cast-rows
     rows-requires
+    past-requires
     returns-3)
