@@ -3,6 +3,7 @@ use super::sources;
 use lookup::Found;
 use rules::Record;
 use rules::Reply;
+use rules::codes::MERGE;
 use tables::positions;
 use tables::records;
 ghost use mathlib.Core.Path.{_≡_};
@@ -61,7 +62,10 @@ fn insert_inverse(records: &mut [i64], id: i64, suffix: i64, into: i64)
     };
     let r = records::read_record(records, row);
     let next = requests::next_suffix(records, id);
-    records::insert_record(records, requests::inverse_record(r, next, 901, 0, 0, into));
+    records::insert_record(
+        records,
+        requests::inverse_record(r, next, MERGE, 0, 0, into),
+    );
 }
 
 // Each source gets its inverse row, in list order.
@@ -69,9 +73,9 @@ fn insert_inverses(records: &mut [i64], pairs: &[i64], into: i64)
     requires { ⌜ (soundRecords (now records) ≡ true) × (allFound (now records) (now pairs) ≡ true) × (allOf (map soundRecord (mergeInverses into [] (sourcesIn (now records) (now pairs)))) ≡ true) × (length (rowsOf recordsLayout (now records)) + length (pairsOf (now pairs)) ≤ roomOf recordsLayout (now records)) ⌝ }
     ensures { λ done. ⌜ (now (records .exit) ≡ write recordsLayout (now (records .entry)) (upsertAll recordKey (mergeInverses into [] (sourcesIn (now (records .entry)) (now (pairs .entry)))) (rowsOf recordsLayout (now (records .entry))))) × (soundRecords (now (records .exit)) ≡ true) ⌝ }
 {
-    let count = pairs.len() / 2;
+    let sources = pairs.len() / 2;
     let mut i = 0;
-    while i < count {
+    while i < sources {
         insert_inverse(&mut *records, pairs[2 * i], pairs[2 * i + 1], into);
         i += 1;
     }
@@ -81,21 +85,17 @@ fn insert_inverses(records: &mut [i64], pairs: &[i64], into: i64)
 fn merged_row(first: Record, id: i64, quantity: i64, price: i64) -> Record
     ensures { λ r. ⌜ r ≡ newRecord id mergeKind (first .account) (first .series) (first .side) quantity price (pos 0) (pos 0) ⌝ }
 {
-    Record {
+    requests::new_record(
         id,
-        suffix: 0,
-        parent: 0,
-        kind: 901,
-        status: 0,
-        account: first.account,
-        series: first.series,
-        side: first.side,
+        MERGE,
+        first.account,
+        first.series,
+        first.side,
         quantity,
         price,
-        long: 0,
-        short: 0,
-        into: 0,
-    }
+        0,
+        0,
+    )
 }
 
 pub fn book(

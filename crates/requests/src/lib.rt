@@ -1,8 +1,10 @@
-// What several requests share: the room tests, a position's change, the next suffix of an id, and the rows that come out of a record.
+// What several requests share: the room tests, a position's change, the next suffix of an id, a new row, and the rows that come out of a record.
 use lookup::Found;
 use lookup::Greatest;
 use rules::Position;
 use rules::Record;
+use rules::codes::ADJUSTABLE;
+use rules::codes::INVERSE;
 use tables::positions;
 use tables::records;
 ghost use mathlib.Core.Path.{_≡_};
@@ -81,6 +83,37 @@ pub fn is_elsewhere(r: Record, account: i64, series: i64) -> bool
     r.series != series
 }
 
+// A row with suffix 0, parent 0 and status 0: a trade's, and the merged one.
+pub fn new_record(
+    id: i64,
+    kind: i64,
+    account: i64,
+    series: i64,
+    side: i64,
+    quantity: i64,
+    price: i64,
+    long: i64,
+    short: i64,
+) -> Record
+    ensures { λ r. ⌜ r ≡ Rows.newRecord id kind account series side quantity price long short ⌝ }
+{
+    Record {
+        id,
+        suffix: 0,
+        parent: 0,
+        kind,
+        status: ADJUSTABLE,
+        account,
+        series,
+        side,
+        quantity,
+        price,
+        long,
+        short,
+        into: 0,
+    }
+}
+
 // The inverse of a record: quantity negated, the record's suffix as parent.
 pub fn inverse_record(r: Record, suffix: i64, kind: i64, long: i64, short: i64, into: i64) -> Record
     requires { ⌜ magnitudeAtMost 1000000 (r .quantity) ≡ true ⌝ }
@@ -91,7 +124,7 @@ pub fn inverse_record(r: Record, suffix: i64, kind: i64, long: i64, short: i64, 
         suffix,
         parent: r.suffix,
         kind,
-        status: 2,
+        status: INVERSE,
         account: r.account,
         series: r.series,
         side: r.side,
@@ -120,7 +153,7 @@ pub fn adjustable_record(
         suffix,
         parent: r.suffix,
         kind,
-        status: 0,
+        status: ADJUSTABLE,
         account,
         series: r.series,
         side: r.side,

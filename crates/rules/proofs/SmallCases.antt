@@ -65,6 +65,25 @@ pub another-account-does-not : touch (buy (pos 7) (pos 1)) (buy (pos 8) (pos 2))
 unfolding Computed
 another-account-does-not = refl
 
+-- Two trades of one id on different accounts touch.
+pub one-id-touches : touch (buy (pos 7) (pos 1)) (buy (pos 7) (pos 2)) ≡ true
+unfolding Computed
+one-id-touches = refl
+
+-- A transfer touches what is on either of its accounts, and nothing on a third.
+pub both-accounts-touch :
+    map (touch (transfer (pos 7) (pos 0) (pos 1) (pos 2) (pos 1))) (buy (pos 8) (pos 1) ∷ buy (pos 8) (pos 2) ∷ buy (pos 8) (pos 3) ∷ []) ≡ true ∷ true ∷ false ∷ []
+unfolding Computed
+both-accounts-touch = refl
+
+-- A merge touches what names its new id or the id of any source.
+pub sources-touch :
+    map (touch (merge (pos 9) (pos 1) (pos 1) (pos 7 ∷ pos 0 ∷ pos 8 ∷ pos 0 ∷ [])))
+    (buy (pos 9) (pos 2) ∷ buy (pos 7) (pos 2) ∷ buy (pos 8) (pos 2) ∷ buy (pos 6) (pos 2) ∷ [])
+    ≡ true ∷ true ∷ true ∷ false ∷ []
+unfolding Computed
+sources-touch = refl
+
 -- "A refused request changes nothing": the second trade of an id is refused 4 and leaves every cell.
 pub refused-leaves-the-cells :
     (run (empty 26 5) (buy (pos 7) (pos 1) ∷ buy (pos 7) (pos 1) ∷ [])) .tables ≡ (run (empty 26 5) (buy (pos 7) (pos 1) ∷ [])) .tables

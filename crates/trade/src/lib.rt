@@ -1,7 +1,8 @@
 // Trade: tests 3, 4 and 14 to 16, the booking, and the public call.
 use rules::Position;
-use rules::Record;
 use rules::Reply;
+use rules::codes::CLOSING_ERROR;
+use rules::codes::ORIGINAL;
 use tables::positions;
 use tables::records;
 use verdict::Verdict;
@@ -147,25 +148,21 @@ fn book(
 {
     let p = positions::position_of(positions, account, series);
     let b = booking_of(side, quantity, p);
-    let mut kind = 0;
+    let mut kind = ORIGINAL;
     if b.error {
-        kind = 10;
+        kind = CLOSING_ERROR;
     }
-    let row = Record {
+    let row = requests::new_record(
         id,
-        suffix: 0,
-        parent: 0,
         kind,
-        status: 0,
         account,
         series,
         side,
         quantity,
         price,
-        long: b.long,
-        short: b.short,
-        into: 0,
-    };
+        b.long,
+        b.short,
+    );
     records::insert_record(records, row);
     let left = requests::moved(p, b.long, b.short, 0);
     positions::put_position(positions, left);

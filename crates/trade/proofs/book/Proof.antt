@@ -96,55 +96,37 @@ module _ (c : tie.After-booking-of) where
   left = moved-is (ps s) (s .args .account) (s .args .series) (s .args .side) (s .args .quantity) (c .before .position-of .result) (c .booking-of .result) (read (c .before)) booked
 
 -- The row that is made.
-module _ (c : tie.After-struct-told) where
+module _ (c : tie.After-new-record) where
   abbrev b : tie.After-booking-of
-  b = c .before .before
+  b = c .before .before .before .before
 
-  kind : toZ w64 (c .before .if1 .kind) ≡ tradeKind (b .booking-of .result .error)
+  kind : toZ w64 (c .before .before .before .if1 .kind) ≡ tradeKind (b .booking-of .result .error)
   unfolding tradeKind
   kind =
       ⊎-elim
       (λ w. ap (toZ w64) (w .1) ∙ sym (ap tradeKind (w .0 .taken)))
       (λ w. ap (toZ w64) (w .1) ∙ sym (ap tradeKind (w .0 .left)))
-      (c .before .if1 .came)
+      (c .before .before .before .if1 .came)
 
-  row : record {
-    id = toZ w64 (ofZ w64 (s b .args .id));
-    suffix = pos 0;
-    parent = pos 0;
-    kind = toZ w64 (c .before .if1 .kind);
-    status = pos 0;
-    account = toZ w64 (ofZ w64 (s b .args .account));
-    series = toZ w64 (ofZ w64 (s b .args .series));
-    side = toZ w64 (ofZ w64 (s b .args .side));
-    quantity = toZ w64 (ofZ w64 (s b .args .quantity));
-    price = toZ w64 (ofZ w64 (s b .args .price));
-    long = toZ w64 (ofZ w64 (b .booking-of .result .long));
-    short = toZ w64 (ofZ w64 (b .booking-of .result .short));
-    into = pos 0;
-  } ≡ rowOf (s b)
-  unfolding newRecord
+  row : c .new-record .result ≡ rowOf (s b)
   row =
-      let kind-is : toZ w64 (c .before .if1 .kind) ≡ tradeKind (errorOf (s b)) = kind ∙ ap tradeKind (error b) in
-      let long-is : toZ w64 (ofZ w64 (b .booking-of .result .long)) ≡ rowOf (s b) .long
-      = read-back (b .booking-of .result .long) (c .struct-told .given .1 .0 .1) ∙ long b in
-      let short-is : toZ w64 (ofZ w64 (b .booking-of .result .short)) ≡ rowOf (s b) .short
-      = read-back (b .booking-of .result .short) (c .struct-told .given .1 .1 .0 .1) ∙ short b in
-      λ i. record {
-        id = toZ-ofZ (s b .fits .id) i;
-        suffix = pos 0;
-        parent = pos 0;
-        kind = kind-is i;
-        status = pos 0;
-        account = toZ-ofZ (s b .fits .account) i;
-        series = toZ-ofZ (s b .fits .series) i;
-        side = toZ-ofZ (s b .fits .side) i;
-        quantity = toZ-ofZ (s b .fits .quantity) i;
-        price = toZ-ofZ (s b .fits .price) i;
-        long = long-is i;
-        short = short-is i;
-        into = pos 0;
-      }
+      let kind-is : toZ w64 (c .before .before .before .if1 .kind) ≡ tradeKind (errorOf (s b)) = kind ∙ ap tradeKind (error b) in
+      let long-is : toZ w64 (ofZ w64 (b .booking-of .result .long)) ≡ tradeLong (ps (s b)) (s b .args .account) (s b .args .series) (s b .args .side) (s b .args .quantity)
+      = read-back (b .booking-of .result .long) (c .before .before .struct-told .given .1 .0 .1) ∙ long b in
+      let short-is : toZ w64 (ofZ w64 (b .booking-of .result .short)) ≡ tradeShort (ps (s b)) (s b .args .account) (s b .args .series) (s b .args .side) (s b .args .quantity)
+      = read-back (b .booking-of .result .short) (c .before .struct-told2 .given .1 .1 .0 .1) ∙ short b in
+      c .new-record .ensures
+      ∙ (λ i.
+      newRecord
+      (toZ-ofZ (s b .fits .id) i)
+      (kind-is i)
+      (toZ-ofZ (s b .fits .account) i)
+      (toZ-ofZ (s b .fits .series) i)
+      (toZ-ofZ (s b .fits .side) i)
+      (toZ-ofZ (s b .fits .quantity) i)
+      (toZ-ofZ (s b .fits .price) i)
+      (long-is i)
+      (short-is i))
 
 -- The row inserted.
 module _ (c : tie.After-insert-record) where
@@ -161,7 +143,7 @@ module _ (c : tie.After-moved) where
 
   leaves : c .moved .result ≡ leftOf (s e)
   leaves =
-      (simp (read-back (e .booking-of .result .long) (c .before .before .struct-told2 .given .1 .0 .1), read-back (e .booking-of .result .short) (c .before .struct-told3 .given .1 .1 .0 .1))
+      (simp (read-back (e .booking-of .result .long) (c .before .before .struct-told3 .given .1 .0 .1), read-back (e .booking-of .result .short) (c .before .struct-told4 .given .1 .1 .0 .1))
       at (c .moved .ensures))
       ∙ left e
 
@@ -169,7 +151,7 @@ put : (c : tie.After-put-position) → c .put-position .last .0 ≡ putOne posit
 put c = c .put-position .ensures .0 ∙ ap (putOne positionsLayout positionKey (ps (s (e (c .before .before))))) (leaves (c .before .before))
 
 -- The excess of a closing error.
-module _ (c : tie.After-struct-told4) where
+module _ (c : tie.After-struct-told5) where
   abbrev p : tie.After-put-position
   p = c .before .before .before .before
 
@@ -184,7 +166,7 @@ module _ (c : tie.After-struct-told4) where
   excess : (toZ w64 (ofZ w64 (s f .args .quantity)) -ℤ toZ w64 (ofZ w64 (f .booking-of .result .closed))) ≡ s f .args .quantity -ℤ closedOf (s f)
   excess =
       let closed-back : toZ w64 (ofZ w64 (f .booking-of .result .closed)) ≡ closedOf (s f)
-      = read-back (f .booking-of .result .closed) (c .struct-told4 .given .0 .1) ∙ closed f in
+      = read-back (f .booking-of .result .closed) (c .struct-told5 .given .0 .1) ∙ closed f in
       λ i. toZ-ofZ (s f .fits .quantity) i -ℤ closed-back i
 
 position-of-requires : tie.Need-position-of-requires
@@ -192,6 +174,9 @@ position-of-requires c κs = search needs
 
 booking-of-requires : tie.Need-booking-of-requires
 booking-of-requires c κs = simp (toZ-ofZ (start c .fits .quantity)) (quantity-valid (start c), read-sound c)
+
+new-record-requires : tie.Need-new-record-requires
+new-record-requires c κs = search needs
 
 insert-record-requires : tie.Need-insert-record-requires
 insert-record-requires c κs =
@@ -201,7 +186,7 @@ insert-record-requires c κs =
 moved-requires : tie.Need-moved-requires
 moved-requires c κs =
     let b : tie.After-booking-of = d (c .before .before .before) in
-    simp (read-back (b .booking-of .result .long) (c .before .struct-told2 .given .1 .0 .1), read-back (b .booking-of .result .short) (c .struct-told3 .given .1 .1 .0 .1))
+    simp (read-back (b .booking-of .result .long) (c .before .struct-told3 .given .1 .0 .1), read-back (b .booking-of .result .short) (c .struct-told4 .given .1 .1 .0 .1))
     (booking-moves (s b .args .side) (s b .args .quantity) (b .before .position-of .result) (quantity-valid (s b)) (read-sound (b .before)) (b .booking-of .result) (booked b))
 
 put-position-requires : tie.Need-put-position-requires
@@ -246,6 +231,7 @@ book-spec =
     (tie.spec
     position-of-requires
     booking-of-requires
+    new-record-requires
     insert-record-requires
     moved-requires
     put-position-requires
