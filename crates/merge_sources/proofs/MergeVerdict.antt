@@ -27,7 +27,7 @@ use Rattle.rules.specs.declared.Position.{Position}
 use Rattle.verdict.specs.Verdict.{verdictOf, verdictOn, absentPosition}
 use Rattle.verdict.specs.declared.Verdict.{Verdict}
 use Rattle.verdict.specs.declared.Verdict.the-variants.{Accepted, Refused}
-use Rattle.verdict.proofs.Chain.{verdictBy, accepts, refuses, passes}
+use Rattle.verdict.proofs.Remaining.{verdictBy, accepts, refuses, passes}
 use Rattle.verdict.proofs.Room.{positionRead, absent-one}
 use Rattle.merge_sources.specs.Sources.{sourcesIn, placeOf, sourceRecords}
 use Rattle.merge_sources.specs.Pairs.{repeatsFrom}

@@ -32,7 +32,7 @@ use Rattle.soundness.proofs.NamedRecord.{nextOf}
 use Rattle.verdict.specs.Verdict.{verdictOn, acceptedOn}
 use Rattle.verdict.specs.declared.Verdict.{Verdict}
 use Rattle.verdict.specs.declared.Verdict.the-variants.{Accepted, Refused}
-use Rattle.verdict.proofs.Chain.{verdictBy, accepts, refuses, passes}
+use Rattle.verdict.proofs.Remaining.{verdictBy, accepts, refuses, passes}
 use Rattle.verdict.proofs.Room.{room-for-none}
 use Rattle.verdict.proofs.Suffixes.{above-parts, parts-count}
 

@@ -24,7 +24,7 @@ use Rattle.rules.specs.declared.Reply.the-variants.{Booked, ClosingError}
 use Rattle.verdict.specs.Verdict.{verdictOn, acceptedOn, absentPosition}
 use Rattle.verdict.specs.declared.Verdict.{Verdict}
 use Rattle.verdict.specs.declared.Verdict.the-variants.{Accepted, Refused}
-use Rattle.verdict.proofs.Chain.{verdictBy, accepts, refuses, passes, and-true}
+use Rattle.verdict.proofs.Remaining.{verdictBy, accepts, refuses, passes, and-true}
 use Rattle.verdict.proofs.Room.{positionRead, absent-one}
 
 -- What a trade closes and books, the position that it leaves, and its row.
