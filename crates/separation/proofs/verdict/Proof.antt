@@ -35,7 +35,7 @@ use Rattle.separation.proofs.PartsLeft.{parts-told}
 use Rattle.separation.proofs.verdict.Statement.{statement}
 use Rattle.separation.proofs.verdict.Tie as tie
 
--- The verdict is that of the tests from number n on.
+-- The verdict is that of the tests from number n on, with r for the record that is named.
 abbrev From : tie.Start → ℕ → Record → Type 0
 From s n r = SeparationFrom (s .args .records .now) (s .args .positions .now) (s .args .id) (s .args .suffix) (s .args .account) (s .args .series) (s .args .parts .now) n r
 

@@ -1,4 +1,5 @@
--- `transfer::verdict` meets its contract: tests 3 and 5 to 8 in their order, then those on the record that was found. Assumes nothing.
+-- `transfer::verdict` meets its contract: past each of the tests 3 and 5 to 8 the verdict is that of the tests which remain, then it is that on the record which was
+-- found. Assumes nothing.
 use Prim.Native.Nat.{ℕ}
 use mathlib.Core.Path.{_≡_, refl, sym, _∙_, ap}
 use mathlib.Core.Bool.{true, false, not}
@@ -50,7 +51,7 @@ module _ (s : tie.Start) where
   abbrev series : ℤ
   series = s .args .series
 
-  -- The verdict is that of the tests from number n on.
+  -- The verdict is that of the tests from number n on, with r for the record that is named.
   abbrev From : ℕ → Record → Type 0
   From n r = TransferFrom rs ps id suffix from to series n r
 

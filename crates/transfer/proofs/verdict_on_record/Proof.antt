@@ -1,4 +1,5 @@
--- `transfer::verdict_on_record` meets its contract: tests 12 to 16 in their order, each of what the calls before it answered. Assumes nothing.
+-- `transfer::verdict_on_record` meets its contract: what it requires passes tests 3 to 8, past each of the tests 12 to 16 the verdict is that of the tests which
+-- remain, and each return is the one that applies. Assumes nothing.
 use Prim.Native.Nat.{ℕ, _+_, _≤_}
 use native.Mathlib.Omega.{arith}
 use mathlib.Core.Path.{_≡_, sym, _∙_, ap, ap₂}

@@ -24,7 +24,7 @@ use Rattle.merge_sources.specs.Sources.{sourcesIn}
 use Rattle.merge_sources.proofs.MergeFacts.{figures-count}
 use Rattle.merge_sources.proofs.MergeVerdict.{MergeFrom, merge-tests}
 use Rattle.merge_sources.proofs.Places.{place-tells, nowhere-tells}
-use Rattle.merge.proofs.MergeChainPlaces.{source-place}
+use Rattle.merge.proofs.SmallPlaces.{source-place}
 use Rattle.merge.proofs.call.verdict.Statement.{statement}
 use Rattle.merge.proofs.call.verdict.Tie as tie
 

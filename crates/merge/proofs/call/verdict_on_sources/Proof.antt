@@ -1,13 +1,13 @@
--- `merge::call::verdict_on_sources` meets its contract: past each of the tests 6 to 10 the verdict is that of the tests which remain, each refuses at the place that
--- its call answered, and then the verdict is that on the sums. Assumes nothing.
+-- `merge::call::verdict_on_sources` meets its contract: what it requires passes tests 3 to 5, past each of the tests 6 to 10 the verdict is that of the tests
+-- which remain, each refuses at the place that its call answered, and then the verdict is that on the sums. Assumes nothing.
 use Prim.Native.Nat.{ℕ, _/_, _≤_}
 use native.Mathlib.Omega.{arith}
 use mathlib.Core.Path.{_≡_, sym, _∙_, ap}
-use mathlib.Core.Bool.{Bool, true, false, not}
+use mathlib.Core.Bool.{true, false, not}
 use mathlib.Core.List.{List, [], map}
 use borrow.Author.Needs.{needs}
 use borrow.Author.Tests.{not-true}
-use lib.IntN.{ℤ, pos}
+use lib.IntN.{ℤ}
 use lib.ListN.{length}
 use mir.Facts.{toZ-ofZ}
 use Rattle.rules.specs.Figures.{isBuy}
@@ -18,14 +18,14 @@ use Rattle.rules.specs.Merge.{pairsOf, isMissing, closes, firstOf, sideDiffers}
 use Rattle.rules.specs.declared.Record.{Record}
 use Rattle.scan.proofs.ReadBack.{read-back}
 use Rattle.verdict.proofs.Remaining.{_past_, stops-at}
-use Rattle.merge_sources.specs.Sources.{sourcesIn, placeOf, failsTest, sourceRecords}
+use Rattle.merge_sources.specs.Sources.{sourcesIn, placeOf, sourceRecords}
 use Rattle.merge_sources.specs.Pairs.{repeatsFrom, repeatedPlace}
 use Rattle.merge_sources.proofs.MergeFacts.{figures-count}
 use Rattle.merge_sources.proofs.MergeVerdict.{MergeFrom, merge-tests}
 use Rattle.merge_sources.proofs.Places.{place-tells, nowhere-tells}
 use Rattle.merge_sources.proofs.SourceList.{record-found, first-at}
 use Rattle.merge_sources.proofs.SourceTests.{fails-6, fails-7, fails-8, fails-10}
-use Rattle.merge.proofs.MergeChainPlaces.{record-place, repeat-place}
+use Rattle.merge.proofs.SmallPlaces.{record-place, repeat-place}
 use Rattle.merge.proofs.call.verdict_on_sources.Statement.{statement}
 use Rattle.merge.proofs.call.verdict_on_sources.Tie as tie
 
@@ -71,9 +71,7 @@ start6 c = c .before .before
 answer-6 : (c : tie.After-first-failing) → c .first-failing .result ≡ placeOf (map (isElsewhere (account (start6 c)) (series (start6 c))) (sources (start6 c)))
 answer-6 c =
     let s : tie.Start = start6 c in
-    let e : c .first-failing .result ≡ placeOf (map (failsTest (pos 6) (account s) (series s) true) (sources s)) =
-    simp (toZ-ofZ (s .fits .account), toZ-ofZ (s .fits .series)) at (c .first-failing .ensures) in
-    e ∙ ap (λ (f : Record → Bool). placeOf (map f (sources s))) (fails-6 (account s) (series s) true)
+    rw (fails-6 (account s) (series s) true) at (simp (toZ-ofZ (s .fits .account), toZ-ofZ (s .fits .series)) at (c .first-failing .ensures))
 
 first-failing-requires : tie.Need-first-failing-requires
 first-failing-requires c κs = let s : tie.Start = c .before in (s .pre .0 .0, s .pre .0 .2)
@@ -107,15 +105,10 @@ module _ (c : tie.After-enum-told) where
   at-7 : From past6 7
   at-7 = at-6 past6 past here
 
-abbrev start7 : tie.After-first-failing2 → tie.Start
-start7 c = past6 (c .before)
-
-answer-7 : (c : tie.After-first-failing2) → c .first-failing2 .result ≡ placeOf (map isNotAdjustable (sources (start7 c)))
+answer-7 : (c : tie.After-first-failing2) → c .first-failing2 .result ≡ placeOf (map isNotAdjustable (sources (past6 (c .before))))
 answer-7 c =
-    let s : tie.Start = start7 c in
-    let e : c .first-failing2 .result ≡ placeOf (map (failsTest (pos 7) (account s) (series s) true) (sources s)) =
-    simp (toZ-ofZ (s .fits .account), toZ-ofZ (s .fits .series)) at (c .first-failing2 .ensures) in
-    e ∙ ap (λ (f : Record → Bool). placeOf (map f (sources s))) (fails-7 (account s) (series s) true)
+    let s : tie.Start = past6 (c .before) in
+    rw (fails-7 (account s) (series s) true) at (simp (toZ-ofZ (s .fits .account), toZ-ofZ (s .fits .series)) at (c .first-failing2 .ensures))
 
 first-failing-requires-2 : tie.Need-first-failing-requires-2
 first-failing-requires-2 c κs = let s : tie.Start = past6 c in (s .pre .0 .0, s .pre .0 .2)
@@ -126,7 +119,7 @@ enum-known-i-2 c = search needs
 refused-at-requires-2 : tie.Need-refused-at-requires-2
 refused-at-requires-2 c κs =
     let a : tie.After-first-failing2 = c .before .before .before in
-    let s : tie.Start = start7 a in
+    let s : tie.Start = past6 (a .before) in
     record-place (rs s) (list s) (count s .1) _ _ (sym (answer-7 a) ∙ c .before .i2 .given .1)
 
 returns-2 : tie.Need-returns-2
@@ -141,7 +134,7 @@ enum-told-2 c = search needs
 
 module _ (c : tie.After-enum-told2) where
   abbrev past7 : tie.Start
-  past7 = start7 (c .before .before)
+  past7 = past6 (c .before .before .before)
 
   adjustable : anyOf (map isNotAdjustable (sources past7)) ≡ false
   adjustable = nowhere-tells _ (sym (answer-7 (c .before .before)) ∙ c .enum-told2 .given .1)
@@ -149,15 +142,10 @@ module _ (c : tie.After-enum-told2) where
   at-8 : From past7 8
   at-8 = at-7 (c .before .before .before) past adjustable
 
-abbrev start8 : tie.After-first-failing3 → tie.Start
-start8 c = past7 (c .before)
-
-answer-8 : (c : tie.After-first-failing3) → c .first-failing3 .result ≡ placeOf (map closes (sources (start8 c)))
+answer-8 : (c : tie.After-first-failing3) → c .first-failing3 .result ≡ placeOf (map closes (sources (past7 (c .before))))
 answer-8 c =
-    let s : tie.Start = start8 c in
-    let e : c .first-failing3 .result ≡ placeOf (map (failsTest (pos 8) (account s) (series s) true) (sources s)) =
-    simp (toZ-ofZ (s .fits .account), toZ-ofZ (s .fits .series)) at (c .first-failing3 .ensures) in
-    e ∙ ap (λ (f : Record → Bool). placeOf (map f (sources s))) (fails-8 (account s) (series s) true)
+    let s : tie.Start = past7 (c .before) in
+    rw (fails-8 (account s) (series s) true) at (simp (toZ-ofZ (s .fits .account), toZ-ofZ (s .fits .series)) at (c .first-failing3 .ensures))
 
 first-failing-requires-3 : tie.Need-first-failing-requires-3
 first-failing-requires-3 c κs = let s : tie.Start = past7 c in (s .pre .0 .0, s .pre .0 .2)
@@ -168,7 +156,7 @@ enum-known-i-3 c = search needs
 refused-at-requires-3 : tie.Need-refused-at-requires-3
 refused-at-requires-3 c κs =
     let a : tie.After-first-failing3 = c .before .before .before in
-    let s : tie.Start = start8 a in
+    let s : tie.Start = past7 (a .before) in
     record-place (rs s) (list s) (count s .1) _ _ (sym (answer-8 a) ∙ c .before .i3 .given .1)
 
 returns-3 : tie.Need-returns-3
@@ -183,7 +171,7 @@ enum-told-3 c = search needs
 
 module _ (c : tie.After-enum-told3) where
   abbrev past8 : tie.Start
-  past8 = start8 (c .before .before)
+  past8 = past7 (c .before .before .before)
 
   opening : anyOf (map closes (sources past8)) ≡ false
   opening = nowhere-tells _ (sym (answer-8 (c .before .before)) ∙ c .enum-told3 .given .1)
@@ -191,10 +179,7 @@ module _ (c : tie.After-enum-told3) where
   at-9 : From past8 9
   at-9 = at-8 (c .before .before .before) past opening
 
-abbrev start9 : tie.After-first-repeated → tie.Start
-start9 c = past8 (c .before)
-
-answer-9 : (c : tie.After-first-repeated) → c .first-repeated .result ≡ placeOf (repeatsFrom [] (pairsOf (list (start9 c))))
+answer-9 : (c : tie.After-first-repeated) → c .first-repeated .result ≡ placeOf (repeatsFrom [] (pairsOf (list (past8 (c .before)))))
 unfolding repeatedPlace
 answer-9 c = c .first-repeated .ensures
 
@@ -207,7 +192,7 @@ enum-known-i-4 c = search needs
 refused-at-requires-4 : tie.Need-refused-at-requires-4
 refused-at-requires-4 c κs =
     let a : tie.After-first-repeated = c .before .before .before in
-    let s : tie.Start = start9 a in
+    let s : tie.Start = past8 (a .before) in
     repeat-place (rs s) (list s) (count s .1) _ (sym (answer-9 a) ∙ c .before .i4 .given .1)
 
 returns-4 : tie.Need-returns-4
@@ -222,7 +207,7 @@ enum-told-4 c = search needs
 
 module _ (c : tie.After-enum-told4) where
   abbrev past9 : tie.Start
-  past9 = start9 (c .before .before)
+  past9 = past8 (c .before .before .before)
 
   differ : anyOf (repeatsFrom [] (pairsOf (list past9))) ≡ false
   differ = nowhere-tells _ (sym (answer-9 (c .before .before)) ∙ c .enum-told4 .given .1)
@@ -245,9 +230,7 @@ module _ (c : tie.After-source-record) where
 buy-is : (c : tie.After-is-buy) → c .is-buy .result ≡ isBuy (firstOf (sources (at-first (c .before .before))) .side)
 buy-is c =
     let a : tie.After-source-record = c .before .before in
-    let e : c .is-buy .result ≡ isBuy (a .source-record .result .side) =
-    simp (read-back (a .source-record .result .side) (c .before .struct-told .given .1 .1 .1 .1 .1 .1 .1 .0 .1)) at (c .is-buy .ensures) in
-    e ∙ side-is a
+    (simp (read-back (a .source-record .result .side) (c .before .struct-told .given .1 .1 .1 .1 .1 .1 .1 .0 .1)) at (c .is-buy .ensures)) ∙ side-is a
 
 abbrev start10 : tie.After-first-failing4 → tie.Start
 start10 c = at-first (c .before .before .before)
@@ -255,10 +238,7 @@ start10 c = at-first (c .before .before .before)
 answer-10 : (c : tie.After-first-failing4) → c .first-failing4 .result ≡ placeOf (map (sideDiffers (firstOf (sources (start10 c)))) (sources (start10 c)))
 answer-10 c =
     let s : tie.Start = start10 c in
-    let buy : Bool = c .before .is-buy .result in
-    let e : c .first-failing4 .result ≡ placeOf (map (failsTest (pos 10) (account s) (series s) buy) (sources s)) =
-    simp (toZ-ofZ (s .fits .account), toZ-ofZ (s .fits .series)) at (c .first-failing4 .ensures) in
-    e ∙ ap (λ (f : Record → Bool). placeOf (map f (sources s))) (fails-10 (account s) (series s) buy (firstOf (sources s)) (buy-is (c .before)))
+    rw (fails-10 (account s) (series s) _ (firstOf (sources s)) (buy-is (c .before))) at (simp (toZ-ofZ (s .fits .account), toZ-ofZ (s .fits .series)) at (c .first-failing4 .ensures))
 
 source-record-requires : tie.Need-source-record-requires
 source-record-requires c κs =
@@ -301,9 +281,7 @@ first-read c = c .before .before .before .before .before .before .before
 buy-again : (c : tie.After-is-buy2) → c .is-buy2 .result ≡ isBuy (firstOf (sources (at-first (first-read c))) .side)
 buy-again c =
     let a : tie.After-source-record = first-read c in
-    let e : c .is-buy2 .result ≡ isBuy (a .source-record .result .side) =
-    simp (read-back (a .source-record .result .side) (c .before .struct-told2 .given .1 .1 .1 .1 .1 .1 .1 .0 .1)) at (c .is-buy2 .ensures) in
-    e ∙ side-is a
+    (simp (read-back (a .source-record .result .side) (c .before .struct-told2 .given .1 .1 .1 .1 .1 .1 .1 .0 .1)) at (c .is-buy2 .ensures)) ∙ side-is a
 
 is-buy-requires-2 : tie.Need-is-buy-requires-2
 is-buy-requires-2 c κs = search needs

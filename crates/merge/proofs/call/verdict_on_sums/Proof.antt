@@ -1,4 +1,5 @@
--- `merge::call::verdict_on_sums` meets its contract: tests 11 and 13 to 16 in their order, each of what the calls before it answered. Assumes nothing.
+-- `merge::call::verdict_on_sums` meets its contract: what it requires passes tests 3 to 10, past each of the tests 11 and 13 to 16 the verdict is that of the tests
+-- which remain, and each return is the one that applies. Assumes nothing.
 use Prim.Native.Nat.{ℕ, _+_, _/_, _≤_}
 use native.Mathlib.Omega.{arith}
 use mathlib.Core.Path.{_≡_, refl, sym, _∙_, ap}
