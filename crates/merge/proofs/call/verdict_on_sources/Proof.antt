@@ -71,7 +71,7 @@ start6 c = c .before .before
 answer-6 : (c : tie.After-first-failing) → c .first-failing .result ≡ placeOf (map (isElsewhere (account (start6 c)) (series (start6 c))) (sources (start6 c)))
 answer-6 c =
     let s : tie.Start = start6 c in
-    rw (fails-6 (account s) (series s) true) at (simp (toZ-ofZ (s .fits .account), toZ-ofZ (s .fits .series)) at (c .first-failing .ensures))
+    rw (← fails-6 (account s) (series s) true) (simp (toZ-ofZ (s .fits .account), toZ-ofZ (s .fits .series)) at (c .first-failing .ensures))
 
 first-failing-requires : tie.Need-first-failing-requires
 first-failing-requires c κs = let s : tie.Start = c .before in (s .pre .0 .0, s .pre .0 .2)
@@ -108,7 +108,7 @@ module _ (c : tie.After-enum-told) where
 answer-7 : (c : tie.After-first-failing2) → c .first-failing2 .result ≡ placeOf (map isNotAdjustable (sources (past6 (c .before))))
 answer-7 c =
     let s : tie.Start = past6 (c .before) in
-    rw (fails-7 (account s) (series s) true) at (simp (toZ-ofZ (s .fits .account), toZ-ofZ (s .fits .series)) at (c .first-failing2 .ensures))
+    rw (← fails-7 (account s) (series s) true) (simp (toZ-ofZ (s .fits .account), toZ-ofZ (s .fits .series)) at (c .first-failing2 .ensures))
 
 first-failing-requires-2 : tie.Need-first-failing-requires-2
 first-failing-requires-2 c κs = let s : tie.Start = past6 c in (s .pre .0 .0, s .pre .0 .2)
@@ -145,7 +145,7 @@ module _ (c : tie.After-enum-told2) where
 answer-8 : (c : tie.After-first-failing3) → c .first-failing3 .result ≡ placeOf (map closes (sources (past7 (c .before))))
 answer-8 c =
     let s : tie.Start = past7 (c .before) in
-    rw (fails-8 (account s) (series s) true) at (simp (toZ-ofZ (s .fits .account), toZ-ofZ (s .fits .series)) at (c .first-failing3 .ensures))
+    rw (← fails-8 (account s) (series s) true) (simp (toZ-ofZ (s .fits .account), toZ-ofZ (s .fits .series)) at (c .first-failing3 .ensures))
 
 first-failing-requires-3 : tie.Need-first-failing-requires-3
 first-failing-requires-3 c κs = let s : tie.Start = past7 c in (s .pre .0 .0, s .pre .0 .2)
@@ -238,7 +238,8 @@ start10 c = at-first (c .before .before .before)
 answer-10 : (c : tie.After-first-failing4) → c .first-failing4 .result ≡ placeOf (map (sideDiffers (firstOf (sources (start10 c)))) (sources (start10 c)))
 answer-10 c =
     let s : tie.Start = start10 c in
-    rw (fails-10 (account s) (series s) _ (firstOf (sources s)) (buy-is (c .before))) at (simp (toZ-ofZ (s .fits .account), toZ-ofZ (s .fits .series)) at (c .first-failing4 .ensures))
+    rw (← fails-10 (account s) (series s) (c .before .is-buy .result) (firstOf (sources s)) (buy-is (c .before)))
+    (simp (toZ-ofZ (s .fits .account), toZ-ofZ (s .fits .series)) at (c .first-failing4 .ensures))
 
 source-record-requires : tie.Need-source-record-requires
 source-record-requires c κs =
