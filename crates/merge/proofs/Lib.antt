@@ -1,1 +1,1 @@
-pub mod MergeChainPlaces
+pub mod SmallPlaces

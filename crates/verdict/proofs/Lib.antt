@@ -1,4 +1,4 @@
-pub mod Chain
+pub mod Remaining
 pub mod Handled
 pub mod Acceptance
 pub mod Lineage

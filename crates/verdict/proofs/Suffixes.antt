@@ -1,6 +1,6 @@
 -- Test 13 by the last suffix alone: of rows at successive suffixes some suffix is above 65,535 exactly where the last one is. By induction on the parts.
 -- Assumes nothing.
-use Prim.Native.Nat.{suc, _+_}
+use Prim.Native.Nat.{suc}
 use mathlib.Core.Path.{_≡_, refl, sym, _∙_, ap}
 use mathlib.Core.Bool.{Bool, true, false, _||_}
 use mathlib.Core.List.{List, [], _∷_, map}
@@ -16,7 +16,7 @@ use Rattle.rules.specs.Plan.{suffixIsAbove}
 use Rattle.rules.specs.Separation.{partRecords}
 use Rattle.rules.specs.declared.Record.{Record}
 use Rattle.keys.proofs.Split.{split}
-use Rattle.verdict.proofs.Chain.{or-false}
+use Rattle.verdict.proofs.Remaining.{or-nothing}
 
 -- A suffix is above, or a later one is: the later one is.
 pub above-later : (most first last : ℤ) → first ≤ℤ last → (ltZ most first || ltZ most last) ≡ ltZ most last
@@ -32,7 +32,7 @@ pub above-parts : (r : Record) (suffix : ℤ) (parts : List ℤ)
 unfolding anyOf partRecords suffixIsAbove adjustableRecord
 above-parts r suffix [] =
     let e : suffix +ℤ pos 0 ≡ suffix = omega (zarith, +-lin suffix (pos 0)) in
-    or-false (ltZ greatestOfSuffixes suffix) ∙ ap (ltZ greatestOfSuffixes) (sym e)
+    or-nothing (ltZ greatestOfSuffixes suffix) ∙ ap (ltZ greatestOfSuffixes) (sym e)
 above-parts r suffix (q ∷ rest) =
     let next : ℤ = suffix +ℤ pos 1 in
     let last : ℤ = next +ℤ pos (length rest) in

@@ -1,13 +1,12 @@
--- The verdict on a trade, test by test in their order, and the tables and answer of an accepted one. 13 never applies: the new row's suffix is 0.
+-- The tests of a trade in the shape in which code meets them, and the tables and answer of an accepted one. 13 never applies: the new row's suffix is 0.
 -- By the definitions. Assumes nothing.
 use Prim.Native.Nat.{ℕ, _+_}
 use mathlib.Core.Path.{_≡_, refl, _∙_, ap}
 use mathlib.Core.Bool.{Bool, true, false, not}
 use mathlib.Core.List.{List, [], _∷_}
-use mathlib.Core.Option.{none, some}
 use lib.Dec.{ltb}
 use lib.IntN.{ℤ, pos, _-ℤ_}
-use lib.ListN.{length, drop}
+use lib.ListN.{length}
 use Rattle.rules.specs.Keyed.{greatest, isSome, upsert, upsertAll}
 use Rattle.rules.specs.Rows.{recordKey, positionKey, newRecord, moved, soundPosition}
 use Rattle.rules.specs.Refusal.{Test, test, anyOf, allOf, firstRefusal}
@@ -22,9 +21,7 @@ use Rattle.rules.specs.declared.Record.{Record}
 use Rattle.rules.specs.declared.Position.{Position}
 use Rattle.rules.specs.declared.Reply.the-variants.{Booked, ClosingError}
 use Rattle.verdict.specs.Verdict.{verdictOn, acceptedOn, absentPosition}
-use Rattle.verdict.specs.declared.Verdict.{Verdict}
-use Rattle.verdict.specs.declared.Verdict.the-variants.{Accepted, Refused}
-use Rattle.verdict.proofs.Chain.{verdictBy, accepts, refuses, passes, and-true}
+use Rattle.verdict.proofs.Remaining.{row, fromTest, verdictBy, Remaining, and-true}
 use Rattle.verdict.proofs.Room.{positionRead, absent-one}
 
 -- What a trade closes and books, the position that it leaves, and its row.
@@ -50,63 +47,30 @@ module _ (ps : List ℤ) (account series side quantity : ℤ) where
 module _ (rs ps : List ℤ) (id account series side quantity price : ℤ) where
   -- ---- the verdict
 
-  abbrev theVerdict : Verdict
-  theVerdict = verdictOn rs ps (trade id account series side quantity price)
-
   -- The tests of a trade, by how many positions it adds and whether the position it leaves is sound.
   abbrev testsBy : ℕ → Bool → List Test
   testsBy absent sound =
-      test 3 (not (tradeFigures id account series side quantity price))
-      ∷ test 4 (isSome (greatest recordKey id (rowsOf recordsLayout rs)))
-      ∷ test 14 (ltb (roomOf recordsLayout rs) (length (rowsOf recordsLayout rs) + 1))
-      ∷ test 15 (ltb (roomOf positionsLayout ps) (length (rowsOf positionsLayout ps) + absent))
-      ∷ test 16 (not sound)
+      row 3 (not (tradeFigures id account series side quantity price))
+      ∷ row 4 (isSome (greatest recordKey id (rowsOf recordsLayout rs)))
+      ∷ row 14 (ltb (roomOf recordsLayout rs) (length (rowsOf recordsLayout rs) + 1))
+      ∷ row 15 (ltb (roomOf positionsLayout ps) (length (rowsOf positionsLayout ps) + absent))
+      ∷ row 16 (not sound)
       ∷ []
 
   abbrev tradeTests : List Test
   tradeTests = testsBy (absentPosition ps account series) (soundPosition (tradePosition ps account series side quantity))
 
-  trade-verdict : theVerdict ≡ verdictBy tradeTests
+  -- The verdict is that of the tests from number n on.
+  abbrev pub TradeFrom : ℕ → Type 0
+  TradeFrom n = Remaining (verdictOn rs ps (trade id account series side quantity price)) (fromTest n tradeTests)
+
+  pub trade-tests : TradeFrom 3
   unfolding verdictOn planOf tradePlan viewOf booksOf planTests bookingTests suffixIsAbove newRecord anyOf allOf firstRefusal test
-  trade-verdict = λ i. verdictBy (testsBy
-      (absent-one ps account series (tradeLong ps account series side quantity) (tradeShort ps account series side quantity) (pos 0) i)
-      (and-true (soundPosition (tradePosition ps account series side quantity)) i))
-
-  pub trade-refused-3 : tradeFigures id account series side quantity price ≡ false → theVerdict ≡ Refused (pos 3) (pos 0)
-  trade-refused-3 e = trade-verdict ∙ refuses 3 _ _ (ap not e)
-
-  module _ (figures : tradeFigures id account series side quantity price ≡ true) where
-    past-3 : theVerdict ≡ verdictBy (drop 1 tradeTests)
-    past-3 = trade-verdict ∙ passes 3 _ _ (ap not figures)
-
-    pub trade-refused-4 : (g : ℤ) → greatest recordKey id (rowsOf recordsLayout rs) ≡ some g → theVerdict ≡ Refused (pos 4) (pos 0)
-    unfolding isSome
-    trade-refused-4 g e = past-3 ∙ refuses 4 _ _ (ap isSome e)
-
-    module _ (new-id : greatest recordKey id (rowsOf recordsLayout rs) ≡ none) where
-      past-4 : theVerdict ≡ verdictBy (drop 2 tradeTests)
-      unfolding isSome
-      past-4 = past-3 ∙ passes 4 _ _ (ap isSome new-id)
-
-      pub trade-refused-14 : ltb (roomOf recordsLayout rs) (length (rowsOf recordsLayout rs) + 1) ≡ true → theVerdict ≡ Refused (pos 14) (pos 0)
-      trade-refused-14 e = past-4 ∙ refuses 14 _ _ e
-
-      module _ (records-room : ltb (roomOf recordsLayout rs) (length (rowsOf recordsLayout rs) + 1) ≡ false) where
-        past-14 : theVerdict ≡ verdictBy (drop 3 tradeTests)
-        past-14 = past-4 ∙ passes 14 _ _ records-room
-
-        pub trade-refused-15 : ltb (roomOf positionsLayout ps) (length (rowsOf positionsLayout ps) + absentPosition ps account series) ≡ true → theVerdict ≡ Refused (pos 15) (pos 0)
-        trade-refused-15 e = past-14 ∙ refuses 15 _ _ e
-
-        module _ (positions-room : ltb (roomOf positionsLayout ps) (length (rowsOf positionsLayout ps) + absentPosition ps account series) ≡ false) where
-          past-15 : theVerdict ≡ verdictBy (drop 4 tradeTests)
-          past-15 = past-14 ∙ passes 15 _ _ positions-room
-
-          pub trade-refused-16 : soundPosition (tradePosition ps account series side quantity) ≡ false → theVerdict ≡ Refused (pos 16) (pos 0)
-          trade-refused-16 e = past-15 ∙ refuses 16 _ _ (ap not e)
-
-          pub trade-accepted : soundPosition (tradePosition ps account series side quantity) ≡ true → theVerdict ≡ Accepted
-          trade-accepted e = past-15 ∙ passes 16 _ _ (ap not e) ∙ accepts
+  trade-tests = record {
+    is = λ i. verdictBy (testsBy
+        (absent-one ps account series (tradeLong ps account series side quantity) (tradeShort ps account series side quantity) (pos 0) i)
+        (and-true (soundPosition (tradePosition ps account series side quantity)) i));
+  }
 
   -- ---- the booking
 

@@ -1,108 +1,66 @@
--- `trade::verdict` meets its contract: the tests run in the order of the refusals, and each return is the verdict with the tests before it passed.
+-- `trade::verdict` meets its contract: past each test the verdict is that of the tests which remain, and each return is the one that applies.
 -- Assumes nothing.
-use Prim.Native.Nat.{_+_}
+use Prim.Native.Nat.{ℕ, _+_}
 use native.Mathlib.Omega.{arith}
 use mathlib.Core.Path.{_≡_, sym, _∙_, ap}
-use mathlib.Core.Bool.{Bool, true, false}
-use mathlib.Core.Option.{none}
+use mathlib.Core.Bool.{true, not}
 use borrow.Author.Needs.{needs}
 use lib.Dec.{ltb}
 use lib.ListN.{length}
 use mir.Facts.{toZ-ofZ}
-use Rattle.rules.specs.Keyed.{greatest}
-use Rattle.rules.specs.Rows.{recordKey, soundPosition}
+use Rattle.rules.specs.Keyed.{isSome}
+use Rattle.rules.specs.Rows.{soundPosition}
 use Rattle.rules.specs.Layout.{roomOf, rowsOf}
-use Rattle.rules.specs.Tables.{recordsLayout, positionsLayout}
+use Rattle.rules.specs.Tables.{positionsLayout}
 use Rattle.rules.specs.Trade.{tradeFigures}
 use Rattle.figures.proofs.Tests.{failed, passed}
 use Rattle.lookup.specs.Lookup.{suffixGreatest}
 use Rattle.lookup.proofs.TableLookup.{suffix-greatest, suffix-nothing}
 use Rattle.verdict.specs.Verdict.{absentPosition}
+use Rattle.verdict.proofs.Remaining.{_past_, stops, ends}
 use Rattle.verdict.proofs.Room.{absent-at-most-one}
-use Rattle.verdict.proofs.Trade.{tradePosition, trade-refused-3, trade-refused-4, trade-refused-14, trade-refused-15, trade-refused-16, trade-accepted}
+use Rattle.verdict.proofs.Trade.{tradePosition, TradeFrom, trade-tests}
 use Rattle.trade.proofs.TradeBooked.{after-is, figures-quantity}
 use Rattle.trade.proofs.verdict.Statement.{statement}
 use Rattle.trade.proofs.verdict.Tie as tie
 
--- What each test asks, of what the function is given.
 module _ (s : tie.Start) where
-  abbrev figures : Bool
-  figures = tradeFigures (s .args .id) (s .args .account) (s .args .series) (s .args .side) (s .args .quantity) (s .args .price)
+  -- The verdict is that of the tests from number n on.
+  abbrev From : ℕ → Type 0
+  From n = TradeFrom (s .args .records .now) (s .args .positions .now) (s .args .id) (s .args .account) (s .args .series) (s .args .side) (s .args .quantity) (s .args .price) n
 
-  abbrev lacks-records : Bool
-  lacks-records = ltb (roomOf recordsLayout (s .args .records .now)) (length (rowsOf recordsLayout (s .args .records .now)) + 1)
+  at-3 : From 3
+  at-3 = trade-tests (s .args .records .now) (s .args .positions .now) (s .args .id) (s .args .account) (s .args .series) (s .args .side) (s .args .quantity) (s .args .price)
 
-  abbrev lacks-positions : Bool
-  lacks-positions =
-      ltb (roomOf positionsLayout (s .args .positions .now))
-      (length (rowsOf positionsLayout (s .args .positions .now)) + absentPosition (s .args .positions .now) (s .args .account) (s .args .series))
+-- ---- test 3
 
-  abbrev stays-sound : Bool
-  stays-sound = soundPosition (tradePosition (s .args .positions .now) (s .args .account) (s .args .series) (s .args .side) (s .args .quantity))
-
--- 3
-abbrev at3 : tie.After-figures-valid → tie.Start
-at3 c = c .before
-
-answer3 : (c : tie.After-figures-valid) → c .figures-valid .result ≡ figures (at3 c)
-answer3 c =
-    let s : tie.Start = at3 c in
+answer-3 : (c : tie.After-figures-valid) → let a = c .before .args in
+    c .figures-valid .result ≡ tradeFigures (a .id) (a .account) (a .series) (a .side) (a .quantity) (a .price)
+answer-3 c =
+    let s : tie.Start = c .before in
     simp (toZ-ofZ (s .fits .id), toZ-ofZ (s .fits .account), toZ-ofZ (s .fits .series), toZ-ofZ (s .fits .side), toZ-ofZ (s .fits .quantity), toZ-ofZ (s .fits .price))
     at (c .figures-valid .ensures)
-
-past3 : (c : tie.Else1) → figures (at3 (c .before)) ≡ true
-past3 c = passed (answer3 (c .before)) (c .if1 .left)
-
--- 4
-abbrev at4 : tie.After-greatest-suffix → tie.Start
-at4 c = at3 (c .before .before)
-
-answer4 : (c : tie.After-greatest-suffix) → c .greatest-suffix .result ≡ suffixGreatest (at4 c .args .records .now) (at4 c .args .id)
-answer4 c = simp (toZ-ofZ (at4 c .fits .id)) at (c .greatest-suffix .ensures)
-
-past4 : (c : tie.After-enum-told) →
-    greatest recordKey (at4 (c .before .before) .args .id) (rowsOf recordsLayout (at4 (c .before .before) .args .records .now)) ≡ none
-past4 c =
-    let s : tie.Start = at4 (c .before .before) in
-    suffix-nothing (s .args .records .now) (s .args .id) (sym (answer4 (c .before .before)) ∙ c .enum-told .given .1)
-
--- 14
-abbrev at14 : tie.After-lacks-records-room → tie.Start
-at14 c = at4 (c .before .before .before)
-
-past14 : (c : tie.Else2) → lacks-records (at14 (c .before)) ≡ false
-past14 c = sym (c .before .lacks-records-room .ensures) ∙ c .if2 .left
-
--- 15
-abbrev at15 : tie.After-absent-position → tie.Start
-at15 c = at14 (c .before .before)
-
-absent : (c : tie.After-absent-position) → c .absent-position .result ≡ absentPosition (at15 c .args .positions .now) (at15 c .args .account) (at15 c .args .series)
-absent c = simp (toZ-ofZ (at15 c .fits .account), toZ-ofZ (at15 c .fits .series)) at (c .absent-position .ensures)
-
-answer15 : (c : tie.After-lacks-positions-room) → c .lacks-positions-room .result ≡ lacks-positions (at15 (c .before))
-answer15 c = simp (absent (c .before)) at (c .lacks-positions-room .ensures)
-
-past15 : (c : tie.Else3) → lacks-positions (at15 (c .before .before)) ≡ false
-past15 c = sym (answer15 (c .before)) ∙ c .if3 .left
-
--- 16
-abbrev at16 : tie.After-sound-position → tie.Start
-at16 c = at15 (c .before .before .before .before)
-
-answer16 : (c : tie.After-sound-position) → c .sound-position .result ≡ stays-sound (at16 c)
-answer16 c =
-    let s : tie.Start = at16 c in
-    let left : c .before .position-after .result ≡ tradePosition (s .args .positions .now) (s .args .account) (s .args .series) (s .args .side) (s .args .quantity)
-    = (simp (toZ-ofZ (s .fits .account), toZ-ofZ (s .fits .series), toZ-ofZ (s .fits .side), toZ-ofZ (s .fits .quantity)) at (c .before .position-after .ensures))
-    ∙ after-is (s .args .positions .now) (s .args .account) (s .args .series) (s .args .side) (s .args .quantity) in
-    c .sound-position .ensures ∙ ap soundPosition left
 
 figures-valid-requires : tie.Need-figures-valid-requires
 figures-valid-requires c κs = search needs
 
 returns : tie.Need-returns
-returns c = sym (trade-refused-3 _ _ _ _ _ _ _ _ (failed (answer3 (c .before)) (c .if1 .taken)))
+returns c = stops (at-3 (c .before .before)) (ap not (failed (answer-3 (c .before)) (c .if1 .taken)))
+
+-- ---- test 4
+
+module _ (c : tie.Else1) where
+  abbrev start4 : tie.Start
+  start4 = c .before .before
+
+  figures : let a = start4 .args in tradeFigures (a .id) (a .account) (a .series) (a .side) (a .quantity) (a .price) ≡ true
+  figures = passed (answer-3 (c .before)) (c .if1 .left)
+
+  at-4 : From start4 4
+  at-4 = at-3 start4 past ap not figures
+
+answer-4 : (c : tie.After-greatest-suffix) → c .greatest-suffix .result ≡ suffixGreatest (start4 (c .before) .args .records .now) (start4 (c .before) .args .id)
+answer-4 c = simp (toZ-ofZ (start4 (c .before) .fits .id)) at (c .greatest-suffix .ensures)
 
 greatest-suffix-requires : tie.Need-greatest-suffix-requires
 greatest-suffix-requires c κs = search needs
@@ -114,74 +72,97 @@ enum-told-2 : tie.Need-enum-told-2
 enum-told-2 c = search needs
 
 returns-2 : tie.Need-returns-2
+unfolding isSome
 returns-2 c =
     let g : tie.After-greatest-suffix = c .before .before in
-    sym (trade-refused-4 _ _ _ _ _ _ _ _ (past3 (g .before)) _ (suffix-greatest _ _ _ (sym (answer4 g) ∙ c .enum-told2 .given .1)))
+    stops (at-4 (g .before)) (ap isSome (suffix-greatest _ _ _ (sym (answer-4 g) ∙ c .enum-told2 .given .1)))
+
+-- ---- test 14
+
+module _ (c : tie.After-enum-told) where
+  abbrev start14 : tie.Start
+  start14 = start4 (c .before .before .before)
+
+  at-14 : From start14 14
+  unfolding isSome
+  at-14 =
+      at-4 (c .before .before .before)
+      past ap isSome (suffix-nothing (start14 .args .records .now) (start14 .args .id) (sym (answer-4 (c .before .before)) ∙ c .enum-told .given .1))
 
 lacks-records-room-requires : tie.Need-lacks-records-room-requires
 lacks-records-room-requires c κs = search needs
 
 returns-3 : tie.Need-returns-3
-returns-3 c =
-    let e : tie.After-enum-told = c .before .before in
-    sym (trade-refused-14 _ _ _ _ _ _ _ _ (past3 (e .before .before .before)) (past4 e) (sym (c .before .lacks-records-room .ensures) ∙ c .if2 .taken))
+returns-3 c = stops (at-14 (c .before .before)) (sym (c .before .lacks-records-room .ensures) ∙ c .if2 .taken)
+
+-- ---- test 15
+
+module _ (c : tie.Else2) where
+  abbrev start15 : tie.Start
+  start15 = start14 (c .before .before)
+
+  at-15 : From start15 15
+  at-15 = at-14 (c .before .before) past sym (c .before .lacks-records-room .ensures) ∙ c .if2 .left
+
+absent : (c : tie.After-absent-position) → let a = start15 (c .before) .args in c .absent-position .result ≡ absentPosition (a .positions .now) (a .account) (a .series)
+absent c = simp (toZ-ofZ (start15 (c .before) .fits .account), toZ-ofZ (start15 (c .before) .fits .series)) at (c .absent-position .ensures)
+
+answer-15 : (c : tie.After-lacks-positions-room) → let a = start15 (c .before .before) .args in
+    c .lacks-positions-room .result
+    ≡ ltb (roomOf positionsLayout (a .positions .now)) (length (rowsOf positionsLayout (a .positions .now)) + absentPosition (a .positions .now) (a .account) (a .series))
+answer-15 c = simp (absent (c .before)) at (c .lacks-positions-room .ensures)
 
 absent-position-requires : tie.Need-absent-position-requires
 absent-position-requires c κs = search needs
 
 lacks-positions-room-requires : tie.Need-lacks-positions-room-requires
 lacks-positions-room-requires c κs =
-    let s : tie.Start = at15 c in
+    let s : tie.Start = start15 (c .before) in
     (s .pre .1, omega (arith, absent c, absent-at-most-one (s .args .positions .now) (s .args .account) (s .args .series)))
 
 returns-4 : tie.Need-returns-4
-returns-4 c =
-    let r : tie.Else2 = c .before .before .before in
-    let e : tie.After-enum-told = r .before .before in
-    sym (trade-refused-15 _ _ _ _ _ _ _ _ (past3 (e .before .before .before)) (past4 e) (past14 r) (sym (answer15 (c .before)) ∙ c .if3 .taken))
+returns-4 c = stops (at-15 (c .before .before .before)) (sym (answer-15 (c .before)) ∙ c .if3 .taken)
+
+-- ---- test 16
+
+module _ (c : tie.Else3) where
+  abbrev start16 : tie.Start
+  start16 = start15 (c .before .before .before)
+
+  at-16 : From start16 16
+  at-16 = at-15 (c .before .before .before) past sym (answer-15 (c .before)) ∙ c .if3 .left
+
+answer-16 : (c : tie.After-sound-position) → let a = start16 (c .before .before) .args in
+    c .sound-position .result ≡ soundPosition (tradePosition (a .positions .now) (a .account) (a .series) (a .side) (a .quantity))
+answer-16 c =
+    let s : tie.Start = start16 (c .before .before) in
+    let left : c .before .position-after .result ≡ tradePosition (s .args .positions .now) (s .args .account) (s .args .series) (s .args .side) (s .args .quantity)
+    = (simp (toZ-ofZ (s .fits .account), toZ-ofZ (s .fits .series), toZ-ofZ (s .fits .side), toZ-ofZ (s .fits .quantity)) at (c .before .position-after .ensures))
+    ∙ after-is (s .args .positions .now) (s .args .account) (s .args .series) (s .args .side) (s .args .quantity) in
+    c .sound-position .ensures ∙ ap soundPosition left
 
 position-after-requires : tie.Need-position-after-requires
 position-after-requires c κs =
-    let s : tie.Start = at15 (c .before .before) in
+    let s : tie.Start = start16 c in
     simp (toZ-ofZ (s .fits .quantity)) (
       s .pre .1,
       figures-quantity (s .args .id) (s .args .account) (s .args .series) (s .args .side) (s .args .quantity) (s .args .price)
-          (past3 (c .before .before .before .before .before .before .before .before)),
+          (figures (c .before .before .before .before .before .before .before .before)),
     )
 
 sound-position-requires : tie.Need-sound-position-requires
 sound-position-requires c κs = search needs
 
 returns-5 : tie.Need-returns-5
-returns-5 c =
-    let p : tie.Else3 = c .before .before .before in
-    let r : tie.Else2 = p .before .before .before in
-    let e : tie.After-enum-told = r .before .before in
-    sym (trade-refused-16 _ _ _ _ _ _ _ _ (past3 (e .before .before .before)) (past4 e) (past14 r) (past15 p) (failed (answer16 (c .before)) (c .if4 .taken)))
+returns-5 c = stops (at-16 (c .before .before .before)) (ap not (failed (answer-16 (c .before)) (c .if4 .taken)))
 
 returns-6 : tie.Need-returns-6
-returns-6 c =
-    let p : tie.Else3 = c .before .before .before in
-    let r : tie.Else2 = p .before .before .before in
-    let e : tie.After-enum-told = r .before .before in
-    sym (trade-accepted _ _ _ _ _ _ _ _ (past3 (e .before .before .before)) (past4 e) (past14 r) (past15 p) (passed (answer16 (c .before)) (c .if4 .left)))
+returns-6 c = ends (at-16 (c .before .before .before) past ap not (passed (answer-16 (c .before)) (c .if4 .left)))
 
 pub verdict-spec : {M : Type 1} → statement M
 verdict-spec =
     tie.close
     (tie.spec
-    figures-valid-requires
-    returns
-    greatest-suffix-requires
-    enum-told
-    enum-told-2
-    returns-2
-    lacks-records-room-requires
-    returns-3
-    absent-position-requires
-    lacks-positions-room-requires
-    returns-4
-    position-after-requires
-    sound-position-requires
-    returns-5
-    returns-6)
+    figures-valid-requires returns greatest-suffix-requires enum-told enum-told-2 returns-2 lacks-records-room-requires
+    returns-3 absent-position-requires lacks-positions-room-requires returns-4 position-after-requires
+    sound-position-requires returns-5 returns-6)

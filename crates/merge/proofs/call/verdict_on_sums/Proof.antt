@@ -1,9 +1,10 @@
--- `merge::call::verdict_on_sums` meets its contract: tests 11 and 13 to 16 in their order, each of what the calls before it answered. Assumes nothing.
-use Prim.Native.Nat.{_+_, _/_, _≤_}
+-- `merge::call::verdict_on_sums` meets its contract: what it requires passes tests 3 to 10, past each of the tests 11 and 13 to 16 the verdict is that of the tests
+-- which remain, and each return is the one that applies. Assumes nothing.
+use Prim.Native.Nat.{ℕ, _+_, _/_, _≤_}
 use native.Mathlib.Omega.{arith}
 use mathlib.Core.Path.{_≡_, refl, sym, _∙_, ap}
-use mathlib.Core.Bool.{Bool, true, false}
-use mathlib.Core.List.{List, [], map}
+use mathlib.Core.Bool.{Bool, true, false, not}
+use mathlib.Core.List.{List, map}
 use borrow.Author.Needs.{needs, sfits-of}
 use borrow.Author.Tests.{not-true}
 use lib.Dec.{ltb}
@@ -18,22 +19,23 @@ use Rattle.integers.specs.Averageable.{Averageable}
 use Rattle.integers.specs.Order.{inRange}
 use Rattle.integers.proofs.Linear.{zarith}
 use Rattle.rules.specs.Figures.{magnitudeAtMost, mostQuantity}
+use Rattle.rules.specs.Keyed.{isSome}
 use Rattle.rules.specs.Rows.{soundPosition, validBooked}
 use Rattle.rules.specs.Refusal.{anyOf}
-use Rattle.rules.specs.Plan.{suffixIsAbove}
 use Rattle.rules.specs.Layout.{roomOf, rowsOf}
-use Rattle.rules.specs.Tables.{recordsLayout, positionsLayout}
-use Rattle.rules.specs.Merge.{isMissing, sumOfQuantities, sumOfValues, mergeInverses, mergeResidual}
+use Rattle.rules.specs.Tables.{positionsLayout}
+use Rattle.rules.specs.Merge.{isMissing, sumOfQuantities, sumOfValues, mergeResidual}
 use Rattle.rules.specs.declared.Record.{Record}
 use Rattle.figures.proofs.Tests.{failed, passed}
 use Rattle.verdict.specs.Verdict.{absentPosition}
+use Rattle.verdict.proofs.Remaining.{_past_, stops, ends}
 use Rattle.verdict.proofs.Room.{positionRead, absent-at-most-one}
 use Rattle.verdict.proofs.SoundReads.{position-read-sound}
 use Rattle.merge_sources.specs.Sources.{sourcesIn, sourceRecords}
 use Rattle.merge_sources.proofs.MergeFacts.{figures-count}
 use Rattle.merge_sources.proofs.SourceSums.{sources-averageable}
 use Rattle.merge_sources.proofs.SumRanges.{residual-small}
-use Rattle.merge_sources.proofs.MergeVerdict.{mergePosition, merge-refused-11, merge-refused-13, merge-refused-14, merge-refused-15, merge-refused-16, merge-accepted}
+use Rattle.merge_sources.proofs.MergeVerdict.{mergePosition, MergeFrom, merge-tests}
 use Rattle.merge.proofs.call.verdict_on_sums.Statement.{statement}
 use Rattle.merge.proofs.call.verdict_on_sums.Tie as tie
 
@@ -59,36 +61,79 @@ module _ (s : tie.Start) where
   abbrev sources : List Record
   sources = sourceRecords rs list
 
-  none-missing : anyOf (map isMissing (sourcesIn rs list)) ≡ false
-  none-missing = not-true (anyOf (map isMissing (sourcesIn rs list))) (s .pre .1 .0 .2)
-
   count : (2 ≤ length list / 2) × (length list ≤ 2000)
   count = figures-count id account series list (s .pre .1 .0 .0)
+
+  -- The verdict is that of the tests from number n on.
+  abbrev From : ℕ → Type 0
+  From n = MergeFrom rs ps id account series list n
+
+  at-11 : From 11
+  unfolding isSome
+  at-11 =
+      merge-tests rs ps id account series list
+      past ap not (s .pre .1 .0 .0)
+      past ap isSome (s .pre .1 .0 .1)
+      past not-true (anyOf (map isMissing (sourcesIn rs list))) (s .pre .1 .0 .2)
+      past s .pre .1 .1 .0 .0
+      past s .pre .1 .1 .0 .1
+      past s .pre .1 .1 .0 .2
+      past s .pre .1 .1 .1 .0
+      past s .pre .1 .1 .1 .1
 
 -- ---- test 11
 
 sum-is : (c : tie.After-sum-of-quantities) → toZ w64 (ofZ w64 (c .sum-of-quantities .result)) ≡ sumOfQuantities (sources (c .before .before))
 sum-is c = let f : SFits w64 (c .sum-of-quantities .result) = sfits-of (c .sum-of-quantities .ok) in toZ-ofZ f ∙ c .sum-of-quantities .ensures
 
-abbrev start1 : tie.Else1 → tie.Start
-start1 c = c .before .before .before
+sum-of-quantities-requires : tie.Need-sum-of-quantities-requires
+sum-of-quantities-requires c κs = let s : tie.Start = c .before in (s .pre .0 .0, s .pre .0 .2, s .pre .1 .0 .2, count s .1)
 
-sum-left : (c : tie.Else1) → ltZ (pos mostQuantity) (sumOfQuantities (sources (start1 c))) ≡ false
-sum-left c = rw (sum-is (c .before)) at (c .if1 .left)
+returns : tie.Need-returns
+returns c = stops (at-11 (c .before .before .before)) (rw (sum-is (c .before)) at (c .if1 .taken))
 
--- ---- tests 13 to 15
+-- ---- test 13
+
+module _ (c : tie.Else1) where
+  abbrev start1 : tie.Start
+  start1 = c .before .before .before
+
+  small-sum : ltZ (pos mostQuantity) (sumOfQuantities (sources start1)) ≡ false
+  small-sum = rw (sum-is (c .before)) at (c .if1 .left)
+
+  at-13 : From start1 13
+  at-13 = at-11 start1 past small-sum
+
+suffix-above-requires : tie.Need-suffix-above-requires
+suffix-above-requires c κs = (start1 c .pre .0 .0, count (start1 c) .1)
+
+returns-2 : tie.Need-returns-2
+returns-2 c = stops (at-13 (c .before .before)) (sym (c .before .suffix-above .ensures) ∙ c .if2 .taken)
+
+-- ---- test 14
 
 abbrev start2 : tie.Else2 → tie.Start
 start2 c = start1 (c .before .before)
 
-suffixes : (c : tie.Else2) → anyOf (map suffixIsAbove (mergeInverses (pos 0) [] (sourcesIn (rs (start2 c)) (list (start2 c))))) ≡ false
-suffixes c = sym (c .before .suffix-above .ensures) ∙ c .if2 .left
+at-14 : (c : tie.Else2) → From (start2 c) 14
+at-14 c = at-13 (c .before .before) past sym (c .before .suffix-above .ensures) ∙ c .if2 .left
+
+add-lacks-records-room : tie.Need-add-lacks-records-room
+add-lacks-records-room c = search needs
+
+lacks-records-room-requires : tie.Need-lacks-records-room-requires
+lacks-records-room-requires c κs = (start2 c .pre .0 .0, omega (arith, count (start2 c) .1))
+
+returns-3 : tie.Need-returns-3
+returns-3 c = stops (at-14 (c .before .before)) (sym (c .before .lacks-records-room .ensures) ∙ c .if3 .taken)
+
+-- ---- test 15
 
 abbrev start3 : tie.Else3 → tie.Start
 start3 c = start2 (c .before .before)
 
-records-room : (c : tie.Else3) → ltb (roomOf recordsLayout (rs (start3 c))) (length (rowsOf recordsLayout (rs (start3 c))) + (length (list (start3 c)) / 2 + 1)) ≡ false
-records-room c = sym (c .before .lacks-records-room .ensures) ∙ c .if3 .left
+at-15 : (c : tie.Else3) → From (start3 c) 15
+at-15 c = at-14 (c .before .before) past sym (c .before .lacks-records-room .ensures) ∙ c .if3 .left
 
 absent-is : (c : tie.After-absent-position) →
     c .absent-position .result ≡ absentPosition (ps (start3 (c .before))) (account (start3 (c .before))) (series (start3 (c .before)))
@@ -96,19 +141,29 @@ absent-is c =
     let s : tie.Start = start3 (c .before) in
     simp (toZ-ofZ (s .fits .account), toZ-ofZ (s .fits .series)) at (c .absent-position .ensures)
 
-abbrev start4 : tie.After-lacks-positions-room → tie.Start
-start4 c = start3 (c .before .before)
+module _ (c : tie.After-lacks-positions-room) where
+  abbrev start4 : tie.Start
+  start4 = start3 (c .before .before)
 
-room-answer : (c : tie.After-lacks-positions-room) → c .lacks-positions-room .result
-    ≡ ltb (roomOf positionsLayout (ps (start4 c)))
-    (length (rowsOf positionsLayout (ps (start4 c))) + absentPosition (ps (start4 c)) (account (start4 c)) (series (start4 c)))
-room-answer c = rw (absent-is (c .before)) at (c .lacks-positions-room .ensures)
+  answer-15 : c .lacks-positions-room .result
+      ≡ ltb (roomOf positionsLayout (ps start4)) (length (rowsOf positionsLayout (ps start4)) + absentPosition (ps start4) (account start4) (series start4))
+  answer-15 = rw (absent-is (c .before)) at (c .lacks-positions-room .ensures)
 
-positions-room : (c : tie.Else4) → ltb (roomOf positionsLayout (ps (start4 (c .before))))
-    (length (rowsOf positionsLayout (ps (start4 (c .before)))) + absentPosition (ps (start4 (c .before))) (account (start4 (c .before))) (series (start4 (c .before)))) ≡ false
-positions-room c = sym (room-answer (c .before)) ∙ c .if4 .left
+absent-position-requires : tie.Need-absent-position-requires
+absent-position-requires c κs = search needs
+
+lacks-positions-room-requires : tie.Need-lacks-positions-room-requires
+lacks-positions-room-requires c κs =
+    let s : tie.Start = start3 (c .before) in
+    (s .pre .0 .1, omega (arith, absent-is c, absent-at-most-one (ps s) (account s) (series s)))
+
+returns-4 : tie.Need-returns-4
+returns-4 c = stops (at-15 (c .before .before .before)) (sym (answer-15 (c .before)) ∙ c .if4 .taken)
 
 -- ---- test 16
+
+at-16 : (c : tie.Else4) → From (start4 (c .before)) 16
+at-16 c = at-15 (c .before .before .before) past sym (answer-15 (c .before)) ∙ c .if4 .left
 
 -- Where the sum of quantities was tested.
 abbrev tested : tie.Else4 → tie.Else1
@@ -122,7 +177,7 @@ module _ (c : tie.After-sum-of-values) where
   value-is = let f : SFits w64 (c .sum-of-values .result) = sfits-of (c .sum-of-values .ok) in toZ-ofZ f ∙ c .sum-of-values .ensures
 
   small : sumOfQuantities (sources s5) ≤ℤ pos mostQuantity
-  small = let h : ltZ (pos mostQuantity) (sumOfQuantities (sources s5)) ≡ false = sum-left (tested (c .before)) in omega zarith
+  small = let h : ltZ (pos mostQuantity) (sumOfQuantities (sources s5)) ≡ false = small-sum (tested (c .before)) in omega zarith
 
   ready : Averageable (sumOfValues (sources s5)) (sumOfQuantities (sources s5))
   ready = sources-averageable (rs s5) (list s5) (s5 .pre .0 .0) (s5 .pre .1 .0 .2) (s5 .pre .1 .1 .0 .1) small (omega (arith, count s5 .0))
@@ -161,77 +216,17 @@ moved-is c = rw (position-is (c .before), residual-is (c .before .before)) at (c
 abbrev start7 : tie.After-sound-position → tie.Start
 start7 c = s6 (c .before .before .before)
 
-sound-answer : (c : tie.After-sound-position) →
+answer-16 : (c : tie.After-sound-position) →
     c .sound-position .result ≡ soundPosition (mergePosition (ps (start7 c)) (account (start7 c)) (series (start7 c)) (sources (start7 c)))
-sound-answer c = rw (moved-is (c .before)) at (c .sound-position .ensures)
+answer-16 c = rw (moved-is (c .before)) at (c .sound-position .ensures)
 
 abbrev else4 : tie.After-sound-position → tie.Else4
 else4 c = c .before .before .before .before .before
 
-abbrev else3 : tie.Else4 → tie.Else3
-else3 c = c .before .before .before
-
--- ---- the needs
-
-sum-of-quantities-requires : tie.Need-sum-of-quantities-requires
-sum-of-quantities-requires c κs = let s : tie.Start = c .before in (s .pre .0 .0, s .pre .0 .2, s .pre .1 .0 .2, count s .1)
-
-returns : tie.Need-returns
-returns c =
-    let s : tie.Start = c .before .before .before in
-    sym
-    (merge-refused-11 (rs s) (ps s) (id s) (account s) (series s) (list s)
-    (s .pre .1 .0 .0) (s .pre .1 .0 .1) (none-missing s) (s .pre .1 .1 .0 .0) (s .pre .1 .1 .0 .1) (s .pre .1 .1 .0 .2) (s .pre .1 .1 .1 .0) (s .pre .1 .1 .1 .1)
-    (rw (sum-is (c .before)) at (c .if1 .taken)))
-
-suffix-above-requires : tie.Need-suffix-above-requires
-suffix-above-requires c κs = (start1 c .pre .0 .0, count (start1 c) .1)
-
-returns-2 : tie.Need-returns-2
-returns-2 c =
-    let s : tie.Start = start1 (c .before .before) in
-    sym
-    (merge-refused-13 (rs s) (ps s) (id s) (account s) (series s) (list s)
-    (s .pre .1 .0 .0) (s .pre .1 .0 .1) (none-missing s) (s .pre .1 .1 .0 .0) (s .pre .1 .1 .0 .1) (s .pre .1 .1 .0 .2) (s .pre .1 .1 .1 .0) (s .pre .1 .1 .1 .1)
-    (sum-left (c .before .before)) (sym (c .before .suffix-above .ensures) ∙ c .if2 .taken))
-
-add-lacks-records-room : tie.Need-add-lacks-records-room
-add-lacks-records-room c = search needs
-
-lacks-records-room-requires : tie.Need-lacks-records-room-requires
-lacks-records-room-requires c κs = (start2 c .pre .0 .0, omega (arith, count (start2 c) .1))
-
-returns-3 : tie.Need-returns-3
-returns-3 c =
-    let e : tie.Else2 = c .before .before in
-    let s : tie.Start = start2 e in
-    sym
-    (merge-refused-14 (rs s) (ps s) (id s) (account s) (series s) (list s)
-    (s .pre .1 .0 .0) (s .pre .1 .0 .1) (none-missing s) (s .pre .1 .1 .0 .0) (s .pre .1 .1 .0 .1) (s .pre .1 .1 .0 .2) (s .pre .1 .1 .1 .0) (s .pre .1 .1 .1 .1)
-    (sum-left (e .before .before)) (suffixes e) (sym (c .before .lacks-records-room .ensures) ∙ c .if3 .taken))
-
-absent-position-requires : tie.Need-absent-position-requires
-absent-position-requires c κs = search needs
-
-lacks-positions-room-requires : tie.Need-lacks-positions-room-requires
-lacks-positions-room-requires c κs =
-    let s : tie.Start = start3 (c .before) in
-    (s .pre .0 .1, omega (arith, absent-is c, absent-at-most-one (ps s) (account s) (series s)))
-
-returns-4 : tie.Need-returns-4
-returns-4 c =
-    let g : tie.Else3 = c .before .before .before in
-    let e : tie.Else2 = g .before .before in
-    let s : tie.Start = start2 e in
-    sym
-    (merge-refused-15 (rs s) (ps s) (id s) (account s) (series s) (list s)
-    (s .pre .1 .0 .0) (s .pre .1 .0 .1) (none-missing s) (s .pre .1 .1 .0 .0) (s .pre .1 .1 .0 .1) (s .pre .1 .1 .0 .2) (s .pre .1 .1 .1 .0) (s .pre .1 .1 .1 .1)
-    (sum-left (e .before .before)) (suffixes e) (records-room g) (sym (room-answer (c .before)) ∙ c .if4 .taken))
-
 sum-of-values-requires : tie.Need-sum-of-values-requires
 sum-of-values-requires c κs =
     let s : tie.Start = start1 (tested c) in
-    let h : ltZ (pos mostQuantity) (sumOfQuantities (sources s)) ≡ false = sum-left (tested c) in
+    let h : ltZ (pos mostQuantity) (sumOfQuantities (sources s)) ≡ false = small-sum (tested c) in
     (s .pre .0 .0, s .pre .0 .2, s .pre .1 .0 .2, count s .1, s .pre .1 .1 .0 .1, omega zarith)
 
 residual-requires : tie.Need-residual-requires
@@ -250,26 +245,10 @@ sound-position-requires : tie.Need-sound-position-requires
 sound-position-requires c κs = search needs
 
 returns-5 : tie.Need-returns-5
-returns-5 c =
-    let f : tie.Else4 = else4 (c .before) in
-    let g : tie.Else3 = else3 f in
-    let e : tie.Else2 = g .before .before in
-    let s : tie.Start = start2 e in
-    sym
-    (merge-refused-16 (rs s) (ps s) (id s) (account s) (series s) (list s)
-    (s .pre .1 .0 .0) (s .pre .1 .0 .1) (none-missing s) (s .pre .1 .1 .0 .0) (s .pre .1 .1 .0 .1) (s .pre .1 .1 .0 .2) (s .pre .1 .1 .1 .0) (s .pre .1 .1 .1 .1)
-    (sum-left (e .before .before)) (suffixes e) (records-room g) (positions-room f) (failed (sound-answer (c .before)) (c .if5 .taken)))
+returns-5 c = stops (at-16 (else4 (c .before))) (ap not (failed (answer-16 (c .before)) (c .if5 .taken)))
 
 returns-6 : tie.Need-returns-6
-returns-6 c =
-    let f : tie.Else4 = else4 (c .before) in
-    let g : tie.Else3 = else3 f in
-    let e : tie.Else2 = g .before .before in
-    let s : tie.Start = start2 e in
-    sym
-    (merge-accepted (rs s) (ps s) (id s) (account s) (series s) (list s)
-    (s .pre .1 .0 .0) (s .pre .1 .0 .1) (none-missing s) (s .pre .1 .1 .0 .0) (s .pre .1 .1 .0 .1) (s .pre .1 .1 .0 .2) (s .pre .1 .1 .1 .0) (s .pre .1 .1 .1 .1)
-    (sum-left (e .before .before)) (suffixes e) (records-room g) (positions-room f) (passed (sound-answer (c .before)) (c .if5 .left)))
+returns-6 c = ends (at-16 (else4 (c .before)) past ap not (passed (answer-16 (c .before)) (c .if5 .left)))
 
 pub verdict-on-sums-spec : {M : Type 1} → statement M
 verdict-on-sums-spec =
