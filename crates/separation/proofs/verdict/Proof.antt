@@ -21,7 +21,7 @@ use Rattle.rules.specs.Rows.{keyOf, recordKey}
 use Rattle.rules.specs.NamedRecord.{theRecord, isElsewhere, isNotAdjustable}
 use Rattle.rules.specs.Refusal.{allOf}
 use Rattle.rules.specs.Separation.{separationFigures}
-use Rattle.rules.specs.Layout.{rowsOf}
+use Rattle.rules.specs.Layout.{rowAt, rowsOf}
 use Rattle.rules.specs.Tables.{recordAt, recordsLayout}
 use Rattle.rules.specs.declared.Record.{Record}
 use Rattle.figures.proofs.Tests.{failed, passed, is-literal, not-literal}
@@ -85,7 +85,7 @@ module _ (c : tie.After-row) where
   search-place = c .before .before
 
   abbrev found-at : Record
-  found-at = recordAt (sought search-place .args .records .now) (1 + c .row .given .0 .0 * 13)
+  found-at = rowAt recordsLayout (sought search-place .args .records .now) (c .row .given .0 .0)
 
   there : (c .row .given .0 .0 < length (rowsOf recordsLayout (sought search-place .args .records .now)))
       × (find recordKey (keyOf (sought search-place .args .id) (sought search-place .args .suffix)) (rowsOf recordsLayout (sought search-place .args .records .now)) ≡ some found-at)
