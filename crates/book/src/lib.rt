@@ -1,11 +1,26 @@
 // The transaction book: the four requests and the one question, each on lent tables of any length and content and with any figures.
 // Each promise is one equation: the answer and the cells of both tables at the end are those of `handle` on the cells at entry and this request.
 use rules::Reply;
+use verdict::Verdict;
 ghost use mathlib.Core.Path.{_≡_};
 ghost use mathlib.Core.List.{[]};
 ghost use Rattle.rules.specs.Request as Request;
 ghost use Rattle.rules.specs.Handle.{handle, answered};
 ghost use Rattle.rules.specs.Tables.{tablesOf};
+ghost use Rattle.verdict.specs.Verdict.{verdictOnTables};
+
+// Tests 1 and 2: accepted where both tables are sound.
+fn verdict_on_tables(records: &[i64], positions: &[i64]) -> Verdict
+    ensures { λ r. ⌜ r ≡ verdictOnTables (now (records .entry)) (now (positions .entry)) ⌝ }
+{
+    if !scan::soundness::records_sound(records) {
+        return Verdict::Refused(1, 0);
+    }
+    if !scan::soundness::positions_sound(positions) {
+        return Verdict::Refused(2, 0);
+    }
+    Verdict::Accepted
+}
 
 pub fn trade(
     records: &mut [i64],
@@ -19,16 +34,19 @@ pub fn trade(
 ) -> Reply
     ensures { λ r. ⌜ answered r (now (records .exit)) (now (positions .exit)) ≡ handle (tablesOf (now (records .entry)) (now (positions .entry))) (Request.trade id account series side quantity price) ⌝ }
 {
-    trade::trade(
-        records,
-        positions,
-        id,
-        account,
-        series,
-        side,
-        quantity,
-        price,
-    )
+    match verdict_on_tables(records, positions) {
+        Verdict::Refused(number, place) => Reply::Refused(number, place),
+        Verdict::Accepted => trade::on_sound(
+            records,
+            positions,
+            id,
+            account,
+            series,
+            side,
+            quantity,
+            price,
+        ),
+    }
 }
 
 pub fn separate(
@@ -42,7 +60,18 @@ pub fn separate(
 ) -> Reply
     ensures { λ r. ⌜ answered r (now (records .exit)) (now (positions .exit)) ≡ handle (tablesOf (now (records .entry)) (now (positions .entry))) (Request.separate id suffix account series (now (parts .entry))) ⌝ }
 {
-    separation::separate(records, positions, id, suffix, account, series, parts)
+    match verdict_on_tables(records, positions) {
+        Verdict::Refused(number, place) => Reply::Refused(number, place),
+        Verdict::Accepted => separation::on_sound(
+            records,
+            positions,
+            id,
+            suffix,
+            account,
+            series,
+            parts,
+        ),
+    }
 }
 
 pub fn transfer(
@@ -56,7 +85,10 @@ pub fn transfer(
 ) -> Reply
     ensures { λ r. ⌜ answered r (now (records .exit)) (now (positions .exit)) ≡ handle (tablesOf (now (records .entry)) (now (positions .entry))) (Request.transfer id suffix from to series) ⌝ }
 {
-    transfer::transfer(records, positions, id, suffix, from, to, series)
+    match verdict_on_tables(records, positions) {
+        Verdict::Refused(number, place) => Reply::Refused(number, place),
+        Verdict::Accepted => transfer::on_sound(records, positions, id, suffix, from, to, series),
+    }
 }
 
 pub fn merge(
@@ -69,7 +101,10 @@ pub fn merge(
 ) -> Reply
     ensures { λ r. ⌜ answered r (now (records .exit)) (now (positions .exit)) ≡ handle (tablesOf (now (records .entry)) (now (positions .entry))) (Request.merge id account series (now (pairs .entry))) ⌝ }
 {
-    merge::call::merge(records, positions, id, account, series, pairs)
+    match verdict_on_tables(records, positions) {
+        Verdict::Refused(number, place) => Reply::Refused(number, place),
+        Verdict::Accepted => merge::call::on_sound(records, positions, id, account, series, pairs),
+    }
 }
 
 pub fn lineage(records: &[i64], id: i64, suffix: i64) -> Reply

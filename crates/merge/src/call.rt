@@ -1,4 +1,4 @@
-// The verdict on a merge, and the public call.
+// The verdict on a merge, and the call that joins it with the booking.
 use super::booking;
 use super::sources;
 use merge_sources::Place;
@@ -21,10 +21,11 @@ ghost use Rattle.rules.specs.NamedRecord.{isElsewhere, isNotAdjustable};
 ghost use Rattle.rules.specs.Refusal.{anyOf};
 ghost use Rattle.rules.specs.Request as Request;
 ghost use Rattle.rules.specs.Layout.{rowsOf};
-ghost use Rattle.rules.specs.Tables.{recordsLayout, soundRecords, soundPositions, tablesOf};
-ghost use Rattle.rules.specs.Handle.{handle, answered};
+ghost use Rattle.rules.specs.Tables.{recordsLayout, soundRecords, soundPositions};
+ghost use Rattle.rules.specs.Handle.{answered};
 ghost use Rattle.rules.specs.Merge.{mergeFigures, pairsOf, closes, sideDiffers, firstOf};
 ghost use Rattle.verdict.specs.Verdict.{verdictOn};
+ghost use Rattle.verdict.specs.HandledSoundly.{HandledSoundly};
 ghost use Rattle.verdict.specs.declared.Verdict.the-variants.{Refused, Accepted};
 ghost use Rattle.merge_sources.specs.Sources.{allFound, sourceRecords};
 ghost use Rattle.merge_sources.specs.Pairs.{repeatsFrom};
@@ -38,7 +39,7 @@ fn refused_at(number: i64, place: usize) -> Verdict
 }
 
 // Tests 3 to 5, which find the row of each source; then those of the sources.
-fn verdict(
+pub fn verdict(
     records: &[i64],
     positions: &[i64],
     id: i64,
@@ -152,7 +153,7 @@ fn verdict_on_sums(
     Verdict::Accepted
 }
 
-pub fn merge(
+pub fn on_sound(
     records: &mut [i64],
     positions: &mut [i64],
     id: i64,
@@ -160,14 +161,9 @@ pub fn merge(
     series: i64,
     pairs: &[i64],
 ) -> Reply
-    ensures { λ r. ⌜ answered r (now (records .exit)) (now (positions .exit)) ≡ handle (tablesOf (now (records .entry)) (now (positions .entry))) (Request.merge id account series (now (pairs .entry))) ⌝ }
+    requires { ⌜ (soundRecords (now records) ≡ true) × (soundPositions (now positions) ≡ true) ⌝ }
+    ensures { λ r. ⌜ HandledSoundly (now (records .entry)) (now (positions .entry)) (Request.merge id account series (now (pairs .entry))) (answered r (now (records .exit)) (now (positions .exit))) ⌝ }
 {
-    if !scan::soundness::records_sound(records) {
-        return Reply::Refused(1, 0);
-    }
-    if !scan::soundness::positions_sound(positions) {
-        return Reply::Refused(2, 0);
-    }
     let mut rows: [u16; 1000] = [0; 1000];
     match verdict(records, positions, id, account, series, pairs, &mut rows) {
         Verdict::Refused(number, place) => Reply::Refused(number, place),

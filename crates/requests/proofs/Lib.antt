@@ -1,1 +1,2 @@
 pub mod PositionRange
+pub mod OnSound

@@ -1,4 +1,4 @@
-// Separation: tests 3, 5 to 7, 11, 13 and 14, the booking, and the public call. The position does not move.
+// Separation on sound tables: tests 3, 5 to 7, 11, 13 and 14, the booking, and the call that joins them. The position does not move.
 use lookup::Found;
 use rules::Record;
 use rules::Reply;
@@ -15,11 +15,12 @@ ghost use Rattle.rules.specs.Figures.{validQuantity};
 ghost use Rattle.rules.specs.Refusal.{allOf};
 ghost use Rattle.rules.specs.Request as Request;
 ghost use Rattle.rules.specs.Layout.{encode, startOf};
-ghost use Rattle.rules.specs.Tables.{recordCells, recordsLayout, soundRecords, soundPositions, tablesOf};
-ghost use Rattle.rules.specs.Handle.{handle, answered};
+ghost use Rattle.rules.specs.Tables.{recordCells, recordsLayout, soundRecords, soundPositions};
+ghost use Rattle.rules.specs.Handle.{answered};
 ghost use Rattle.rules.specs.Separation.{sumOf, separationFigures, partRecords};
 ghost use Rattle.shifter.specs.Insertion.{filled};
 ghost use Rattle.verdict.specs.Verdict.{verdictOn, acceptedOn};
+ghost use Rattle.verdict.specs.HandledSoundly.{HandledSoundly};
 ghost use Rattle.verdict.specs.declared.Verdict.the-variants.{Accepted};
 
 fn parts_valid(parts: &[i64]) -> bool
@@ -35,7 +36,7 @@ fn parts_valid(parts: &[i64]) -> bool
     true
 }
 
-fn figures_valid(id: i64, suffix: i64, account: i64, series: i64, parts: &[i64]) -> bool
+pub fn figures_valid(id: i64, suffix: i64, account: i64, series: i64, parts: &[i64]) -> bool
     ensures { λ r. ⌜ r ≡ separationFigures id suffix account series (now (parts .entry)) ⌝ }
 {
     if !figures::valid_id(id) {
@@ -72,7 +73,7 @@ fn sum_of(parts: &[i64]) -> i64
     sum
 }
 
-fn verdict(
+pub fn verdict(
     records: &[i64],
     positions: &[i64],
     id: i64,
@@ -130,7 +131,7 @@ fn write_parts(records: &mut [i64], place: usize, r: Record, first: i64, parts: 
     }
 }
 
-fn book(
+pub fn book(
     records: &mut [i64],
     positions: &[i64],
     id: i64,
@@ -159,7 +160,7 @@ fn book(
     Reply::Booked { rows, residual: 0 }
 }
 
-pub fn separate(
+pub fn on_sound(
     records: &mut [i64],
     positions: &mut [i64],
     id: i64,
@@ -168,14 +169,9 @@ pub fn separate(
     series: i64,
     parts: &[i64],
 ) -> Reply
-    ensures { λ r. ⌜ answered r (now (records .exit)) (now (positions .exit)) ≡ handle (tablesOf (now (records .entry)) (now (positions .entry))) (Request.separate id suffix account series (now (parts .entry))) ⌝ }
+    requires { ⌜ (soundRecords (now records) ≡ true) × (soundPositions (now positions) ≡ true) ⌝ }
+    ensures { λ r. ⌜ HandledSoundly (now (records .entry)) (now (positions .entry)) (Request.separate id suffix account series (now (parts .entry))) (answered r (now (records .exit)) (now (positions .exit))) ⌝ }
 {
-    if !scan::soundness::records_sound(records) {
-        return Reply::Refused(1, 0);
-    }
-    if !scan::soundness::positions_sound(positions) {
-        return Reply::Refused(2, 0);
-    }
     match verdict(records, positions, id, suffix, account, series, parts) {
         Verdict::Refused(number, place) => Reply::Refused(number, place),
         Verdict::Accepted => book(records, positions, id, suffix, account, series, parts),

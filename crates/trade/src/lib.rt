@@ -1,4 +1,4 @@
-// Trade: tests 3, 4 and 14 to 16, the booking, and the public call.
+// Trade on sound tables: tests 3, 4 and 14 to 16, the booking, and the call that joins them.
 use rules::Position;
 use rules::Reply;
 use rules::codes::CLOSING_ERROR;
@@ -11,11 +11,12 @@ ghost use mathlib.Core.Bool.{true};
 ghost use Rattle.rules.specs.Figures.{validQuantity};
 ghost use Rattle.rules.specs.Rows.{soundPosition};
 ghost use Rattle.rules.specs.Request as Request;
-ghost use Rattle.rules.specs.Tables.{soundRecords, soundPositions, tablesOf};
-ghost use Rattle.rules.specs.Handle.{handle, answered};
+ghost use Rattle.rules.specs.Tables.{soundRecords, soundPositions};
+ghost use Rattle.rules.specs.Handle.{answered};
 ghost use Rattle.rules.specs.Trade as Trade;
 ghost use Rattle.rules.specs.Trade.{tradeFigures};
 ghost use Rattle.verdict.specs.Verdict.{verdictOn, acceptedOn};
+ghost use Rattle.verdict.specs.HandledSoundly.{HandledSoundly};
 ghost use Rattle.verdict.specs.declared.Verdict.the-variants.{Accepted};
 ghost use Rattle.trade.specs.Booking.{bookingOf, positionAfter};
 
@@ -27,7 +28,14 @@ pub struct Booking {
     pub error: bool,
 }
 
-fn figures_valid(id: i64, account: i64, series: i64, side: i64, quantity: i64, price: i64) -> bool
+pub fn figures_valid(
+    id: i64,
+    account: i64,
+    series: i64,
+    side: i64,
+    quantity: i64,
+    price: i64,
+) -> bool
     ensures { λ r. ⌜ r ≡ tradeFigures id account series side quantity price ⌝ }
 {
     if !figures::valid_id(id) {
@@ -100,7 +108,7 @@ fn position_after(cells: &[i64], account: i64, series: i64, side: i64, quantity:
     requests::moved(p, b.long, b.short, 0)
 }
 
-fn verdict(
+pub fn verdict(
     records: &[i64],
     positions: &[i64],
     id: i64,
@@ -133,7 +141,7 @@ fn verdict(
     Verdict::Accepted
 }
 
-fn book(
+pub fn book(
     records: &mut [i64],
     positions: &mut [i64],
     id: i64,
@@ -178,7 +186,7 @@ fn book(
     }
 }
 
-pub fn trade(
+pub fn on_sound(
     records: &mut [i64],
     positions: &mut [i64],
     id: i64,
@@ -188,14 +196,9 @@ pub fn trade(
     quantity: i64,
     price: i64,
 ) -> Reply
-    ensures { λ r. ⌜ answered r (now (records .exit)) (now (positions .exit)) ≡ handle (tablesOf (now (records .entry)) (now (positions .entry))) (Request.trade id account series side quantity price) ⌝ }
+    requires { ⌜ (soundRecords (now records) ≡ true) × (soundPositions (now positions) ≡ true) ⌝ }
+    ensures { λ r. ⌜ HandledSoundly (now (records .entry)) (now (positions .entry)) (Request.trade id account series side quantity price) (answered r (now (records .exit)) (now (positions .exit))) ⌝ }
 {
-    if !scan::soundness::records_sound(records) {
-        return Reply::Refused(1, 0);
-    }
-    if !scan::soundness::positions_sound(positions) {
-        return Reply::Refused(2, 0);
-    }
     match verdict(
         records,
         positions,

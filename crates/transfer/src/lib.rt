@@ -1,4 +1,4 @@
-// Account transfer: tests 3, 5 to 8 and 12 to 16, the booking, and the public call.
+// Account transfer on sound tables: tests 3, 5 to 8 and 12 to 16, the booking, and the call that joins them.
 use lookup::Found;
 use rules::Position;
 use rules::Record;
@@ -16,13 +16,14 @@ ghost use Rattle.rules.specs.Rows.{keyOf, recordKey, soundPosition, moved, inve
 ghost use Rattle.rules.specs.NamedRecord.{isElsewhere, isNotAdjustable};
 ghost use Rattle.rules.specs.Layout.{rowsOf};
 ghost use Rattle.rules.specs.Request as Request;
-ghost use Rattle.rules.specs.Tables.{recordsLayout, soundRecords, soundPositions, tablesOf};
-ghost use Rattle.rules.specs.Handle.{handle, answered};
+ghost use Rattle.rules.specs.Tables.{recordsLayout, soundRecords, soundPositions};
+ghost use Rattle.rules.specs.Handle.{answered};
 ghost use Rattle.rules.specs.Transfer.{transferFigures, inLong, inShort, holdsTooLittle};
 ghost use Rattle.verdict.specs.Verdict.{verdictOn, acceptedOn};
+ghost use Rattle.verdict.specs.HandledSoundly.{HandledSoundly};
 ghost use Rattle.verdict.specs.declared.Verdict.the-variants.{Accepted};
 
-fn figures_valid(id: i64, suffix: i64, from: i64, to: i64, series: i64) -> bool
+pub fn figures_valid(id: i64, suffix: i64, from: i64, to: i64, series: i64) -> bool
     ensures { λ r. ⌜ r ≡ transferFigures id suffix from to series ⌝ }
 {
     if !figures::valid_id(id) {
@@ -112,7 +113,7 @@ fn arrived_row(r: Record, suffix: i64, to: i64) -> Record
     )
 }
 
-fn verdict(
+pub fn verdict(
     records: &[i64],
     positions: &[i64],
     id: i64,
@@ -183,7 +184,7 @@ fn verdict_on_record(
     Verdict::Accepted
 }
 
-fn book(
+pub fn book(
     records: &mut [i64],
     positions: &mut [i64],
     id: i64,
@@ -214,7 +215,7 @@ fn book(
     }
 }
 
-pub fn transfer(
+pub fn on_sound(
     records: &mut [i64],
     positions: &mut [i64],
     id: i64,
@@ -223,14 +224,9 @@ pub fn transfer(
     to: i64,
     series: i64,
 ) -> Reply
-    ensures { λ r. ⌜ answered r (now (records .exit)) (now (positions .exit)) ≡ handle (tablesOf (now (records .entry)) (now (positions .entry))) (Request.transfer id suffix from to series) ⌝ }
+    requires { ⌜ (soundRecords (now records) ≡ true) × (soundPositions (now positions) ≡ true) ⌝ }
+    ensures { λ r. ⌜ HandledSoundly (now (records .entry)) (now (positions .entry)) (Request.transfer id suffix from to series) (answered r (now (records .exit)) (now (positions .exit))) ⌝ }
 {
-    if !scan::soundness::records_sound(records) {
-        return Reply::Refused(1, 0);
-    }
-    if !scan::soundness::positions_sound(positions) {
-        return Reply::Refused(2, 0);
-    }
     match verdict(records, positions, id, suffix, from, to, series) {
         Verdict::Refused(number, place) => Reply::Refused(number, place),
         Verdict::Accepted => book(records, positions, id, suffix, from, to, series),

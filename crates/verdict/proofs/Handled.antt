@@ -1,15 +1,15 @@
--- What a request is answered, by the two soundness tests and the verdict: refused 1 or 2 on a table that isn't sound, and on sound tables the verdict's refusal
+-- What a request is answered, by the verdicts: on tables that aren't sound the refusal of tests 1 and 2, and on sound tables that of the tests from 3 on,
 -- or the booking. Once for any plan; a request is an instance. By the definitions. Assumes nothing.
 use Prim.Native.Nat.{ℕ}
 use native.Mathlib.Omega.{arith}
-use mathlib.Core.Path.{_≡_, refl, _∙_, ap}
-use mathlib.Core.Bool.{true, false}
-use mathlib.Core.List.{List}
+use mathlib.Core.Path.{_≡_, refl, sym, _∙_, ap}
+use mathlib.Core.Bool.{Bool, true, false, cond, not}
+use mathlib.Core.List.{List, [], _∷_, _++_}
 use mathlib.Core.Option.{Option, none, some}
 use lib.IntN.{ℤ, pos}
 use Rattle.rules.specs.Refusal.{Test, test, firstRefusal}
 use Rattle.rules.specs.Reply.{refusedBy}
-use Rattle.rules.specs.Request.{Request, trade, separate, transfer, merge}
+use Rattle.rules.specs.Request.{Request, trade, separate, transfer, merge, lineage}
 use Rattle.rules.specs.Plan.{Effects, Plan, booking, question, planTests, planReply}
 use Rattle.rules.specs.Trade.{tradePlan}
 use Rattle.rules.specs.Separation.{separationPlan}
@@ -19,9 +19,30 @@ use Rattle.rules.specs.Tables.{booksOf, soundRecords, soundPositions, tablesOf}
 use Rattle.rules.specs.Handle.{Answer, answer, handle, planOf, planTables, refusals, soundnessTests, answered}
 use Rattle.rules.specs.declared.Reply.{Reply}
 use Rattle.rules.specs.declared.Reply.the-variants as Reply
-use Rattle.verdict.specs.Verdict.{planFor, verdictOf, verdictOn, acceptedOn}
+use Rattle.keys.proofs.Split.{clash}
+use Rattle.verdict.specs.Verdict.{planFor, verdictOf, verdictOnTables, isBooking, verdictOn, acceptedOn}
 use Rattle.verdict.specs.declared.Verdict.{Verdict}
 use Rattle.verdict.specs.declared.Verdict.the-variants as Verdict
+
+-- Tests that refuse do so before any others.
+refused-before : (tests others : List Test) (n p : ℤ) → verdictOf (firstRefusal tests) ≡ Verdict.Refused n p → verdictOf (firstRefusal (tests ++ others)) ≡ Verdict.Refused n p
+unfolding firstRefusal verdictOf
+refused-before [] others n p h = let z : _≡_ {A = ℕ} 0 1 = cc in absurd (omega arith)
+refused-before (t ∷ tests) others n p h = go (t .applies) (refused-before tests others n p) h
+  where
+    go : (b : Bool)
+        → (verdictOf (firstRefusal tests) ≡ Verdict.Refused n p → verdictOf (firstRefusal (tests ++ others)) ≡ Verdict.Refused n p)
+        → verdictOf (cond b (some t) (firstRefusal tests)) ≡ Verdict.Refused n p
+        → verdictOf (cond b (some t) (firstRefusal (tests ++ others))) ≡ Verdict.Refused n p
+    go true later k = k
+    go false later k = later k
+
+-- Two tests that accept both hold.
+both-hold : (a b : Bool) (n m : ℕ) → verdictOf (firstRefusal (test n (not a) ∷ test m (not b) ∷ [])) ≡ Verdict.Accepted → (a ≡ true) × (b ≡ true)
+unfolding firstRefusal test verdictOf
+both-hold true true n m h = (refl, refl)
+both-hold true false n m h = let z : _≡_ {A = ℕ} 0 1 = cc in absurd (omega arith)
+both-hold false b n m h = let z : _≡_ {A = ℕ} 0 1 = cc in absurd (omega arith)
 
 module _ (rs ps : List ℤ) where
   -- What a plan comes to where none of its refusals applies, and the answer to it.
@@ -41,11 +62,6 @@ module _ (rs ps : List ℤ) where
   unfolding refusals soundnessTests firstRefusal test answer refusedBy
   plan-unsound-records (booking tests e) h = rw h
   plan-unsound-records (question tests reply) h = rw h
-
-  plan-unsound-positions : (tests : List Test) (e : Effects) → soundRecords rs ≡ true → soundPositions ps ≡ false
-      → answerTo (booking tests e) ≡ answered (Reply.Refused (pos 2) (pos 0)) rs ps
-  unfolding refusals soundnessTests firstRefusal test answer refusedBy
-  plan-unsound-positions tests e h k = rw (h, k)
 
   plan-sound : (plan : Plan) → soundRecords rs ≡ true → soundPositions ps ≡ true
       → answerTo plan ≡ answer (firstRefusal (planTests (booksOf (tablesOf rs ps)) plan)) (tablesOf rs ps) (done plan)
@@ -72,31 +88,28 @@ module _ (rs ps : List ℤ) where
   pub unsound-records : (r : Request) → soundRecords rs ≡ false → handle (tablesOf rs ps) r ≡ answered (Reply.Refused (pos 1) (pos 0)) rs ps
   unsound-records r h = handle-plan r ∙ plan-unsound-records (planFor rs ps r) h
 
-  -- Of a request that books.
-  pub unsound-positions : (r : Request) (tests : List Test) (e : Effects) → planFor rs ps r ≡ booking tests e
-      → soundRecords rs ≡ true → soundPositions ps ≡ false → handle (tablesOf rs ps) r ≡ answered (Reply.Refused (pos 2) (pos 0)) rs ps
-  unsound-positions r tests e q h k = handle-plan r ∙ ap answerTo q ∙ plan-unsound-positions tests e h k
+  -- Of a request that books, by the code's verdict `v` on the tables: what tests 1 and 2 refuse, and what they accept.
+  module _ {v : Verdict} (judged : v ≡ verdictOnTables rs ps) where
+    unsound-booking : (r : Request) (tests : List Test) (e : Effects) → planFor rs ps r ≡ booking tests e
+        → (n p : ℤ) → v ≡ Verdict.Refused n p → answered (Reply.Refused n p) rs ps ≡ handle (tablesOf rs ps) r
+    unfolding verdictOnTables refusals soundnessTests
+    unsound-booking r tests e q n p refused =
+        sym
+        (handle-plan r
+        ∙ ap answerTo q
+        ∙ refused-as _ (done (booking tests e)) n p (refused-before _ (planTests (booksOf (tablesOf rs ps)) (booking tests e)) n p (sym judged ∙ refused)))
 
-  module _ (h : soundRecords rs ≡ true) (k : soundPositions ps ≡ false) where
-    pub trade-unsound-positions : (id account series side quantity price : ℤ)
-        → handle (tablesOf rs ps) (trade id account series side quantity price) ≡ answered (Reply.Refused (pos 2) (pos 0)) rs ps
-    unfolding planOf tradePlan
-    trade-unsound-positions id account series side quantity price = unsound-positions (trade id account series side quantity price) _ _ refl h k
+    pub unsound-refused : (r : Request) → isBooking r ≡ true → (n p : ℤ) → v ≡ Verdict.Refused n p → answered (Reply.Refused n p) rs ps ≡ handle (tablesOf rs ps) r
+    unfolding planOf tradePlan separationPlan transferPlan mergePlan
+    unsound-refused (trade id account series side quantity price) b = unsound-booking (trade id account series side quantity price) _ _ refl
+    unsound-refused (separate id suffix account series parts) b = unsound-booking (separate id suffix account series parts) _ _ refl
+    unsound-refused (transfer id suffix from to series) b = unsound-booking (transfer id suffix from to series) _ _ refl
+    unsound-refused (merge id account series pairs) b = unsound-booking (merge id account series pairs) _ _ refl
+    unsound-refused (lineage id suffix) b = clash b refl
 
-    pub separation-unsound-positions : (id suffix account series : ℤ) (parts : List ℤ)
-        → handle (tablesOf rs ps) (separate id suffix account series parts) ≡ answered (Reply.Refused (pos 2) (pos 0)) rs ps
-    unfolding planOf separationPlan
-    separation-unsound-positions id suffix account series parts = unsound-positions (separate id suffix account series parts) _ _ refl h k
-
-    pub transfer-unsound-positions : (id suffix from to series : ℤ)
-        → handle (tablesOf rs ps) (transfer id suffix from to series) ≡ answered (Reply.Refused (pos 2) (pos 0)) rs ps
-    unfolding planOf transferPlan
-    transfer-unsound-positions id suffix from to series = unsound-positions (transfer id suffix from to series) _ _ refl h k
-
-    pub merge-unsound-positions : (id account series : ℤ) (pairs : List ℤ)
-        → handle (tablesOf rs ps) (merge id account series pairs) ≡ answered (Reply.Refused (pos 2) (pos 0)) rs ps
-    unfolding planOf mergePlan
-    merge-unsound-positions id account series pairs = unsound-positions (merge id account series pairs) _ _ refl h k
+    pub sound-accepted : v ≡ Verdict.Accepted → (soundRecords rs ≡ true) × (soundPositions ps ≡ true)
+    unfolding verdictOnTables
+    sound-accepted accepted = both-hold _ _ 1 2 (sym judged ∙ accepted)
 
   module _ (r : Request) (h : soundRecords rs ≡ true) (k : soundPositions ps ≡ true) where
     pub handled-refused : (n p : ℤ) → verdictOn rs ps r ≡ Verdict.Refused n p → handle (tablesOf rs ps) r ≡ answered (Reply.Refused n p) rs ps

@@ -1,17 +1,17 @@
 -- The verdict on a request, as the code gives it: accepted, or the first refusal with its number and place.
 use Prim.Native.Nat.{ℕ}
-use mathlib.Core.Bool.{cond}
-use mathlib.Core.List.{List}
+use mathlib.Core.Bool.{Bool, true, false, cond, not}
+use mathlib.Core.List.{List, [], _∷_}
 use mathlib.Core.Option.{Option, none, some}
 use lib.IntN.{ℤ, pos}
 use Rattle.rules.specs.Keyed.{find, isSome}
 use Rattle.rules.specs.Rows.{keyOf, positionKey}
-use Rattle.rules.specs.Refusal.{Test, firstRefusal}
-use Rattle.rules.specs.Request.{Request}
+use Rattle.rules.specs.Refusal.{Test, test, firstRefusal}
+use Rattle.rules.specs.Request.{Request, trade, separate, transfer, merge, lineage}
 use Rattle.rules.specs.Books.{viewOf}
 use Rattle.rules.specs.Plan.{Plan, planTests, planReply}
 use Rattle.rules.specs.Layout.{rowsOf}
-use Rattle.rules.specs.Tables.{tablesOf, booksOf, positionsLayout}
+use Rattle.rules.specs.Tables.{tablesOf, booksOf, positionsLayout, soundRecords, soundPositions}
 use Rattle.rules.specs.Handle.{Answer, planOf, planTables}
 use Rattle.verdict.specs.declared.Verdict.{Verdict}
 use Rattle.verdict.specs.declared.Verdict.the-variants.{Accepted, Refused}
@@ -22,6 +22,18 @@ planFor records positions r = planOf (viewOf (booksOf (tablesOf records position
 unfoldable pub verdictOf : Option Test → Verdict
 verdictOf none = Accepted
 verdictOf (some t) = Refused (pos (t .number)) (pos (t .place))
+
+-- Refusals 1 and 2, of a request that books: accepted where both tables are sound.
+unfoldable pub verdictOnTables : List ℤ → List ℤ → Verdict
+verdictOnTables records positions = verdictOf (firstRefusal (test 1 (not (soundRecords records)) ∷ test 2 (not (soundPositions positions)) ∷ []))
+
+-- A request that is no question.
+abbrev pub isBooking : Request → Bool
+isBooking (trade id account series side quantity price) = true
+isBooking (separate id suffix account series parts) = true
+isBooking (transfer id suffix from to series) = true
+isBooking (merge id account series pairs) = true
+isBooking (lineage id suffix) = false
 
 -- Refusals 3 to 16, on sound tables.
 unfoldable pub verdictOn : List ℤ → List ℤ → Request → Verdict
