@@ -1,4 +1,13 @@
 // The ranges of document 01, "Figures and their ranges", and of the rows' cells.
+use rules::codes::ADJUSTABLE;
+use rules::codes::CLOSING_ERROR;
+use rules::codes::GREATEST_SUFFIX;
+use rules::codes::INVERSE;
+use rules::codes::MERGE;
+use rules::codes::MOST_QUANTITY;
+use rules::codes::ORIGINAL;
+use rules::codes::SEPARATION;
+use rules::codes::TRANSFER;
 ghost use mathlib.Core.Path.{_≡_};
 ghost use Rattle.integers.specs.Order.{inRange};
 ghost use Rattle.rules.specs.Figures.{validId, validSuffix, validAccount, validSeries, validQuantity, validPrice, validSide, isBuy, isToClose};
@@ -22,7 +31,7 @@ pub fn valid_id(z: i64) -> bool
 pub fn valid_suffix(z: i64) -> bool
     ensures { λ r. ⌜ r ≡ validSuffix z ⌝ }
 {
-    in_range(0, 65_535, z)
+    in_range(0, GREATEST_SUFFIX, z)
 }
 
 pub fn valid_account(z: i64) -> bool
@@ -40,7 +49,7 @@ pub fn valid_series(z: i64) -> bool
 pub fn valid_quantity(z: i64) -> bool
     ensures { λ r. ⌜ r ≡ validQuantity z ⌝ }
 {
-    in_range(1, 1_000_000, z)
+    in_range(1, MOST_QUANTITY, z)
 }
 
 pub fn valid_price(z: i64) -> bool
@@ -76,25 +85,25 @@ pub fn is_to_close(side: i64) -> bool
 pub fn valid_kind(z: i64) -> bool
     ensures { λ r. ⌜ r ≡ validKind z ⌝ }
 {
-    if z == 0 {
+    if z == ORIGINAL {
         return true;
     }
-    if z == 4 {
+    if z == TRANSFER {
         return true;
     }
-    if z == 6 {
+    if z == SEPARATION {
         return true;
     }
-    if z == 10 {
+    if z == CLOSING_ERROR {
         return true;
     }
-    z == 901
+    z == MERGE
 }
 
 pub fn valid_status(z: i64) -> bool
     ensures { λ r. ⌜ r ≡ validStatus z ⌝ }
 {
-    in_range(0, 2, z)
+    in_range(ADJUSTABLE, INVERSE, z)
 }
 
 // Not zero, at most 1,000,000 in magnitude, and negative exactly in an inverse.
@@ -108,9 +117,9 @@ pub fn valid_signed_quantity(status: i64, q: i64) -> bool
         return false;
     }
     if q < 0 {
-        return status == 2;
+        return status == INVERSE;
     }
-    status != 2
+    status != INVERSE
 }
 
 pub fn valid_booked(z: i64) -> bool

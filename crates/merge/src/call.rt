@@ -4,6 +4,7 @@ use super::sources;
 use merge_sources::Place;
 use merge_sources::pairs;
 use rules::Reply;
+use rules::codes::MOST_QUANTITY;
 use tables::positions;
 use tables::records;
 use verdict::Verdict;
@@ -131,7 +132,7 @@ fn verdict_on_sums(
     ensures { λ r. ⌜ r ≡ verdictOn (now (records .entry)) (now (positions .entry)) (Request.merge id account series (now (pairs .entry))) ⌝ }
 {
     let quantity = sources::sum_of_quantities(records, pairs, rows);
-    if 1_000_000 < quantity {
+    if MOST_QUANTITY < quantity {
         return Verdict::Refused(11, 0);
     }
     if sources::suffix_above(records, pairs) {

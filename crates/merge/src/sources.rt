@@ -3,6 +3,8 @@ use lookup::Found;
 use merge_sources::Place;
 use merge_sources::pairs;
 use rules::Record;
+use rules::codes::ADJUSTABLE;
+use rules::codes::GREATEST_SUFFIX;
 use tables::records;
 ghost use mathlib.Core.Path.{_≡_};
 ghost use mathlib.Core.Bool.{true, false};
@@ -59,7 +61,7 @@ fn source_fails(number: i64, account: i64, series: i64, buy: bool, r: Record) ->
         return requests::is_elsewhere(r, account, series);
     }
     if number == 7 {
-        return r.status != 0;
+        return r.status != ADJUSTABLE;
     }
     if number == 8 {
         return figures::is_to_close(r.side);
@@ -140,7 +142,9 @@ pub fn suffix_above(records: &[i64], pairs: &[i64]) -> bool
     let count = pairs.len() / 2;
     let mut i = 0;
     while i < count {
-        if 65_535 < requests::next_suffix(records, pairs[2 * i]) + pairs::times_earlier(pairs, i) {
+        if GREATEST_SUFFIX
+            < requests::next_suffix(records, pairs[2 * i]) + pairs::times_earlier(pairs, i)
+        {
             return true;
         }
         i += 1;

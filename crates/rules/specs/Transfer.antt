@@ -9,7 +9,7 @@ use Rattle.rules.specs.Figures.{validId, validSuffix, validAccount, vali
 use Rattle.rules.specs.Keyed.{isSome}
 use Rattle.rules.specs.Rows.{adjustedRecord, inverseRecord, adjustableRecord, moved}
 use Rattle.rules.specs.Refusal.{test}
-use Rattle.rules.specs.Plan.{Plan, booking}
+use Rattle.rules.specs.Plan.{Effects, Plan, booking}
 use Rattle.rules.specs.NamedRecord.{theRecord, nextSuffix, isElsewhere, isNotAdjustable}
 use Rattle.rules.specs.declared.Record.{Record}
 use Rattle.rules.specs.declared.Position.{Position}
@@ -31,12 +31,28 @@ inShort side amount = cond (isBuy side) (pos 0) amount
 unfoldable pub holdsTooLittle : Record → Position → Bool
 holdsTooLittle r p = ltZ (cond (isBuy (r .side)) (p .long) (p .short)) (r .quantity)
 
--- `found` is the named record, `greatest` the greatest suffix of its id, `old` and `new` the positions of the two accounts.
+-- "It becomes status 1; an inverse row in the old account and an adjustable row in the new follow", of these types, with both positions moved. `next` is the id's next suffix,
+-- `old` and `new` are the positions of the two accounts.
+abbrev pub transferEffects : (inverseKind newKind : ℤ) → Record → (next to : ℤ) → (old new : Position) → Effects
+transferEffects inverseKind newKind r next to old new =
+    let q : ℤ = r .quantity in
+    record {
+      changed = adjustedRecord r ∷ [];
+      added =
+          inverseRecord r next inverseKind (inLong (r .side) (negℤ q)) (inShort (r .side) (negℤ q)) (pos 0)
+          ∷ adjustableRecord r (next +ℤ pos 1) newKind to q (inLong (r .side) q) (inShort (r .side) q)
+          ∷ [];
+      positions =
+          moved old (inLong (r .side) (negℤ q)) (inShort (r .side) (negℤ q)) (pos 0)
+          ∷ moved new (inLong (r .side) q) (inShort (r .side) q) (pos 0)
+          ∷ [];
+      reply = Booked (pos 2) (pos 0);
+    }
+
+-- `found` is the named record, `greatest` the greatest suffix of its id, `old` and `new` the positions of the two accounts. "type 4"
 unfoldable pub transferPlan : (id suffix from to series : ℤ) → Option Record → Option ℤ → Position → Position → Plan
 transferPlan id suffix from to series found greatest old new =
     let r : Record = theRecord found in
-    let next : ℤ = nextSuffix greatest in
-    let q : ℤ = r .quantity in
     booking
     (test 3 (not (transferFigures id suffix from to series))
     ∷ test 5 (not (isSome found))
@@ -45,15 +61,4 @@ transferPlan id suffix from to series found greatest old new =
     ∷ test 8 (isToClose (r .side))
     ∷ test 12 (holdsTooLittle r old)
     ∷ [])
-    (record {
-      changed = adjustedRecord r ∷ [];
-      added =
-          inverseRecord r next transferKind (inLong (r .side) (negℤ q)) (inShort (r .side) (negℤ q)) (pos 0)
-          ∷ adjustableRecord r (next +ℤ pos 1) transferKind to q (inLong (r .side) q) (inShort (r .side) q)
-          ∷ [];
-      positions =
-          moved old (inLong (r .side) (negℤ q)) (inShort (r .side) (negℤ q)) (pos 0)
-          ∷ moved new (inLong (r .side) q) (inShort (r .side) q) (pos 0)
-          ∷ [];
-      reply = Booked (pos 2) (pos 0);
-    })
+    (transferEffects transferKind transferKind r (nextSuffix greatest) to old new)

@@ -2,6 +2,9 @@
 use lookup::Found;
 use rules::Record;
 use rules::Reply;
+use rules::codes::ADJUSTABLE;
+use rules::codes::GREATEST_SUFFIX;
+use rules::codes::SEPARATION;
 use tables::records;
 use verdict::Verdict;
 ghost use mathlib.Core.Path.{_≡_};
@@ -95,14 +98,14 @@ pub fn verdict(
     if requests::is_elsewhere(r, account, series) {
         return Verdict::Refused(6, 0);
     }
-    if r.status != 0 {
+    if r.status != ADJUSTABLE {
         return Verdict::Refused(7, 0);
     }
     if sum_of(parts) != r.quantity {
         return Verdict::Refused(11, 0);
     }
     let last = requests::next_suffix(records, id) + parts.len() as i64;
-    if 65_535 < last {
+    if GREATEST_SUFFIX < last {
         return Verdict::Refused(13, 0);
     }
     if requests::lacks_records_room(records, parts.len() + 1) {
@@ -124,7 +127,7 @@ fn write_parts(records: &mut [i64], place: usize, r: Record, first: i64, parts: 
         records::write_record(
             &mut *records,
             place + at,
-            requests::adjustable_record(r, suffix, 6, account, quantity, 0, 0),
+            requests::adjustable_record(r, suffix, SEPARATION, account, quantity, 0, 0),
         );
         suffix += 1;
         at += 1;
@@ -153,7 +156,7 @@ pub fn book(
     records::write_record(
         &mut *records,
         place,
-        requests::inverse_record(r, next, 6, 0, 0, 0),
+        requests::inverse_record(r, next, SEPARATION, 0, 0, 0),
     );
     write_parts(records, place + 1, r, next + 1, parts);
     let rows = parts.len() as i64 + 1;

@@ -3,6 +3,9 @@ use lookup::Found;
 use rules::Position;
 use rules::Record;
 use rules::Reply;
+use rules::codes::ADJUSTABLE;
+use rules::codes::GREATEST_SUFFIX;
+use rules::codes::TRANSFER;
 use tables::positions;
 use tables::records;
 use verdict::Verdict;
@@ -10,7 +13,7 @@ ghost use mathlib.Core.Path.{_≡_};
 ghost use mathlib.Core.Bool.{true, false};
 ghost use mathlib.Core.Option.{some};
 ghost use lib.IntN.{pos, negℤ};
-ghost use Rattle.rules.specs.Figures.{magnitudeAtMost, isToClose, transferKind};
+ghost use Rattle.rules.specs.Figures.{magnitudeAtMost, isToClose};
 ghost use Rattle.rules.specs.Keyed.{find};
 ghost use Rattle.rules.specs.Rows.{keyOf, recordKey, soundPosition, moved, inverseRecord, adjustableRecord};
 ghost use Rattle.rules.specs.NamedRecord.{isElsewhere, isNotAdjustable};
@@ -90,22 +93,22 @@ fn given_to(p: Position, r: Record) -> Position
     shifted(p, r.side, r.quantity)
 }
 
-// The inverse row in the old account, and the row that arrives in the new one.
-fn inverse_row(r: Record, next: i64) -> Record
+// The inverse row in the old account, and the row that arrives in the new one, each of a type.
+pub fn inverse_row(r: Record, next: i64, kind: i64) -> Record
     requires { ⌜ magnitudeAtMost 1000000 (r .quantity) ≡ true ⌝ }
-    ensures { λ s. ⌜ s ≡ inverseRecord r next transferKind (inLong (r .side) (negℤ (r .quantity))) (inShort (r .side) (negℤ (r .quantity))) (pos 0) ⌝ }
+    ensures { λ s. ⌜ s ≡ inverseRecord r next kind (inLong (r .side) (negℤ (r .quantity))) (inShort (r .side) (negℤ (r .quantity))) (pos 0) ⌝ }
 {
     let q = -r.quantity;
-    requests::inverse_record(r, next, 4, in_long(r.side, q), in_short(r.side, q), 0)
+    requests::inverse_record(r, next, kind, in_long(r.side, q), in_short(r.side, q), 0)
 }
 
-fn arrived_row(r: Record, suffix: i64, to: i64) -> Record
-    ensures { λ s. ⌜ s ≡ adjustableRecord r suffix transferKind to (r .quantity) (inLong (r .side) (r .quantity)) (inShort (r .side) (r .quantity)) ⌝ }
+pub fn arrived_row(r: Record, suffix: i64, to: i64, kind: i64) -> Record
+    ensures { λ s. ⌜ s ≡ adjustableRecord r suffix kind to (r .quantity) (inLong (r .side) (r .quantity)) (inShort (r .side) (r .quantity)) ⌝ }
 {
     requests::adjustable_record(
         r,
         suffix,
-        4,
+        kind,
         to,
         r.quantity,
         in_long(r.side, r.quantity),
@@ -135,7 +138,7 @@ pub fn verdict(
     if requests::is_elsewhere(r, from, series) {
         return Verdict::Refused(6, 0);
     }
-    if r.status != 0 {
+    if r.status != ADJUSTABLE {
         return Verdict::Refused(7, 0);
     }
     if figures::is_to_close(r.side) {
@@ -163,7 +166,7 @@ fn verdict_on_record(
     if holds_too_little(r, old) {
         return Verdict::Refused(12, 0);
     }
-    if 65_535 < requests::next_suffix(records, id) + 1 {
+    if GREATEST_SUFFIX < requests::next_suffix(records, id) + 1 {
         return Verdict::Refused(13, 0);
     }
     if requests::lacks_records_room(records, 2) {
@@ -205,8 +208,8 @@ pub fn book(
     let new = positions::position_of(positions, to, series);
     records::adjust_record(&mut *records, row);
     let place = records::open_rows(&mut *records, id, next, 2);
-    records::write_record(&mut *records, place, inverse_row(r, next));
-    records::write_record(records, place + 1, arrived_row(r, next + 1, to));
+    records::write_record(&mut *records, place, inverse_row(r, next, TRANSFER));
+    records::write_record(records, place + 1, arrived_row(r, next + 1, to, TRANSFER));
     positions::put_position(&mut *positions, taken_from(old, r));
     positions::put_position(positions, given_to(new, r));
     Reply::Booked {

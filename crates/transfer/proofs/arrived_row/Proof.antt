@@ -52,6 +52,7 @@ returns c =
     let s : tie.Start = start l in
     simp (
       toZ-ofZ (s .fits .suffix),
+      toZ-ofZ (s .fits .kind),
       toZ-ofZ (s .fits .to),
       read-back (s .args .r .quantity) (c .before .struct-told5 .given .1 .1 .1 .1 .1 .1 .1 .1 .0 .1),
     ) at

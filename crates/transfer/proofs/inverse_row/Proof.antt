@@ -52,7 +52,7 @@ inverse-record-requires c κs = search needs
 returns : tie.Need-returns
 returns c =
     let l : tie.After-in-long = c .before .before .before in
-    simp (toZ-ofZ (start l .fits .next)) at (rw (long l, short (c .before)) at (c .inverse-record .ensures))
+    simp (toZ-ofZ (start l .fits .next), toZ-ofZ (start l .fits .kind)) at (rw (long l, short (c .before)) at (c .inverse-record .ensures))
 
 pub inverse-row-spec : {M : Type 1} → statement M
 inverse-row-spec =
