@@ -2,8 +2,8 @@
 -- since no position moves. By the definitions. Assumes nothing.
 use Prim.Native.Nat.{ℕ, suc, _+_}
 use native.Mathlib.Omega.{arith}
-use mathlib.Core.Path.{_≡_, _∙_, ap}
-use mathlib.Core.Bool.{Bool, true, false, not}
+use mathlib.Core.Path.{_≡_}
+use mathlib.Core.Bool.{true, not}
 use mathlib.Core.List.{List, [], _∷_}
 use mathlib.Core.Option.{Option, some}
 use lib.Dec.{ltb}
@@ -30,7 +30,7 @@ use Rattle.cells.proofs.Write.{write-own}
 use Rattle.cells.proofs.SoundCells.{positions-known}
 use Rattle.soundness.proofs.NamedRecord.{nextOf}
 use Rattle.verdict.specs.Verdict.{verdictOn, acceptedOn}
-use Rattle.verdict.proofs.Remaining.{row, fromTest, verdictBy, Remaining}
+use Rattle.verdict.proofs.Remaining.{row, fromTest, Remaining}
 use Rattle.verdict.proofs.Room.{room-for-none}
 use Rattle.verdict.proofs.Suffixes.{above-parts, parts-count}
 
@@ -50,23 +50,19 @@ module _ (rs ps : List ℤ) (id suffix account series : ℤ) (parts : List ℤ) 
 
   -- ---- the verdict
 
-  -- The tests of a separation, by the record that it names and what its change comes to.
-  abbrev testsBy : Record → Bool → ℕ → Bool → List Test
-  testsBy r above added full =
+  -- The tests of a separation that names the record r.
+  abbrev separationTests : Record → List Test
+  separationTests r =
       row 3 (not (separationFigures id suffix account series parts))
       ∷ row 5 (not (isSome named))
       ∷ row 6 (isElsewhere account series r)
       ∷ row 7 (isNotAdjustable r)
       ∷ row 11 (not (eqZ (sumOf parts) (r .quantity)))
-      ∷ row 13 above
-      ∷ row 14 (ltb (roomOf recordsLayout rs) (length (rowsOf recordsLayout rs) + added))
-      ∷ row 15 full
+      ∷ row 13 (ltZ greatestOfSuffixes (next +ℤ pos (length parts)))
+      ∷ row 14 (ltb (roomOf recordsLayout rs) (length (rowsOf recordsLayout rs) + (length parts + 1)))
       ∷ []
 
-  abbrev separationTests : Record → List Test
-  separationTests r = testsBy r (ltZ greatestOfSuffixes (next +ℤ pos (length parts))) (length parts + 1) false
-
-  -- The verdict is that of the tests from number n on, with r for the record that is named.
+  -- The verdict is that of the tests from number n on.
   abbrev pub SeparationFrom : ℕ → Record → Type 0
   SeparationFrom n r = Remaining (verdictOn rs ps (separate id suffix account series parts)) (fromTest n (separationTests r))
 
@@ -74,20 +70,15 @@ module _ (rs ps : List ℤ) (id suffix account series : ℤ) (parts : List ℤ) 
   unfolding verdictOn planOf separationPlan viewOf booksOf planTests bookingTests suffixIsAbove inverseRecord anyOf allOf absentFrom firstRefusal test
   separation-tests positions-sound r e =
       let added : suc (length (partRecords (theRecord named) (next +ℤ pos 1) parts)) ≡ length parts + 1 = omega (arith, parts-count (theRecord named) (next +ℤ pos 1) parts) in
-      record {
-        is = (λ i. verdictBy (testsBy (theRecord named) (above-parts (theRecord named) next parts i) (added i) (room-for-none ps positions-sound i)))
-            ∙ ap (λ (r : Record). verdictBy (separationTests r)) e;
-      }
+      record { is = rw (← e, above-parts, added, room-for-none ps positions-sound) }
 
   -- ---- the booking
 
-  module _ (positions-sound : soundPositions ps ≡ true) (r : Record) (named : find recordKey (keyOf id suffix) (rowsOf recordsLayout rs) ≡ some r) where
+  module _ (positions-sound : soundPositions ps ≡ true) (r : Record) (e : named ≡ some r) where
     pub separation-booked : acceptedOn rs ps (separate id suffix account series parts)
         ≡ answered (Booked (pos (length parts) +ℤ pos 1) (pos 0))
-        (write recordsLayout rs (upsertAll recordKey (separationRows r (nextOf (rowsOf recordsLayout rs) id) parts) (rowsOf recordsLayout rs))) ps
+        (write recordsLayout rs (upsertAll recordKey (separationRows r next parts) (rowsOf recordsLayout rs))) ps
     unfolding acceptedOn planOf separationPlan viewOf booksOf planReply planTables writeBooks booked upsertAll theRecord
-    separation-booked =
-        let t : List Record = rowsOf recordsLayout rs in
-        λ i. answered (Booked (pos (length parts) +ℤ pos 1) (pos 0))
-        (write recordsLayout rs (upsertAll recordKey (separationRows (theRecord (named i)) (nextOf t id) parts) t))
+    separation-booked = λ i. answered (Booked (pos (length parts) +ℤ pos 1) (pos 0))
+        (write recordsLayout rs (upsertAll recordKey (separationRows (theRecord (e i)) next parts) (rowsOf recordsLayout rs)))
         (write-own positionsLayout positions-lawful ps (positions-known ps positions-sound .count-sound) i)

@@ -21,7 +21,7 @@ use Rattle.rules.specs.declared.Record.{Record}
 use Rattle.rules.specs.declared.Position.{Position}
 use Rattle.rules.specs.declared.Reply.the-variants.{Booked, ClosingError}
 use Rattle.verdict.specs.Verdict.{verdictOn, acceptedOn, absentPosition}
-use Rattle.verdict.proofs.Remaining.{row, fromTest, verdictBy, Remaining, and-true}
+use Rattle.verdict.proofs.Remaining.{row, fromTest, Remaining, and-true}
 use Rattle.verdict.proofs.Room.{positionRead, absent-one}
 
 -- What a trade closes and books, the position that it leaves, and its row.
@@ -47,18 +47,14 @@ module _ (ps : List ℤ) (account series side quantity : ℤ) where
 module _ (rs ps : List ℤ) (id account series side quantity price : ℤ) where
   -- ---- the verdict
 
-  -- The tests of a trade, by how many positions it adds and whether the position it leaves is sound.
-  abbrev testsBy : ℕ → Bool → List Test
-  testsBy absent sound =
+  abbrev tradeTests : List Test
+  tradeTests =
       row 3 (not (tradeFigures id account series side quantity price))
       ∷ row 4 (isSome (greatest recordKey id (rowsOf recordsLayout rs)))
       ∷ row 14 (ltb (roomOf recordsLayout rs) (length (rowsOf recordsLayout rs) + 1))
-      ∷ row 15 (ltb (roomOf positionsLayout ps) (length (rowsOf positionsLayout ps) + absent))
-      ∷ row 16 (not sound)
+      ∷ row 15 (ltb (roomOf positionsLayout ps) (length (rowsOf positionsLayout ps) + absentPosition ps account series))
+      ∷ row 16 (not (soundPosition (tradePosition ps account series side quantity)))
       ∷ []
-
-  abbrev tradeTests : List Test
-  tradeTests = testsBy (absentPosition ps account series) (soundPosition (tradePosition ps account series side quantity))
 
   -- The verdict is that of the tests from number n on.
   abbrev pub TradeFrom : ℕ → Type 0
@@ -66,11 +62,7 @@ module _ (rs ps : List ℤ) (id account series side quantity price : ℤ) where
 
   pub trade-tests : TradeFrom 3
   unfolding verdictOn planOf tradePlan viewOf booksOf planTests bookingTests suffixIsAbove newRecord anyOf allOf firstRefusal test
-  trade-tests = record {
-    is = λ i. verdictBy (testsBy
-        (absent-one ps account series (tradeLong ps account series side quantity) (tradeShort ps account series side quantity) (pos 0) i)
-        (and-true (soundPosition (tradePosition ps account series side quantity)) i));
-  }
+  trade-tests = record { is = rw (absent-one, and-true) }
 
   -- ---- the booking
 

@@ -1,16 +1,16 @@
 -- The tests of an account transfer in the shape in which code meets them, and the tables and answer of an accepted one. By the definitions. Assumes nothing.
 use Prim.Native.Nat.{ℕ, _+_}
-use mathlib.Core.Path.{_≡_, _∙_, ap}
-use mathlib.Core.Bool.{Bool, false, not, _&&_, _||_}
+use mathlib.Core.Path.{_≡_}
+use mathlib.Core.Bool.{not, _&&_}
 use mathlib.Core.List.{List, [], _∷_}
 use mathlib.Core.Option.{Option, some}
 use lib.Dec.{ltb}
 use lib.IntN.{ℤ, pos, negℤ, _+ℤ_}
 use lib.ListN.{length}
-use lib.Signed.{ltZ}
+use lib.Signed.{ltZ, _≤ℤ_}
 use Rattle.integers.proofs.Linear.{zarith, +-lin}
 use Rattle.rules.specs.Figures.{isToClose, transferKind, greatestOfSuffixes}
-use Rattle.rules.specs.Keyed.{find, isSome, upsertAll, absentFrom}
+use Rattle.rules.specs.Keyed.{find, isSome, upsertAll}
 use Rattle.rules.specs.Rows.{keyOf, recordKey, positionKey, adjustedRecord, inverseRecord, adjustableRecord, moved, soundPosition}
 use Rattle.rules.specs.NamedRecord.{theRecord, isElsewhere, isNotAdjustable}
 use Rattle.rules.specs.Refusal.{Test, test, anyOf, allOf, firstRefusal}
@@ -26,7 +26,7 @@ use Rattle.rules.specs.declared.Position.{Position}
 use Rattle.rules.specs.declared.Reply.the-variants.{Booked}
 use Rattle.soundness.proofs.NamedRecord.{nextOf}
 use Rattle.verdict.specs.Verdict.{verdictOn, acceptedOn, absentPosition}
-use Rattle.verdict.proofs.Remaining.{row, fromTest, verdictBy, Remaining, and-true, or-nothing}
+use Rattle.verdict.proofs.Remaining.{row, fromTest, Remaining, and-true, or-nothing}
 use Rattle.verdict.proofs.Room.{positionRead, absent-moved, absent-one}
 use Rattle.verdict.proofs.Suffixes.{above-later}
 
@@ -56,57 +56,39 @@ module _ (rs ps : List ℤ) (id suffix from to series : ℤ) where
 
   -- ---- the verdict
 
-  -- The tests of a transfer, by the record that it names and what its change comes to.
-  abbrev testsBy : Record → Bool → ℕ → Bool → List Test
-  testsBy r above absent sound =
+  -- The tests of a transfer that names the record r.
+  abbrev transferTests : Record → List Test
+  transferTests r =
       row 3 (not (transferFigures id suffix from to series))
       ∷ row 5 (not (isSome named))
       ∷ row 6 (isElsewhere from series r)
       ∷ row 7 (isNotAdjustable r)
       ∷ row 8 (isToClose (r .side))
       ∷ row 12 (holdsTooLittle r (positionRead ps from series))
-      ∷ row 13 above
+      ∷ row 13 (ltZ greatestOfSuffixes (next +ℤ pos 1))
       ∷ row 14 (ltb (roomOf recordsLayout rs) (length (rowsOf recordsLayout rs) + 2))
-      ∷ row 15 (ltb (roomOf positionsLayout ps) (length (rowsOf positionsLayout ps) + absent))
-      ∷ row 16 (not sound)
+      ∷ row 15 (ltb (roomOf positionsLayout ps) (length (rowsOf positionsLayout ps) + (absentPosition ps from series + absentPosition ps to series)))
+      ∷ row 16 (not (soundPosition (transferOld ps r from series) && soundPosition (transferNew ps r to series)))
       ∷ []
 
-  abbrev transferTests : Record → List Test
-  transferTests r =
-      testsBy r (ltZ greatestOfSuffixes (next +ℤ pos 1)) (absentPosition ps from series + absentPosition ps to series)
-      (soundPosition (transferOld ps r from series) && soundPosition (transferNew ps r to series))
-
-  -- The verdict is that of the tests from number n on, with r for the record that is named.
+  -- The verdict is that of the tests from number n on.
   abbrev pub TransferFrom : ℕ → Record → Type 0
   TransferFrom n r = Remaining (verdictOn rs ps (transfer id suffix from to series)) (fromTest n (transferTests r))
 
-  above : (ltZ greatestOfSuffixes next || (ltZ greatestOfSuffixes (next +ℤ pos 1) || false)) ≡ ltZ greatestOfSuffixes (next +ℤ pos 1)
-  above =
-      ap (λ (b : Bool). ltZ greatestOfSuffixes next || b) (or-nothing (ltZ greatestOfSuffixes (next +ℤ pos 1)))
-      ∙ above-later greatestOfSuffixes next (next +ℤ pos 1) (omega (zarith, +-lin next (pos 1)))
-
-  absent-both : (r : Record) → absentFrom positionKey (rowsOf positionsLayout ps) (transferOld ps r from series ∷ transferNew ps r to series ∷ [])
-      ≡ absentPosition ps from series + absentPosition ps to series
-  absent-both r =
-      absent-moved ps from series (inLong (r .side) (negℤ (r .quantity))) (inShort (r .side) (negℤ (r .quantity))) (pos 0) (transferNew ps r to series ∷ [])
-      ∙ ap (λ (n : ℕ). absentPosition ps from series + n) (absent-one ps to series (inLong (r .side) (r .quantity)) (inShort (r .side) (r .quantity)) (pos 0))
-
   pub transfer-tests : (r : Record) → theRecord named ≡ r → TransferFrom 3 r
   unfolding verdictOn planOf transferPlan viewOf booksOf planTests bookingTests suffixIsAbove inverseRecord adjustableRecord anyOf allOf firstRefusal test
-  transfer-tests r e = record {
-    is = (λ i. verdictBy (testsBy (theRecord named) (above i) (absent-both (theRecord named) i)
-        (soundPosition (transferOld ps (theRecord named) from series) && and-true (soundPosition (transferNew ps (theRecord named) to series)) i)))
-        ∙ ap (λ (r : Record). verdictBy (transferTests r)) e;
-  }
+  transfer-tests r e =
+      let later : next ≤ℤ (next +ℤ pos 1) = omega (zarith, +-lin next (pos 1)) in
+      record { is = rw (← e, or-nothing, above-later greatestOfSuffixes next (next +ℤ pos 1) later, absent-moved, absent-one, and-true) }
 
   -- ---- the booking
 
-  pub transfer-booked : (r : Record) → find recordKey (keyOf id suffix) (rowsOf recordsLayout rs) ≡ some r → acceptedOn rs ps (transfer id suffix from to series)
+  pub transfer-booked : (r : Record) → named ≡ some r → acceptedOn rs ps (transfer id suffix from to series)
       ≡ answered (Booked (pos 2) (pos 0))
       (write recordsLayout rs (upsertAll recordKey (transferRows r next to) (rowsOf recordsLayout rs)))
       (write positionsLayout ps (upsertAll positionKey (transferOld ps r from series ∷ transferNew ps r to series ∷ []) (rowsOf positionsLayout ps)))
   unfolding acceptedOn planOf transferPlan viewOf booksOf planReply planTables writeBooks booked upsertAll theRecord
-  transfer-booked r named = λ i. answered (Booked (pos 2) (pos 0))
-      (write recordsLayout rs (upsertAll recordKey (transferRows (theRecord (named i)) next to) (rowsOf recordsLayout rs)))
+  transfer-booked r e = λ i. answered (Booked (pos 2) (pos 0))
+      (write recordsLayout rs (upsertAll recordKey (transferRows (theRecord (e i)) next to) (rowsOf recordsLayout rs)))
       (write positionsLayout ps
-      (upsertAll positionKey (transferOld ps (theRecord (named i)) from series ∷ transferNew ps (theRecord (named i)) to series ∷ []) (rowsOf positionsLayout ps)))
+      (upsertAll positionKey (transferOld ps (theRecord (e i)) from series ∷ transferNew ps (theRecord (e i)) to series ∷ []) (rowsOf positionsLayout ps)))

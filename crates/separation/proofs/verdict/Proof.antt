@@ -241,9 +241,8 @@ lacks-records-room-requires c κs = (s (read13 (c .before)) .pre .0, omega (arit
 returns-7 : tie.Need-returns-7
 returns-7 c = stops (at-14 (c .before .before)) (sym (c .before .lacks-records-room .ensures) ∙ c .if6 .taken)
 
--- 15 never applies.
 returns-8 : tie.Need-returns-8
-returns-8 c = ends (at-14 (c .before .before) past sym (c .before .lacks-records-room .ensures) ∙ c .if6 .left past refl)
+returns-8 c = ends (at-14 (c .before .before) past sym (c .before .lacks-records-room .ensures) ∙ c .if6 .left)
 
 pub verdict-spec : {M : Type 1} → statement M
 verdict-spec =
