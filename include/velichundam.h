@@ -12,9 +12,9 @@
  *
  * A first program:
  *
- *     int64_t records[1 + 13 * 100] = {0};          // room for 100 records, none yet
- *     int64_t positions[1 + 5 * 20] = {0};          // room for 20 positions, none yet
- *     velichundam_reply r = velichundam_trade(records, 1 + 13 * 100, positions, 1 + 5 * 20,
+ *     int64_t records[VELICHUNDAM_RECORDS_LEN(100)] = {0};         // room for 100 records, none yet
+ *     int64_t positions[VELICHUNDAM_POSITIONS_LEN(20)] = {0};      // room for 20 positions, none yet
+ *     velichundam_reply r = velichundam_trade(records, VELICHUNDAM_RECORDS_LEN(100), positions, VELICHUNDAM_POSITIONS_LEN(20),
  *                                             456789, 1, 1, VELICHUNDAM_BUY_OPEN, 100, 1250000000);
  *     if (r.kind == VELICHUNDAM_REFUSED) { ... r.first is the number below ... }
  *
@@ -84,15 +84,17 @@
 extern "C" {
 #endif
 
-/* Cells of a row, and the greatest room of a table. */
+/* Cells before the first row, cells of a row, and the greatest room of a table. */
+#define VELICHUNDAM_RECORDS_HEADER 1
 #define VELICHUNDAM_RECORD_CELLS 13
+#define VELICHUNDAM_POSITIONS_HEADER 1
 #define VELICHUNDAM_POSITION_CELLS 5
 #define VELICHUNDAM_MOST_RECORDS 4096
 #define VELICHUNDAM_MOST_POSITIONS 1024
 
 /* How many cells a table takes that has room for so many rows. */
-#define VELICHUNDAM_RECORDS_LEN(rows) (1 + (size_t)VELICHUNDAM_RECORD_CELLS * (rows))
-#define VELICHUNDAM_POSITIONS_LEN(rows) (1 + (size_t)VELICHUNDAM_POSITION_CELLS * (rows))
+#define VELICHUNDAM_RECORDS_LEN(rows) (VELICHUNDAM_RECORDS_HEADER + (size_t)VELICHUNDAM_RECORD_CELLS * (rows))
+#define VELICHUNDAM_POSITIONS_LEN(rows) (VELICHUNDAM_POSITIONS_HEADER + (size_t)VELICHUNDAM_POSITION_CELLS * (rows))
 
 /* Side codes. */
 enum {

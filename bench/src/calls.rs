@@ -4,6 +4,7 @@ use crate::request::{by_hand, ours, Book, Request, KINDS, REFUSED};
 use crate::stats::{spread, Spread};
 use std::hint::black_box;
 use std::time::Instant;
+use velichundam::{positions_len, records_len};
 
 /// A request that is accepted on these tables.
 struct Case {
@@ -42,8 +43,8 @@ fn case(kind: usize, rows: usize) -> Case {
         let (account, series) = position_key(k);
         positions.extend([account, series, 1_000_000, 1_000_000, 0]);
     }
-    records.resize(1 + 13 * (rows + 16), -1);
-    positions.resize(1 + 5 * (position_count + 8), -1);
+    records.resize(records_len(rows + 16), -1);
+    positions.resize(positions_len(position_count + 8), -1);
 
     let middle = family_at + 1;
     let (account, series) = if sources.contains(&middle) { (1, 1) } else { position_key(middle * 7 % position_count) };

@@ -3,9 +3,7 @@
 use crate::request::{by_hand, ours, Book, Coded, Request, KINDS, REFUSED};
 use crate::sqlite::SqlBook;
 use std::time::Instant;
-
-const RECORDS_ROOM: usize = 4_096;
-const POSITIONS_ROOM: usize = 1_024;
+use velichundam::{positions_len, records_len, MOST_POSITIONS, MOST_RECORDS, RECORDS_HEADER, RECORD_CELLS};
 
 pub struct Day {
     pub requests: Vec<Request>,
@@ -15,7 +13,7 @@ pub struct Day {
 }
 
 fn empty_tables() -> (Vec<i64>, Vec<i64>) {
-    (vec![0; 1 + 13 * RECORDS_ROOM], vec![0; 1 + 5 * POSITIONS_ROOM])
+    (vec![0; records_len(MOST_RECORDS)], vec![0; positions_len(MOST_POSITIONS)])
 }
 
 /// splitmix64
@@ -104,10 +102,10 @@ impl Day {
 }
 
 fn draw(rng: &mut Rng, records: &[i64]) -> Request {
-    let (rows, _) = records[1..].as_chunks::<13>();
+    let (rows, _) = records[RECORDS_HEADER..].as_chunks::<RECORD_CELLS>();
     let rows = &rows[..records[0] as usize];
-    let pick = |likes: &dyn Fn(&[i64; 13]) -> bool, rng: &mut Rng| {
-        let liked: Vec<&[i64; 13]> = rows.iter().filter(|row| row[4] == 0 && likes(row)).collect();
+    let pick = |likes: &dyn Fn(&[i64; RECORD_CELLS]) -> bool, rng: &mut Rng| {
+        let liked: Vec<&[i64; RECORD_CELLS]> = rows.iter().filter(|row| row[4] == 0 && likes(row)).collect();
         (!liked.is_empty()).then(|| *liked[rng.below(liked.len())])
     };
     let new_id = 1 + rng.below(900_000) as i64;

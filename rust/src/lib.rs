@@ -4,6 +4,29 @@
 //! host: slices of the right length that do not overlap, and nobody else who writes them. The archive is made by `rt staticlib velichundam`; its folder is
 //! VELICHUNDAM_LIB_DIR, or ../target/staticlib. The header also says how much stack a call may need.
 
+/// Cells before the first row of the records table: cell 0 is the row count.
+pub const RECORDS_HEADER: usize = 1;
+/// Cells of a record.
+pub const RECORD_CELLS: usize = 13;
+/// The greatest room of a records table; a longer slice is fine.
+pub const MOST_RECORDS: usize = 4_096;
+/// Cells before the first row of the positions table: cell 0 is the row count.
+pub const POSITIONS_HEADER: usize = 1;
+/// Cells of a position.
+pub const POSITION_CELLS: usize = 5;
+/// The greatest room of a positions table; a longer slice is fine.
+pub const MOST_POSITIONS: usize = 1_024;
+
+/// How many cells a records table takes that has room for so many rows.
+pub const fn records_len(rows: usize) -> usize {
+    RECORDS_HEADER + RECORD_CELLS * rows
+}
+
+/// How many cells a positions table takes that has room for so many rows.
+pub const fn positions_len(rows: usize) -> usize {
+    POSITIONS_HEADER + POSITION_CELLS * rows
+}
+
 /// An answer.
 #[derive(Clone, Copy, Debug, PartialEq, Eq)]
 pub enum Reply {

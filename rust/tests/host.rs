@@ -1,10 +1,10 @@
 //! A host in Rust: document 01's P11, the answers that carry other values, a refusal that changes nothing, and what is no answer at all.
 
-use velichundam::{c::Coded, lineage, merge, separate, trade, transfer, Reply};
+use velichundam::{c::Coded, lineage, merge, positions_len, records_len, separate, trade, transfer, Reply};
 
 #[test]
 fn each_call_answers_by_its_enum() {
-    let (mut records, mut positions) = (vec![0; 1 + 13 * 20], vec![0; 1 + 5 * 5]);
+    let (mut records, mut positions) = (vec![0; records_len(20)], vec![0; positions_len(5)]);
     assert_eq!(trade(&mut records, &mut positions, 456789, 1, 1, 1, 100, 1_250_000_000), Reply::Booked { rows: 1, residual: 0 });
     assert_eq!(transfer(&mut records, &mut positions, 456789, 0, 1, 2, 1), Reply::Booked { rows: 2, residual: 0 });
     assert_eq!(separate(&mut records, &mut positions, 456789, 2, 2, 1, &[50, 25, 25]), Reply::Booked { rows: 4, residual: 0 });

@@ -3,7 +3,7 @@
 use crate::coverage::Coverage;
 use crate::lent::{note_call, Fence};
 use crate::subject::{coded, Coded, Outcome, Subject};
-use crate::tables::{first_differences, Tables};
+use crate::tables::{first_differences, positions_len, records_len, Tables, MOST_POSITIONS, MOST_RECORDS};
 use model::{Reply, Request};
 
 pub struct Checker {
@@ -88,13 +88,13 @@ impl Checker {
         if !matches!(reply, Reply::Booked { .. } | Reply::ClosingError { .. }) {
             return;
         }
-        if before.records.len() > 1 + 4_096 * 13 + 12 || before.positions.len() > 1 + 1_024 * 5 + 4 {
+        if before.records.len() >= records_len(MOST_RECORDS + 1) || before.positions.len() >= positions_len(MOST_POSITIONS + 1) {
             seen.situation("a slice longer than the greatest room is booked in");
         }
-        if before.records[0] < 4_096 && after.records[0] == 4_096 {
+        if before.records[0] < MOST_RECORDS as i64 && after.records[0] == MOST_RECORDS as i64 {
             seen.situation("records: booked up to the greatest room, 4,096");
         }
-        if before.positions[0] < 1_024 && after.positions[0] == 1_024 {
+        if before.positions[0] < MOST_POSITIONS as i64 && after.positions[0] == MOST_POSITIONS as i64 {
             seen.situation("positions: booked up to the greatest room, 1,024");
         }
         let made = after.positions[0] > before.positions[0];

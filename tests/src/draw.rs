@@ -2,7 +2,7 @@
 //! requests meet each other's records and positions and the rules' limits.
 
 use crate::rng::Rng;
-use crate::tables::Tables;
+use crate::tables::{Tables, POSITION_CELLS, RECORD_CELLS};
 use model::Request;
 use std::collections::{BTreeMap, BTreeSet};
 
@@ -211,22 +211,22 @@ fn positions(rng: &mut Rng, lean: Lean) -> Vec<Vec<i64>> {
 /// Two sound tables with at most about so many records.
 pub fn sound_tables(rng: &mut Rng, lean: Lean, most: usize) -> Tables {
     let (record_rows, position_rows) = (records(rng, lean, most), positions(rng, lean));
-    Tables { records: table(rng, &record_rows, 13, lean), positions: table(rng, &position_rows, 5, lean) }
+    Tables { records: table(rng, &record_rows, RECORD_CELLS, lean), positions: table(rng, &position_rows, POSITION_CELLS, lean) }
 }
 
 /// Empty tables with so much room, and cells past it.
 pub fn empty_tables(rng: &mut Rng, records: usize, positions: usize) -> Tables {
     let mut tables = Tables { records: vec![0], positions: vec![0] };
-    let past = draw_cells(rng, records * 13);
+    let past = draw_cells(rng, records * RECORD_CELLS);
     tables.records.extend(past);
-    let past = draw_cells(rng, positions * 5 + 3);
+    let past = draw_cells(rng, positions * POSITION_CELLS + 3);
     tables.positions.extend(past);
     tables
 }
 
 /// Writes something into one cell, or cuts a table: the tables may be sound or not afterwards.
 pub fn damage(rng: &mut Rng, tables: &mut Tables) {
-    let (cells, width) = if rng.percent(60) { (&mut tables.records, 13) } else { (&mut tables.positions, 5) };
+    let (cells, width) = if rng.percent(60) { (&mut tables.records, RECORD_CELLS) } else { (&mut tables.positions, POSITION_CELLS) };
     if cells.is_empty() {
         return;
     }

@@ -2,7 +2,7 @@
 
 use crate::checker::Checker;
 use crate::draw::{figures, set_figure, ENDS};
-use crate::tables::Tables;
+use crate::tables::{positions_len, records_len, Tables, MOST_POSITIONS, MOST_RECORDS, POSITION_CELLS, RECORD_CELLS};
 use model::{Reply, Request};
 
 /// A small pair of tables on which each of `accepted` is accepted.
@@ -16,14 +16,14 @@ fn small() -> Tables {
         7, 3, 0, 6, 0, 1, 1, 1, 5, 103, 0, 0, 0, //
         9, 0, 0, 10, 0, 3, 2, 4, 8, -7, 0, 8, 0,
     ];
-    records.extend((0..13 * 6 + 5).map(|k| -1_000 - k));
+    records.extend((0..RECORD_CELLS as i64 * 6 + 5).map(|k| -1_000 - k));
     let mut positions = vec![
         3, //
         1, 1, 30, 4, -2, //
         3, 1, 0, 0, 0, //
         3, 2, 0, 8, 1,
     ];
-    positions.extend((0..5 * 2 + 3).map(|k| -2_000 - k));
+    positions.extend((0..POSITION_CELLS as i64 * 2 + 3).map(|k| -2_000 - k));
     Tables { records, positions }
 }
 
@@ -70,12 +70,12 @@ fn every_cell(checker: &mut Checker) {
     for request in accepted() {
         let tables = small();
         for end in ENDS {
-            for cell in 0..1 + 6 * 13 {
+            for cell in 0..records_len(6) {
                 let mut tables = tables.clone();
                 tables.records[cell] = end;
                 checker.ask(&tables, &request);
             }
-            for cell in 0..1 + 3 * 5 {
+            for cell in 0..positions_len(3) {
                 let mut tables = tables.clone();
                 tables.positions[cell] = end;
                 checker.ask(&tables, &request);
@@ -113,7 +113,7 @@ fn many(rows: usize, room: usize, quantity: i64) -> Tables {
     for k in 0..rows as i64 {
         records.extend([10 + k, 0, 0, 0, 0, 1, 1, 1, quantity, 50 + k % 7, quantity, 0, 0]);
     }
-    records.extend(vec![-9; (room - rows) * 13 + 6]);
+    records.extend(vec![-9; (room - rows) * RECORD_CELLS + 6]);
     Tables { records, positions: vec![1, 1, 1, 1_000_000, 0, 0, -9, -9, -9, -9, -9] }
 }
 
@@ -145,7 +145,7 @@ fn last_suffixes(checker: &mut Checker) {
             vec![4, greatest, 0, 6, 0, 1, 1, 1, 6, 10, 0, 0, 0],
         ];
         let mut tables = Tables { records: records.concat(), positions: vec![1, 1, 1, 99, 0, 0, 0, 0, 0, 0, 0] };
-        tables.records.extend(vec![3; 13 * 9]);
+        tables.records.extend(vec![3; RECORD_CELLS * 9]);
         for count in 2..=6 {
             let mut parts = vec![1; count];
             parts[0] = 6 - (count as i64 - 1);
@@ -160,11 +160,11 @@ fn last_suffixes(checker: &mut Checker) {
 
 /// Tables at 4,096 and 1,024 rows, in slices that are just long enough, shorter and longer.
 fn full_tables(checker: &mut Checker) {
-    for spare in [0, 12, 13, 14, 40] {
+    for spare in [0, RECORD_CELLS - 1, RECORD_CELLS, RECORD_CELLS + 1, 40] {
         for count in [4_090, 4_091, 4_092, 4_093, 4_094, 4_095, 4_096, 4_097] {
             let mut tables = many(4_098, 4_100, 4);
             tables.records[0] = count;
-            tables.records.truncate(1 + 4_096 * 13 + spare);
+            tables.records.truncate(records_len(MOST_RECORDS) + spare);
             checker.ask(&tables, &Request::Trade { id: 9_000, account: 1, series: 1, side: 2, quantity: 1, price: 1 });
             checker.ask(&tables, &Request::Trade { id: 9, account: 1, series: 1, side: 2, quantity: 1, price: 1 });
             checker.ask(&tables, &Request::Separate { id: 2_000, suffix: 0, account: 1, series: 1, parts: vec![1, 2, 1] });
@@ -180,7 +180,7 @@ fn full_tables(checker: &mut Checker) {
             for k in 0..1_026 {
                 tables.positions.extend([1 + k / 400, 1 + 2 * (k % 400), 1_000, 5, k]);
             }
-            tables.positions.truncate(1 + 1_024 * 5 + spare);
+            tables.positions.truncate(positions_len(MOST_POSITIONS) + spare);
             for series in [1, 2, 800] {
                 checker.ask(&tables, &Request::Trade { id: 9, account: 1, series, side: 4, quantity: 1_001, price: 1 });
             }
@@ -236,7 +236,7 @@ fn ends_of_averages(checker: &mut Checker) {
         for (k, (quantity, price)) in sources.iter().enumerate() {
             tables.records.extend([20 + k as i64, 0, 0, 0, 0, 1, 1, side, *quantity, *price, 0, 0, 0]);
         }
-        tables.records.extend(vec![6; 13 * (sources.len() + 1)]);
+        tables.records.extend(vec![6; RECORD_CELLS * (sources.len() + 1)]);
         let pairs = (0..sources.len() as i64).flat_map(|k| [20 + k, 0]).collect();
         checker.ask(&tables, &Request::Merge { id: 22, account: 1, series: 1, pairs });
         let pairs = (0..sources.len() as i64).rev().flat_map(|k| [20 + k, 0]).collect();

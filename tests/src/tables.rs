@@ -2,8 +2,7 @@
 
 use std::fmt::Write;
 
-pub const RECORD_CELLS: usize = 13;
-pub const POSITION_CELLS: usize = 5;
+pub use velichundam::{positions_len, records_len, MOST_POSITIONS, MOST_RECORDS, POSITION_CELLS, RECORD_CELLS};
 
 #[derive(Clone, Debug, PartialEq, Eq)]
 pub struct Tables {
