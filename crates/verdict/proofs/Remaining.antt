@@ -4,7 +4,7 @@ use Prim.Native.Nat.{ℕ}
 use mathlib.Core.Path.{_≡_, refl, sym, subst}
 use mathlib.Core.Bool.{Bool, true, false, cond, _&&_, _||_}
 use mathlib.Core.List.{List, [], _∷_}
-use lib.Dec.{ltb}
+use lib.Dec.{eqb}
 use lib.IntN.{pos}
 use Rattle.rules.specs.Refusal.{Test, anyOf, firstPlace, firstRefusal}
 use Rattle.verdict.specs.Verdict.{verdictOf}
@@ -18,10 +18,10 @@ row number applies = record { number = number; applies = applies; place = 0 }
 abbrev pub rowEach : ℕ → List Bool → Test
 rowEach number fails = record { number = number; applies = anyOf fails; place = firstPlace fails }
 
--- The tests from number n on.
+-- The tests from that with number n on, whatever the order of the numbers; none where no test has it.
 abbrev pub fromTest : ℕ → List Test → List Test
 fromTest n [] = []
-fromTest n (t ∷ rest) = cond (ltb (t .number) n) (fromTest n rest) (t ∷ rest)
+fromTest n (t ∷ rest) = cond (eqb (t .number) n) (t ∷ rest) (fromTest n rest)
 
 abbrev pub verdictBy : List Test → Verdict
 verdictBy tests = verdictOf (firstRefusal tests)
