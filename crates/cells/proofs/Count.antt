@@ -13,19 +13,19 @@ use lib.Seq.{take-add, length-take-le}
 use borrow.Author.Tests.{leb-true, le-leb}
 use Rattle.integers.specs.Order.{inRange}
 use Rattle.rules.specs.Layout.{Layout, countOf, afterCount, roomFor, decode, startOf, roomOf, rowsOf, countIsSound}
+use Rattle.keys.proofs.Split.{and-intro, and-left, and-right}
 use Rattle.cells.specs.Lawful.{Lawful}
-use Rattle.cells.proofs.Both.{both, first, second}
 use Rattle.cells.proofs.Decode.{length-decode}
 
 -- A number from 0 to a room, by its sign.
 within : (z : ℤ) (room : ℕ) → inRange (pos 0) (pos room) z ≡ true → (z ≡ pos (natAbs z)) × (natAbs z ≤ room)
 unfolding inRange
-within (pos n) room e = (refl, leb-true n room (second (leb 0 n) (leb n room) e))
+within (pos n) room e = (refl, leb-true n room (and-right (leb 0 n) (leb n room) e))
 within (negsuc n) room e = let z : _≡_ {A = ℕ} 0 1 = cc in absurd (omega arith)
 
 pub pos-within : (n room : ℕ) → n ≤ room → inRange (pos 0) (pos room) (pos n) ≡ true
 unfolding inRange
-pos-within n room h = both (leb 0 n) (leb n room) (le-leb 0 n (omega arith)) (le-leb n room h)
+pos-within n room h = and-intro (le-leb 0 n (omega arith)) (le-leb n room h)
 
 one-less : (h : ℕ) → suc h - 1 ≡ h
 one-less h = omega arith
@@ -90,19 +90,18 @@ module _ {Row : Type 0} (l : Layout Row) (lawful : Lawful l) where
   pub count-sound : (cells : List ℤ) (n : ℕ) → l .header ≤ length cells → countOf cells ≡ pos n → n ≤ roomOf l cells → countIsSound l cells ≡ true
   unfolding countIsSound
   count-sound cells n h e room =
-      both (leb (l .header) (length cells)) (inRange (pos 0) (pos (roomOf l cells)) (countOf cells))
-      (le-leb (l .header) (length cells) h)
+      and-intro (le-leb (l .header) (length cells) h)
       (rw e (pos-within n (roomOf l cells) room))
 
   -- What a sound count says.
   module _ (cells : List ℤ) (sound : countIsSound l cells ≡ true) where
     pub sound-header : l .header ≤ length cells
     unfolding countIsSound
-    sound-header = leb-true (l .header) (length cells) (first (leb (l .header) (length cells)) (inRange (pos 0) (pos (roomOf l cells)) (countOf cells)) sound)
+    sound-header = leb-true (l .header) (length cells) (and-left (leb (l .header) (length cells)) (inRange (pos 0) (pos (roomOf l cells)) (countOf cells)) sound)
 
     range : inRange (pos 0) (pos (roomOf l cells)) (countOf cells) ≡ true
     unfolding countIsSound
-    range = second (leb (l .header) (length cells)) (inRange (pos 0) (pos (roomOf l cells)) (countOf cells)) sound
+    range = and-right (leb (l .header) (length cells)) (inRange (pos 0) (pos (roomOf l cells)) (countOf cells)) sound
 
     pub sound-count : countOf cells ≡ pos (length (rowsOf l cells))
     sound-count = within (countOf cells) (roomOf l cells) range .0 ∙ ap pos (sym (length-rowsOf l cells))

@@ -1,7 +1,6 @@
 pub mod Parts
 pub mod Decode
 pub mod Encode
-pub mod Both
 pub mod Count
 pub mod Write
 pub mod Shift

@@ -10,34 +10,32 @@ use Rattle.rules.specs.Keyed.{Key, rising}
 use Rattle.rules.specs.Refusal.{allOf}
 use Rattle.rules.specs.Layout.{Layout, roomOf, rowsOf, countIsSound, write}
 use Rattle.rules.specs.Tables.{soundTable}
+use Rattle.keys.proofs.Split.{and-intro, and-left, and-right}
 use Rattle.cells.specs.Lawful.{Lawful}
-use Rattle.cells.proofs.Both.{both, first, second}
 use Rattle.cells.proofs.Write.{rows-write, write-sound-count}
 
 module _ {Row : Type 0} (l : Layout Row) (key : Row → Key) (soundRow : Row → Bool) (cells : List ℤ) where
   pub sound-table : countIsSound l cells ≡ true → rising key (rowsOf l cells) ≡ true → allOf (map soundRow (rowsOf l cells)) ≡ true
       → soundTable l key soundRow cells ≡ true
   unfolding soundTable
-  sound-table c r a =
-      both (countIsSound l cells && rising key (rowsOf l cells)) (allOf (map soundRow (rowsOf l cells)))
-      (both (countIsSound l cells) (rising key (rowsOf l cells)) c r) a
+  sound-table c r a = and-intro (and-intro c r) a
 
   module _ (sound : soundTable l key soundRow cells ≡ true) where
     pub table-count : countIsSound l cells ≡ true
     unfolding soundTable
     table-count =
-        first (countIsSound l cells) (rising key (rowsOf l cells))
-        (first (countIsSound l cells && rising key (rowsOf l cells)) (allOf (map soundRow (rowsOf l cells))) sound)
+        and-left (countIsSound l cells) (rising key (rowsOf l cells))
+        (and-left (countIsSound l cells && rising key (rowsOf l cells)) (allOf (map soundRow (rowsOf l cells))) sound)
 
     pub table-rises : rising key (rowsOf l cells) ≡ true
     unfolding soundTable
     table-rises =
-        second (countIsSound l cells) (rising key (rowsOf l cells))
-        (first (countIsSound l cells && rising key (rowsOf l cells)) (allOf (map soundRow (rowsOf l cells))) sound)
+        and-right (countIsSound l cells) (rising key (rowsOf l cells))
+        (and-left (countIsSound l cells && rising key (rowsOf l cells)) (allOf (map soundRow (rowsOf l cells))) sound)
 
     pub table-rows : allOf (map soundRow (rowsOf l cells)) ≡ true
     unfolding soundTable
-    table-rows = second (countIsSound l cells && rising key (rowsOf l cells)) (allOf (map soundRow (rowsOf l cells))) sound
+    table-rows = and-right (countIsSound l cells && rising key (rowsOf l cells)) (allOf (map soundRow (rowsOf l cells))) sound
 
 -- Sound rows written where they fit.
 pub sound-write : {Row : Type 0} (l : Layout Row) (lawful : Lawful l) (key : Row → Key) (soundRow : Row → Bool) (cells : List ℤ) (rows : List Row)
