@@ -44,3 +44,36 @@ and-swap false t u = refl
 pub taken-last : (b t : Bool) (rest : List Bool) → allFrom b (t ∷ rest) ≡ allFrom b (rest ++ (t ∷ []))
 taken-last b t [] = refl
 taken-last b t (u ∷ rest) = ap (λ (c : Bool). allFrom c rest) (and-swap b t u) ∙ taken-last (b && u) t rest
+
+-- ---- the chain at a row, call by call
+
+-- the first of some tests, and those after it
+abbrev pub first : List Bool → Bool
+first [] = true
+first (t ∷ rest) = t
+
+abbrev pub others : List Bool → List Bool
+others [] = []
+others (t ∷ rest) = rest
+
+pub past-first : {whole r : Bool} (tests : List Bool) → Remaining whole tests → r ≡ first tests → not r ≡ false → Remaining whole (others tests)
+past-first [] m e h = m
+past-first (t ∷ rest) m e h = goes-on m e h
+
+first-fails : {whole r : Bool} (tests : List Bool) → Remaining whole tests → r ≡ first tests → not r ≡ true → false ≡ whole
+first-fails [] m e h = sym (m .is ∙ failed e h)
+first-fails (t ∷ rest) m e h = stops m e h
+
+-- The tests that remain of a row, of which the first was asked and answered `r`.
+pub record Asked {Row : Type 0} (whole : Row → Bool) (tests : Row → List Bool) (r : Bool) : Type 0 where
+  pub row : Row
+  pub remain : Remaining (whole row) (tests row)
+  pub answer : r ≡ first (tests row)
+
+module _ {Row : Type 0} {whole : Row → Bool} {tests : Row → List Bool} {r : Bool} (a : Asked whole tests r) where
+  -- it held, and the next one was answered `s`
+  abbrev pub asked-next : {s : Bool} → not r ≡ false → s ≡ first (others (tests (a .row))) → Asked whole (λ row. others (tests row)) s
+  asked-next h e = record { row = a .row; remain = past-first (tests (a .row)) (a .remain) (a .answer) h; answer = e }
+
+  pub asked-fails : not r ≡ true → false ≡ whole (a .row)
+  asked-fails h = first-fails (tests (a .row)) (a .remain) (a .answer) h

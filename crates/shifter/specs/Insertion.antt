@@ -5,6 +5,10 @@ use lib.IntN.{ℤ, pos}
 use lib.ListN.{length, take, drop}
 use Rattle.rules.specs.Layout.{afterCount}
 
+-- The first `used` cells moved up by `by`: those below `by` are as they were.
+abbrev pub raised : {A : Type 0} → (by used : ℕ) → List A → List A
+raised by used cells = take by cells ++ (take used cells ++ drop (used + by) cells)
+
 -- As row `place` of `count` rows: the count raised, the rows before it, the row, the rows above moved up by one, the cells past the last row.
 unfoldable pub inserted : (header : ℕ) → List ℤ → (count place : ℕ) → List ℤ → List ℤ
 inserted header row count place cells =

@@ -14,44 +14,8 @@ use Rattle.shifter.proofs.insert_row.Tie as tie
 cells-before : (s : tie.Start) → s .args .count * length (s .args .row .now) ≡ s .args .place * length (s .args .row .now) + (s .args .count - s .args .place) * length (s .args .row .now)
 cells-before s = rows-split (length (s .args .row .now)) (s .args .count) (s .args .place) (s .pre .1)
 
-mul-at : tie.Need-mul-at
-mul-at c = omega (arith, cells-before c)
-
-add-at : tie.Need-add-at
-add-at c = omega (arith, cells-before c)
-
-sub-used : tie.Need-sub-used
-sub-used c = search needs
-
-mul-used : tie.Need-mul-used
-mul-used c = omega (arith, cells-before c)
-
-mul-shift-in : tie.Need-mul-shift-in
-mul-shift-in c = omega (arith, cells-before c)
-
-sub-shift-in : tie.Need-sub-shift-in
-sub-shift-in c = omega (arith, cells-before c)
-
-part-shift-in-start : tie.Need-part-shift-in-start
-part-shift-in-start c = omega (arith, cells-before c)
-
-part-shift-in-end : tie.Need-part-shift-in-end
-part-shift-in-end c = search needs
-
 shift-in-requires : tie.Need-shift-in-requires
 shift-in-requires c κs = simp (length-take, length-drop) (omega (arith, cells-before (c .before)))
-
-add-cells : tie.Need-add-cells
-add-cells c = search needs
-
-cast-cells : tie.Need-cast-cells
-cast-cells c = search needs
-
-slice-set-from-cells : tie.Need-slice-set-from-cells
-slice-set-from-cells c = search needs
-
-same-length : tie.Need-same-length
-same-length c = search needs
 
 returns : tie.Need-returns
 returns c =
@@ -63,17 +27,17 @@ pub insert-row-spec : {M : Type 1} → statement M
 insert-row-spec =
     tie.close
     (tie.spec
-    mul-at
-    add-at
-    sub-used
-    mul-used
-    mul-shift-in
-    sub-shift-in
-    part-shift-in-start
-    part-shift-in-end
+    (λ c. omega (arith, cells-before c))
+    (λ c. omega (arith, cells-before c))
+    (λ c. search needs)
+    (λ c. omega (arith, cells-before c))
+    (λ c. omega (arith, cells-before c))
+    (λ c. omega (arith, cells-before c))
+    (λ c. omega (arith, cells-before c))
+    (λ c. search needs)
     shift-in-requires
-    add-cells
-    cast-cells
-    slice-set-from-cells
-    same-length
+    (λ c. search needs)
+    (λ c. search needs)
+    (λ c. search needs)
+    (λ c. search needs)
     returns)

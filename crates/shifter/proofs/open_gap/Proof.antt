@@ -13,47 +13,8 @@ use Rattle.shifter.proofs.open_gap.Tie as tie
 cells-before : (s : tie.Start) → s .args .count * s .args .width ≡ s .args .place * s .args .width + (s .args .count - s .args .place) * s .args .width
 cells-before s = rows-split (s .args .width) (s .args .count) (s .args .place) (s .pre .1)
 
-mul-at : tie.Need-mul-at
-mul-at c = omega (arith, cells-before c)
-
-add-at : tie.Need-add-at
-add-at c = omega (arith, cells-before c)
-
-sub-used : tie.Need-sub-used
-sub-used c = search needs
-
-mul-used : tie.Need-mul-used
-mul-used c = omega (arith, cells-before c)
-
-mul-by : tie.Need-mul-by
-mul-by c = search needs
-
-mul-move-up : tie.Need-mul-move-up
-mul-move-up c = omega (arith, cells-before c)
-
-sub-move-up : tie.Need-sub-move-up
-sub-move-up c = omega (arith, cells-before c)
-
-part-move-up-start : tie.Need-part-move-up-start
-part-move-up-start c = omega (arith, cells-before c)
-
-part-move-up-end : tie.Need-part-move-up-end
-part-move-up-end c = search needs
-
 move-up-requires : tie.Need-move-up-requires
 move-up-requires c κs = simp (length-take, length-drop) (omega (arith, cells-before (c .before)))
-
-add-cells : tie.Need-add-cells
-add-cells c = search needs
-
-cast-cells : tie.Need-cast-cells
-cast-cells c = search needs
-
-slice-set-from-cells : tie.Need-slice-set-from-cells
-slice-set-from-cells c = search needs
-
-same-length : tie.Need-same-length
-same-length c = search needs
 
 returns : tie.Need-returns
 returns c =
@@ -65,18 +26,18 @@ pub open-gap-spec : {M : Type 1} → statement M
 open-gap-spec =
     tie.close
     (tie.spec
-    mul-at
-    add-at
-    sub-used
-    mul-used
-    mul-by
-    mul-move-up
-    sub-move-up
-    part-move-up-start
-    part-move-up-end
+    (λ c. omega (arith, cells-before c))
+    (λ c. omega (arith, cells-before c))
+    (λ c. search needs)
+    (λ c. omega (arith, cells-before c))
+    (λ c. search needs)
+    (λ c. omega (arith, cells-before c))
+    (λ c. omega (arith, cells-before c))
+    (λ c. omega (arith, cells-before c))
+    (λ c. search needs)
     move-up-requires
-    add-cells
-    cast-cells
-    slice-set-from-cells
-    same-length
+    (λ c. search needs)
+    (λ c. search needs)
+    (λ c. search needs)
+    (λ c. search needs)
     returns)

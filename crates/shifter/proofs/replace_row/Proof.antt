@@ -4,30 +4,6 @@ use Rattle.shifter.proofs.Placed.{replacement}
 use Rattle.shifter.proofs.replace_row.Statement.{statement}
 use Rattle.shifter.proofs.replace_row.Tie as tie
 
-mul-at : tie.Need-mul-at
-mul-at c = search needs
-
-add-at : tie.Need-add-at
-add-at c = search needs
-
-mul-overwrite : tie.Need-mul-overwrite
-mul-overwrite c = search needs
-
-sub-overwrite : tie.Need-sub-overwrite
-sub-overwrite c = search needs
-
-part-overwrite-start : tie.Need-part-overwrite-start
-part-overwrite-start c = search needs
-
-part-overwrite-end : tie.Need-part-overwrite-end
-part-overwrite-end c = search needs
-
-overwrite-requires : tie.Need-overwrite-requires
-overwrite-requires c κs = search needs
-
-same-length : tie.Need-same-length
-same-length c = search needs
-
 returns : tie.Need-returns
 returns c =
     let s : tie.Start = c .before .before .before in
@@ -37,12 +13,12 @@ pub replace-row-spec : {M : Type 1} → statement M
 replace-row-spec =
     tie.close
     (tie.spec
-    mul-at
-    add-at
-    mul-overwrite
-    sub-overwrite
-    part-overwrite-start
-    part-overwrite-end
-    overwrite-requires
-    same-length
+    (λ c. search needs)
+    (λ c. search needs)
+    (λ c. search needs)
+    (λ c. search needs)
+    (λ c. search needs)
+    (λ c. search needs)
+    (λ c κs. search needs)
+    (λ c. search needs)
     returns)

@@ -1,64 +1,34 @@
 -- `scan::soundness::records_sound` meets its contract: the count is tested, and then the rows that it names.
 -- Assumes nothing.
-use mathlib.Core.Path.{_≡_, _∙_}
+use mathlib.Core.Path.{_≡_}
 use mathlib.Core.Bool.{true}
 use borrow.Author.Needs.{needs}
-use mir.Syntax.{w64}
-use mir.Val.{toZ, ofZ}
-use Rattle.rules.specs.Layout.{countOf, countIsSound}
+use Rattle.rules.specs.Layout.{countIsSound}
 use Rattle.rules.specs.Rows.{recordKey, soundRecord}
 use Rattle.rules.specs.Tables.{recordsLayout, soundRecords}
 use Rattle.cells.proofs.RowCells.{records-lawful}
-use Rattle.figures.proofs.Tests.{failed, passed}
-use Rattle.scan.proofs.ReadBack.{read-back}
-use Rattle.scan.proofs.Room.{layout-count}
-use Rattle.scan.proofs.TableScan.{unsound-count, count-there, count-casts, counted-rows-within, rows-decide}
+use Rattle.scan.proofs.TableScan.{count-passed, unsound-count, count-there, read-count-casts, counted-rows-within, rows-decide}
 use Rattle.scan.proofs.soundness.records_sound.Statement.{statement}
 use Rattle.scan.proofs.soundness.records_sound.Tie as tie
 
-answer : (c : tie.After-count-sound) → c .count-sound .result ≡ countIsSound recordsLayout (c .before .args .cells .now)
-answer c = c .count-sound .ensures ∙ layout-count recordsLayout (c .before .args .cells .now)
-
 sound : (c : tie.Else1) → countIsSound recordsLayout (c .before .before .args .cells .now) ≡ true
-sound c = passed (answer (c .before)) (c .if1 .left)
-
-count : (c : tie.After-count) → toZ w64 (ofZ w64 (countOf (c .before .before .before .args .cells .now))) ≡ countOf (c .before .before .before .args .cells .now)
-count c = read-back (countOf (c .before .before .before .args .cells .now)) (c .count .given)
-
-count-sound-requires : tie.Need-count-sound-requires
-count-sound-requires c κs = search needs
+sound c = count-passed recordsLayout (c .before .before .args .cells .now) (c .before .count-sound .ensures) (c .if1 .left)
 
 returns : tie.Need-returns
 unfolding soundRecords
-returns c =
-    unsound-count recordsLayout recordKey soundRecord (c .before .before .args .cells .now)
-    (failed (answer (c .before)) (c .if1 .taken))
-
-shared-slice-copy-out-count : tie.Need-shared-slice-copy-out-count
-shared-slice-copy-out-count c = count-there recordsLayout records-lawful (c .before .before .args .cells .now) (sound c)
-
-cast-count : tie.Need-cast-count
-cast-count c =
-    simp (count c)
-    (count-casts recordsLayout records-lawful (c .before .before .before .args .cells .now) (sound (c .before)) (c .count .given))
-
-record-rows-sound-requires : tie.Need-record-rows-sound-requires
-record-rows-sound-requires c κs =
-    simp (count c) (counted-rows-within recordsLayout records-lawful (c .before .before .before .args .cells .now) (sound (c .before)))
+returns c = unsound-count recordsLayout recordKey soundRecord (c .before .before .args .cells .now) (c .before .count-sound .ensures) (c .if1 .taken)
 
 returns-2 : tie.Need-returns-2
 unfolding soundRecords
-returns-2 c =
-    (simp (count (c .before)) at (c .record-rows-sound .ensures))
-    ∙ rows-decide recordsLayout recordKey soundRecord (c .before .before .before .before .args .cells .now) (sound (c .before .before))
+returns-2 c = rows-decide recordsLayout recordKey soundRecord (c .before .before .before .before .args .cells .now) (sound (c .before .before)) (c .before .count .given) (c .record-rows-sound .ensures)
 
 pub records-sound-spec : {M : Type 1} → statement M
 records-sound-spec =
     tie.close
     (tie.spec
-    count-sound-requires
+    (λ c κs. search needs)
     returns
-    shared-slice-copy-out-count
-    cast-count
-    record-rows-sound-requires
+    (λ c. count-there recordsLayout records-lawful _ (sound c))
+    (λ c. read-count-casts recordsLayout records-lawful _ (sound (c .before)) (c .count .given))
+    (λ c κs. counted-rows-within recordsLayout records-lawful _ (sound (c .before)) (c .count .given))
     returns-2)

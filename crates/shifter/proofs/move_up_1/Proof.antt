@@ -1,0 +1,30 @@
+-- `shifter::move_up_1` meets its contract. The loop's invariant: the cells from `k` on stand one record higher; the measure is `k`. Assumes nothing.
+use borrow.Author.Needs.{needs}
+use Rattle.rules.specs.Tables.{recordsLayout}
+use Rattle.shifter.proofs.Moved.{Moving, starts, moves, all-up}
+use Rattle.shifter.proofs.move_up_1.Statement.{statement}
+use Rattle.shifter.proofs.move_up_1.Tie as tie
+
+abbrev Inv-loop : tie.InvT-loop
+Inv-loop tail₀ used k₀ tail k = Moving tail₀ used (recordsLayout .width) tail k
+
+abbrev μ-loop : tie.MeasureT-loop
+μ-loop tail₀ used k₀ tail k = k
+
+pub move-up-1-spec : {M : Type 1} → statement M
+move-up-1-spec =
+    tie.close
+    (tie.spec
+    Inv-loop
+    μ-loop
+    (λ c. starts (c .pre))
+    (λ c. search needs)
+    (λ c. search needs)
+    (λ c. search needs)
+    (λ c. search needs)
+    (λ c. search needs)
+    (λ c. search needs)
+    (λ c. search needs)
+    (λ c. moves (c .before .before .loop .inv) (c .before .loop-test .taken) (c .tail .given))
+    (λ c. search needs)
+    (λ c. all-up (c .before .loop .inv) (c .loop-test .left)))
