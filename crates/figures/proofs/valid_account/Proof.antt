@@ -6,12 +6,9 @@ use Rattle.rules.specs.Figures.{validAccount}
 use Rattle.figures.proofs.valid_account.Statement.{statement}
 use Rattle.figures.proofs.valid_account.Tie as tie
 
-in-range-requires : tie.Need-in-range-requires
-in-range-requires c κs = search needs
-
 returns : tie.Need-returns
 unfolding validAccount
 returns c = simp (toZ-ofZ (c .before .fits .z)) at (c .in-range .ensures)
 
 pub valid-account-spec : {M : Type 1} → statement M
-valid-account-spec = tie.close (tie.spec in-range-requires returns)
+valid-account-spec = tie.close (tie.spec (λ c κs. search needs) returns)

@@ -7,12 +7,9 @@ use Rattle.rules.specs.Rows.{validBooked}
 use Rattle.figures.proofs.valid_booked.Statement.{statement}
 use Rattle.figures.proofs.valid_booked.Tie as tie
 
-in-range-requires : tie.Need-in-range-requires
-in-range-requires c κs = search needs
-
 returns : tie.Need-returns
 unfolding validBooked magnitudeAtMost
 returns c = simp (toZ-ofZ (c .before .fits .z)) at (c .in-range .ensures)
 
 pub valid-booked-spec : {M : Type 1} → statement M
-valid-booked-spec = tie.close (tie.spec in-range-requires returns)
+valid-booked-spec = tie.close (tie.spec (λ c κs. search needs) returns)

@@ -6,12 +6,9 @@ use Rattle.rules.specs.Figures.{validId}
 use Rattle.figures.proofs.valid_id.Statement.{statement}
 use Rattle.figures.proofs.valid_id.Tie as tie
 
-in-range-requires : tie.Need-in-range-requires
-in-range-requires c κs = search needs
-
 returns : tie.Need-returns
 unfolding validId
 returns c = simp (toZ-ofZ (c .before .fits .z)) at (c .in-range .ensures)
 
 pub valid-id-spec : {M : Type 1} → statement M
-valid-id-spec = tie.close (tie.spec in-range-requires returns)
+valid-id-spec = tie.close (tie.spec (λ c κs. search needs) returns)

@@ -11,9 +11,6 @@ returns : tie.Need-returns
 unfolding validInto
 returns c = simp (is-literal 0 tt (c .before .fits .z) (c .if1 .taken))
 
-valid-id-requires : tie.Need-valid-id-requires
-valid-id-requires c κs = search needs
-
 returns-2 : tie.Need-returns-2
 unfolding validInto
 returns-2 c =
@@ -21,4 +18,4 @@ returns-2 c =
     simp (not-literal 0 (s .fits .z) (c .before .if1 .left)) (simp (toZ-ofZ (s .fits .z)) at (c .valid-id .ensures))
 
 pub valid-into-spec : {M : Type 1} → statement M
-valid-into-spec = tie.close (tie.spec returns valid-id-requires returns-2)
+valid-into-spec = tie.close (tie.spec returns (λ c κs. search needs) returns-2)

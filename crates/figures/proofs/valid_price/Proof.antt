@@ -6,12 +6,9 @@ use Rattle.rules.specs.Figures.{validPrice, magnitudeAtMost}
 use Rattle.figures.proofs.valid_price.Statement.{statement}
 use Rattle.figures.proofs.valid_price.Tie as tie
 
-in-range-requires : tie.Need-in-range-requires
-in-range-requires c κs = search needs
-
 returns : tie.Need-returns
 unfolding validPrice magnitudeAtMost
 returns c = simp (toZ-ofZ (c .before .fits .z)) at (c .in-range .ensures)
 
 pub valid-price-spec : {M : Type 1} → statement M
-valid-price-spec = tie.close (tie.spec in-range-requires returns)
+valid-price-spec = tie.close (tie.spec (λ c κs. search needs) returns)

@@ -6,12 +6,9 @@ use Rattle.rules.specs.Figures.{validQuantity}
 use Rattle.figures.proofs.valid_quantity.Statement.{statement}
 use Rattle.figures.proofs.valid_quantity.Tie as tie
 
-in-range-requires : tie.Need-in-range-requires
-in-range-requires c κs = search needs
-
 returns : tie.Need-returns
 unfolding validQuantity
 returns c = simp (toZ-ofZ (c .before .fits .z)) at (c .in-range .ensures)
 
 pub valid-quantity-spec : {M : Type 1} → statement M
-valid-quantity-spec = tie.close (tie.spec in-range-requires returns)
+valid-quantity-spec = tie.close (tie.spec (λ c κs. search needs) returns)

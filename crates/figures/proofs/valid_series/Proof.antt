@@ -6,12 +6,9 @@ use Rattle.rules.specs.Figures.{validSeries}
 use Rattle.figures.proofs.valid_series.Statement.{statement}
 use Rattle.figures.proofs.valid_series.Tie as tie
 
-in-range-requires : tie.Need-in-range-requires
-in-range-requires c κs = search needs
-
 returns : tie.Need-returns
 unfolding validSeries
 returns c = simp (toZ-ofZ (c .before .fits .z)) at (c .in-range .ensures)
 
 pub valid-series-spec : {M : Type 1} → statement M
-valid-series-spec = tie.close (tie.spec in-range-requires returns)
+valid-series-spec = tie.close (tie.spec (λ c κs. search needs) returns)

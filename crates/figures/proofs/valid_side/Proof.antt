@@ -6,12 +6,9 @@ use Rattle.rules.specs.Figures.{validSide}
 use Rattle.figures.proofs.valid_side.Statement.{statement}
 use Rattle.figures.proofs.valid_side.Tie as tie
 
-in-range-requires : tie.Need-in-range-requires
-in-range-requires c κs = search needs
-
 returns : tie.Need-returns
 unfolding validSide
 returns c = simp (toZ-ofZ (c .before .fits .z)) at (c .in-range .ensures)
 
 pub valid-side-spec : {M : Type 1} → statement M
-valid-side-spec = tie.close (tie.spec in-range-requires returns)
+valid-side-spec = tie.close (tie.spec (λ c κs. search needs) returns)

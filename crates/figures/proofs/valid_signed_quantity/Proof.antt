@@ -27,9 +27,6 @@ returns : tie.Need-returns
 unfolding validSignedQuantity
 returns c = simp (is-literal 0 tt (c .before .fits .q) (c .if1 .taken))
 
-in-range-requires : tie.Need-in-range-requires
-in-range-requires c κs = search needs
-
 returns-2 : tie.Need-returns-2
 unfolding validSignedQuantity
 returns-2 c = simp (not-zero (c .before), failed (answer (c .before)) (c .if2 .taken))
@@ -50,4 +47,4 @@ returns-4 c =
 
 pub valid-signed-quantity-spec : {M : Type 1} → statement M
 valid-signed-quantity-spec =
-    tie.close (tie.spec returns in-range-requires returns-2 returns-3 returns-4)
+    tie.close (tie.spec returns (λ c κs. search needs) returns-2 returns-3 returns-4)

@@ -6,12 +6,9 @@ use Rattle.rules.specs.Rows.{validStatus}
 use Rattle.figures.proofs.valid_status.Statement.{statement}
 use Rattle.figures.proofs.valid_status.Tie as tie
 
-in-range-requires : tie.Need-in-range-requires
-in-range-requires c κs = search needs
-
 returns : tie.Need-returns
 unfolding validStatus
 returns c = simp (toZ-ofZ (c .before .fits .z)) at (c .in-range .ensures)
 
 pub valid-status-spec : {M : Type 1} → statement M
-valid-status-spec = tie.close (tie.spec in-range-requires returns)
+valid-status-spec = tie.close (tie.spec (λ c κs. search needs) returns)

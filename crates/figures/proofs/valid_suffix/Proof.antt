@@ -6,12 +6,9 @@ use Rattle.rules.specs.Figures.{validSuffix}
 use Rattle.figures.proofs.valid_suffix.Statement.{statement}
 use Rattle.figures.proofs.valid_suffix.Tie as tie
 
-in-range-requires : tie.Need-in-range-requires
-in-range-requires c κs = search needs
-
 returns : tie.Need-returns
 unfolding validSuffix
 returns c = simp (toZ-ofZ (c .before .fits .z)) at (c .in-range .ensures)
 
 pub valid-suffix-spec : {M : Type 1} → statement M
-valid-suffix-spec = tie.close (tie.spec in-range-requires returns)
+valid-suffix-spec = tie.close (tie.spec (λ c κs. search needs) returns)

@@ -31,17 +31,8 @@ room-back c = toZ-pos w64 (room-small c) ∙ ap pos (room c)
 returns : tie.Need-returns
 returns c = no-count _ _ _ _ (c .if1 .taken)
 
-room-for-requires : tie.Need-room-for-requires
-room-for-requires c κs = search needs
-
 cast-room : tie.Need-cast-room
 cast-room c = omega (zarith, room-small c)
-
-shared-slice-copy-out-in-range : tie.Need-shared-slice-copy-out-in-range
-shared-slice-copy-out-in-range c = search needs
-
-in-range-requires : tie.Need-in-range-requires
-in-range-requires c κs = search needs
 
 returns-2 : tie.Need-returns-2
 returns-2 c =
@@ -55,8 +46,8 @@ count-sound-spec =
     tie.close
     (tie.spec
     returns
-    room-for-requires
+    (λ c κs. search needs)
     cast-room
-    shared-slice-copy-out-in-range
-    in-range-requires
+    (λ c. search needs)
+    (λ c κs. search needs)
     returns-2)

@@ -8,9 +8,6 @@ use Rattle.scan.proofs.soundness.room_for.Tie as tie
 returns : tie.Need-returns
 returns c = room-none _ _ _ _ (c .if1 .taken)
 
-div-whole : tie.Need-div-whole
-div-whole c = search needs
-
 returns-2 : tie.Need-returns-2
 returns-2 c = room-whole _ _ _ _ (c .if2 .taken)
 
@@ -18,4 +15,4 @@ returns-3 : tie.Need-returns-3
 returns-3 c = room-full _ _ _ _ (c .if2 .left)
 
 pub room-for-spec : {M : Type 1} → statement M
-room-for-spec = tie.close (tie.spec returns div-whole returns-2 returns-3)
+room-for-spec = tie.close (tie.spec returns (λ c. search needs) returns-2 returns-3)

@@ -1,7 +1,7 @@
 -- `scan::soundness::sound_position` meets its contract: after each test the row is sound where the remaining tests hold.
 -- Assumes nothing.
 use Prim.Native.Nat.{ℕ}
-use mathlib.Core.Path.{_≡_, refl}
+use mathlib.Core.Path.{refl}
 use mathlib.Core.Bool.{Bool}
 use mathlib.Core.List.{List, [], _∷_}
 use borrow.Author.Needs.{needs}

@@ -1,7 +1,6 @@
 -- `scan::soundness::sound_record` meets its contract: after each test the row is sound where the remaining tests hold. The kind, fourth in the definition, is tested last.
 -- Assumes nothing.
 use Prim.Native.Nat.{ℕ}
-use mathlib.Core.Path.{_≡_}
 use mathlib.Core.Bool.{Bool, _&&_}
 use mathlib.Core.List.{List, [], _∷_}
 use borrow.Author.Needs.{needs}
