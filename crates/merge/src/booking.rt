@@ -1,6 +1,7 @@
 // The changes of an accepted merge.
 use super::sources;
 use lookup::Found;
+use rules::Movement;
 use rules::Record;
 use rules::Reply;
 use rules::codes::MERGE;
@@ -117,7 +118,12 @@ pub fn book(
     let residual = integers::residual(figures::is_buy(first.side), value, quantity);
     let merged = merged_row(first, id, quantity, price);
     let old = positions::position_of(positions, account, series);
-    let left = requests::moved(old, 0, 0, residual);
+    let m = Movement {
+        long: 0,
+        short: 0,
+        cash: residual,
+    };
+    let left = requests::moved(old, m);
     adjust_sources(&mut *records, pairs);
     insert_inverses(&mut *records, pairs, id);
     records::insert_record(records, merged);

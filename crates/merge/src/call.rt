@@ -3,6 +3,7 @@ use super::booking;
 use super::sources;
 use merge_sources::Place;
 use merge_sources::pairs;
+use rules::Movement;
 use rules::Reply;
 use rules::codes::MOST_QUANTITY;
 use tables::positions;
@@ -148,7 +149,12 @@ fn verdict_on_sums(
     let value = sources::sum_of_values(records, pairs, rows);
     let residual = integers::residual(buy, value, quantity);
     let p = positions::position_of(positions, account, series);
-    if !scan::soundness::sound_position(requests::moved(p, 0, 0, residual)) {
+    let m = Movement {
+        long: 0,
+        short: 0,
+        cash: residual,
+    };
+    if !scan::soundness::sound_position(requests::moved(p, m)) {
         return Verdict::Refused(16, 0);
     }
     Verdict::Accepted

@@ -1,6 +1,7 @@
 // What several requests share: the room tests, a position's change, the next suffix of an id, a new row, and the rows that come out of a record.
 use lookup::Found;
 use lookup::Greatest;
+use rules::Movement;
 use rules::Position;
 use rules::Record;
 use rules::codes::ADJUSTABLE;
@@ -16,9 +17,10 @@ ghost use Rattle.rules.specs.Figures.{magnitudeAtMost};
 ghost use Rattle.rules.specs.Keyed.{greatest};
 ghost use Rattle.rules.specs.NamedRecord.{nextSuffix, isElsewhere};
 ghost use Rattle.rules.specs.Rows as Rows;
-ghost use Rattle.rules.specs.Rows.{recordKey, soundPosition, validBooked};
+ghost use Rattle.rules.specs.Rows.{recordKey};
 ghost use Rattle.rules.specs.Layout.{roomOf, rowsOf};
 ghost use Rattle.rules.specs.Tables.{recordsLayout, positionsLayout, soundRecords, soundPositions};
+ghost use Rattle.verdict.specs.MovedReady.{MovedReady};
 ghost use Rattle.verdict.specs.Verdict.{absentPosition};
 
 // 14: row count plus new rows exceeds the records room.
@@ -49,16 +51,16 @@ pub fn absent_position(cells: &[i64], account: i64, series: i64) -> usize
 }
 
 // A position with its figures changed by signed amounts.
-pub fn moved(p: Position, long: i64, short: i64, cash: i64) -> Position
-    requires { ⌜ (soundPosition p ≡ true) × (validBooked long ≡ true) × (validBooked short ≡ true) × (magnitudeAtMost 1000000 cash ≡ true) ⌝ }
-    ensures { λ r. ⌜ r ≡ Rows.moved p long short cash ⌝ }
+pub fn moved(p: Position, m: Movement) -> Position
+    requires { ⌜ MovedReady p m ⌝ }
+    ensures { λ r. ⌜ r ≡ Rows.moved p m ⌝ }
 {
     Position {
         account: p.account,
         series: p.series,
-        long: p.long + long,
-        short: p.short + short,
-        cash: p.cash + cash,
+        long: p.long + m.long,
+        short: p.short + m.short,
+        cash: p.cash + m.cash,
     }
 }
 

@@ -8,6 +8,7 @@ use Rattle.rules.specs.Figures.{magnitudeAtMost, validId, validSuffix, v
 use Rattle.rules.specs.Keyed.{Key}
 use Rattle.rules.specs.declared.Record.{Record}
 use Rattle.rules.specs.declared.Position.{Position}
+use Rattle.rules.specs.declared.Movement.{Movement}
 
 abbrev pub keyOf : ℤ → ℤ → Key
 keyOf a b = record { major = a; minor = b }
@@ -72,14 +73,21 @@ unfoldable pub orZeros : ℤ → ℤ → Option Position → Position
 orZeros account series none = zeroPosition account series
 orZeros account series (some p) = p
 
+-- What is booked to long and short, and what is booked to cash alone.
+abbrev pub inBooked : ℤ → ℤ → Movement
+inBooked long short = record { long = long; short = short; cash = pos 0 }
+
+abbrev pub inCash : ℤ → Movement
+inCash residual = record { long = pos 0; short = pos 0; cash = residual }
+
 -- A position with its figures changed by signed amounts.
-unfoldable pub moved : Position → ℤ → ℤ → ℤ → Position
-moved p long short cash = record {
+unfoldable pub moved : Position → Movement → Position
+moved p m = record {
   account = p .account;
   series = p .series;
-  long = p .long +ℤ long;
-  short = p .short +ℤ short;
-  cash = p .cash +ℤ cash;
+  long = p .long +ℤ m .long;
+  short = p .short +ℤ m .short;
+  cash = p .cash +ℤ m .cash;
 }
 
 -- A record in another status, and nothing else changed.

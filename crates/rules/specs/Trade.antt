@@ -6,7 +6,7 @@ use lib.IntN.{ℤ, pos, negℤ, _-ℤ_}
 use lib.Signed.{ltZ, leZ}
 use Rattle.rules.specs.Figures.{validId, validAccount, validSeries, validSide, validQuantity, validPrice, isBuy, isToClose, originalKind, closingErrorKind}
 use Rattle.rules.specs.Keyed.{isSome}
-use Rattle.rules.specs.Rows.{newRecord, moved}
+use Rattle.rules.specs.Rows.{newRecord, inBooked, moved}
 use Rattle.rules.specs.Refusal.{test}
 use Rattle.rules.specs.Plan.{Plan, booking}
 use Rattle.rules.specs.declared.Position.{Position}
@@ -60,6 +60,6 @@ tradePlan id account series side quantity price greatest p =
     (record {
       changed = [];
       added = newRecord id (tradeKind error) account series side quantity price long short ∷ [];
-      positions = moved p long short (pos 0) ∷ [];
+      positions = moved p (inBooked long short) ∷ [];
       reply = tradeReply error (quantity -ℤ c);
     })

@@ -7,12 +7,13 @@ use lib.Signed.{ltZ}
 use Rattle.integers.specs.Order.{eqZ}
 use Rattle.rules.specs.Figures.{validId, validSuffix, validAccount, validSeries, isBuy, isToClose, transferKind}
 use Rattle.rules.specs.Keyed.{isSome}
-use Rattle.rules.specs.Rows.{adjustedRecord, inverseRecord, adjustableRecord, moved}
+use Rattle.rules.specs.Rows.{adjustedRecord, inverseRecord, adjustableRecord, inBooked, moved}
 use Rattle.rules.specs.Refusal.{test}
 use Rattle.rules.specs.Plan.{Effects, Plan, booking}
 use Rattle.rules.specs.NamedRecord.{theRecord, nextSuffix, isElsewhere, isNotAdjustable}
 use Rattle.rules.specs.declared.Record.{Record}
 use Rattle.rules.specs.declared.Position.{Position}
+use Rattle.rules.specs.declared.Movement.{Movement}
 use Rattle.rules.specs.declared.Reply.the-variants.{Booked}
 
 -- 3: every figure in its range, and two different accounts
@@ -26,6 +27,9 @@ inLong side amount = cond (isBuy side) amount (pos 0)
 
 unfoldable pub inShort : ℤ → ℤ → ℤ
 inShort side amount = cond (isBuy side) (pos 0) amount
+
+abbrev pub inSide : ℤ → ℤ → Movement
+inSide side amount = inBooked (inLong side amount) (inShort side amount)
 
 -- 12: "old account's long (buy) or short (sell) below q"
 unfoldable pub holdsTooLittle : Record → Position → Bool
@@ -43,8 +47,8 @@ transferEffects inverseKind newKind r next to old new =
           ∷ adjustableRecord r (next +ℤ pos 1) newKind to q (inLong (r .side) q) (inShort (r .side) q)
           ∷ [];
       positions =
-          moved old (inLong (r .side) (negℤ q)) (inShort (r .side) (negℤ q)) (pos 0)
-          ∷ moved new (inLong (r .side) q) (inShort (r .side) q) (pos 0)
+          moved old (inSide (r .side) (negℤ q))
+          ∷ moved new (inSide (r .side) q)
           ∷ [];
       reply = Booked (pos 2) (pos 0);
     }

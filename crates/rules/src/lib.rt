@@ -32,6 +32,13 @@ pub struct Position {
     pub cash: i64,
 }
 
+// What a request changes in a position.
+pub struct Movement {
+    pub long: i64,
+    pub short: i64,
+    pub cash: i64,
+}
+
 // The answer to a request.
 pub enum Reply {
     Booked { rows: i64, residual: i64 },

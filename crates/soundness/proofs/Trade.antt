@@ -13,7 +13,7 @@ use Rattle.integers.proofs.Linear.{zarith, neg-lin, minus-lin}
 use Rattle.integers.proofs.Order.{inRange-true}
 use Rattle.rules.specs.Figures.{validId, validAccount, validSeries, validSide, validQuantity, validPrice, isBuy, isToClose, mostQuantity}
 use Rattle.rules.specs.Keyed.{greatest}
-use Rattle.rules.specs.Rows.{recordKey, positionKey, newRecord, moved, soundRecord, soundPosition, validKind, validBooked}
+use Rattle.rules.specs.Rows.{recordKey, positionKey, newRecord, inBooked, moved, soundRecord, soundPosition, validKind, validBooked}
 use Rattle.rules.specs.Refusal.{test}
 use Rattle.rules.specs.Request.{trade}
 use Rattle.rules.specs.Books.{Books, viewOf}
@@ -152,6 +152,6 @@ trade-facts b sound id account series side quantity price accepted =
           (new-sound id (tradeKind error) account series side quantity price long short (p .id-valid) (kind-valid error) (p .account-valid) (p .series-valid) (p .side-valid)
           (q .0) (q .1) (p .price-valid) (long-booked side quantity c (closed .0) (closed .1) (q .1)) (short-booked side quantity c (closed .0) (closed .1) (q .1)))
           allOf-nil;
-      positions-distinct = distinct-intro positionKey (moved old long short (pos 0)) [] allOf-nil (distinct-nil positionKey);
+      positions-distinct = distinct-intro positionKey (moved old (inBooked long short)) [] allOf-nil (distinct-nil positionKey);
       answered = one-row error (quantity -ℤ c);
     }

@@ -19,7 +19,7 @@ use Rattle.rules.specs.Request.{transfer}
 use Rattle.rules.specs.Books.{Books, viewOf}
 use Rattle.rules.specs.Handle.{planOf}
 use Rattle.rules.specs.Plan.{suffixIsAbove}
-use Rattle.rules.specs.Transfer.{transferFigures, inLong, inShort, transferPlan}
+use Rattle.rules.specs.Transfer.{transferFigures, inLong, inShort, inSide, transferPlan}
 use Rattle.rules.specs.declared.Record.{Record}
 use Rattle.rules.specs.declared.Position.{Position}
 use Rattle.keys.proofs.Split.{split, and-left, and-right}
@@ -128,8 +128,8 @@ transfer-facts b sound id suffix from to series accepted =
           transferKind to q (inLong (r .side) q) (inShort (r .side) q) kind-valid (p .to-valid) low high (long-booked (r .side) q back) (short-booked (r .side) q back))
           allOf-nil);
       positions-distinct = positions-differ
-          (moved (readAt from series (b .positions)) (inLong (r .side) (negℤ q)) (inShort (r .side) (negℤ q)) (pos 0))
-          (moved (readAt to series (b .positions)) (inLong (r .side) q) (inShort (r .side) q) (pos 0))
+          (moved (readAt from series (b .positions)) (inSide (r .side) (negℤ q)))
+          (moved (readAt to series (b .positions)) (inSide (r .side) q))
           from to series (p .accounts-differ) (read-key from series (b .positions)) (read-key to series (b .positions));
       answered = refl;
     }

@@ -9,14 +9,15 @@ use mir.Syntax.{w64}
 use mir.Val.{SFits}
 use Rattle.integers.proofs.Linear.{zarith, neg-lin, minus-lin}
 use Rattle.rules.specs.Figures.{validId, validAccount, validSeries, validSide, validQuantity, validPrice, isBuy, isToClose, mostQuantity}
-use Rattle.rules.specs.Rows.{soundPosition, moved}
+use Rattle.rules.specs.Rows.{inBooked, soundPosition, moved}
 use Rattle.rules.specs.Trade.{tradeFigures, openAgainst, smaller, closedBy, longBooked, shortBooked, isClosingError}
 use Rattle.rules.specs.declared.Position.{Position}
 use Rattle.keys.proofs.Split.{and-left, and-right}
 use Rattle.soundness.proofs.FigureRanges.{quantity-range}
-use Rattle.verdict.proofs.Moves.{MovedReady, closed-range, trade-moves}
+use Rattle.verdict.specs.MovedReady.{MovedReady}
+use Rattle.verdict.proofs.Moves.{closed-range, trade-moves}
 use Rattle.verdict.proofs.Room.{positionRead}
-use Rattle.verdict.proofs.Trade.{tradeClosed, tradeLong, tradeShort, tradeError, tradePosition}
+use Rattle.verdict.proofs.Trade.{tradeClosed, tradeError, tradeMovement, tradePosition}
 use Rattle.trade.specs.Booking.{bookingOf, positionAfter}
 use Rattle.trade.specs.declared.Booking.{Booking}
 
@@ -68,11 +69,11 @@ module _ (side quantity : ℤ) (p : Position) where
   negated = omega (zarith, minus-lin (pos 0) c, neg-lin c)
 
   module _ (error : Bool) (told : error ≡ isClosingError side quantity c) where
-    pub booking-buy : isBuy side ≡ true → _≡_ {A = Booking} (record { closed = c; long = quantity -ℤ c; short = pos 0 -ℤ c; error = error }) (bookingOf side quantity p)
+    pub booking-buy : isBuy side ≡ true → _≡_ {A = Booking} (record { closed = c; movement = inBooked (quantity -ℤ c) (pos 0 -ℤ c); error = error }) (bookingOf side quantity p)
     unfolding bookingOf longBooked shortBooked
     booking-buy h = rw (h, told, negated)
 
-    pub booking-sell : isBuy side ≡ false → _≡_ {A = Booking} (record { closed = c; long = pos 0 -ℤ c; short = quantity -ℤ c; error = error }) (bookingOf side quantity p)
+    pub booking-sell : isBuy side ≡ false → _≡_ {A = Booking} (record { closed = c; movement = inBooked (pos 0 -ℤ c) (quantity -ℤ c); error = error }) (bookingOf side quantity p)
     unfolding bookingOf longBooked shortBooked
     booking-sell h = rw (h, told, negated)
 
@@ -91,7 +92,7 @@ module _ (side quantity : ℤ) (p : Position) where
         let most : quantity ≤ℤ pos mostQuantity = quantity-range quantity valid .1 in
         omega (zarith, minus-lin (pos 0) c)
 
-    pub booking-moves : (b : Booking) → b ≡ bookingOf side quantity p → MovedReady p (b .long) (b .short) (pos 0)
+    pub booking-moves : (b : Booking) → b ≡ bookingOf side quantity p → MovedReady p (b .movement)
     unfolding bookingOf
     booking-moves b e = rw e (trade-moves side quantity p sound valid)
 
@@ -107,18 +108,14 @@ module _ (ps : List ℤ) (account series side quantity : ℤ) where
     unfolding bookingOf
     closed-is = rw (f, e)
 
-    pub long-is : b .long ≡ tradeLong ps account series side quantity
+    pub movement-is : b .movement ≡ tradeMovement ps account series side quantity
     unfolding bookingOf
-    long-is = rw (f, e)
-
-    pub short-is : b .short ≡ tradeShort ps account series side quantity
-    unfolding bookingOf
-    short-is = rw (f, e)
+    movement-is = rw (f, e)
 
     pub error-is : b .error ≡ tradeError ps account series side quantity
     unfolding bookingOf
     error-is = rw (f, e)
 
-    pub moved-is : moved p (b .long) (b .short) (pos 0) ≡ tradePosition ps account series side quantity
+    pub moved-is : moved p (b .movement) ≡ tradePosition ps account series side quantity
     unfolding bookingOf
     moved-is = rw (f, e)

@@ -1,8 +1,8 @@
 -- What a trade closes and books, as one value; and the position that it leaves.
 use mathlib.Core.List.{List}
-use lib.IntN.{ℤ, pos}
+use lib.IntN.{ℤ}
 use Rattle.rules.specs.Keyed.{find}
-use Rattle.rules.specs.Rows.{keyOf, positionKey, orZeros, moved}
+use Rattle.rules.specs.Rows.{keyOf, positionKey, orZeros, inBooked, moved}
 use Rattle.rules.specs.Layout.{rowsOf}
 use Rattle.rules.specs.Tables.{positionsLayout}
 use Rattle.rules.specs.Trade.{closedBy, longBooked, shortBooked, isClosingError}
@@ -14,12 +14,11 @@ bookingOf side quantity p =
     let c : ℤ = closedBy side quantity p in
     record {
       closed = c;
-      long = longBooked side quantity c;
-      short = shortBooked side quantity c;
+      movement = inBooked (longBooked side quantity c) (shortBooked side quantity c);
       error = isClosingError side quantity c;
     }
 
 unfoldable pub positionAfter : List ℤ → ℤ → ℤ → ℤ → ℤ → Position
 positionAfter cells account series side quantity =
     let p : Position = orZeros account series (find positionKey (keyOf account series) (rowsOf positionsLayout cells)) in
-    moved p (bookingOf side quantity p .long) (bookingOf side quantity p .short) (pos 0)
+    moved p (bookingOf side quantity p .movement)

@@ -1,4 +1,5 @@
 // Trade on sound tables: tests 3, 4 and 14 to 16, the booking, and the call that joins them.
+use rules::Movement;
 use rules::Position;
 use rules::Reply;
 use rules::codes::CLOSING_ERROR;
@@ -23,8 +24,7 @@ ghost use Rattle.trade.specs.Booking.{bookingOf, positionAfter};
 // What a trade closes and books.
 pub struct Booking {
     pub closed: i64,
-    pub long: i64,
-    pub short: i64,
+    pub movement: Movement,
     pub error: bool,
 }
 
@@ -84,15 +84,21 @@ fn booking_of(side: i64, quantity: i64, p: Position) -> Booking
     if figures::is_buy(side) {
         Booking {
             closed,
-            long: opened,
-            short: undone,
+            movement: Movement {
+                long: opened,
+                short: undone,
+                cash: 0,
+            },
             error,
         }
     } else {
         Booking {
             closed,
-            long: undone,
-            short: opened,
+            movement: Movement {
+                long: undone,
+                short: opened,
+                cash: 0,
+            },
             error,
         }
     }
@@ -105,7 +111,7 @@ fn position_after(cells: &[i64], account: i64, series: i64, side: i64, quantity:
 {
     let p = positions::position_of(cells, account, series);
     let b = booking_of(side, quantity, p);
-    requests::moved(p, b.long, b.short, 0)
+    requests::moved(p, b.movement)
 }
 
 pub fn verdict(
@@ -156,6 +162,7 @@ pub fn book(
 {
     let p = positions::position_of(positions, account, series);
     let b = booking_of(side, quantity, p);
+    let m = b.movement;
     let mut kind = ORIGINAL;
     if b.error {
         kind = CLOSING_ERROR;
@@ -168,11 +175,11 @@ pub fn book(
         side,
         quantity,
         price,
-        b.long,
-        b.short,
+        m.long,
+        m.short,
     );
     records::insert_record(records, row);
-    let left = requests::moved(p, b.long, b.short, 0);
+    let left = requests::moved(p, m);
     positions::put_position(positions, left);
     if b.error {
         Reply::ClosingError {

@@ -5,26 +5,19 @@ use mathlib.Core.Bool.{true, false}
 use lib.IntN.{ℤ, pos}
 use lib.Signed.{ltZ}
 use Rattle.rules.specs.Figures.{isBuy}
-use Rattle.rules.specs.Transfer.{inLong, inShort, holdsTooLittle}
+use Rattle.rules.specs.Rows.{inBooked}
+use Rattle.rules.specs.Transfer.{inLong, inShort, inSide, holdsTooLittle}
 use Rattle.rules.specs.declared.Record.{Record}
 use Rattle.rules.specs.declared.Position.{Position}
 
 module _ (side amount : ℤ) where
-  pub long-buy : isBuy side ≡ true → amount ≡ inLong side amount
-  unfolding inLong
-  long-buy e = rw e
+  pub in-buy : isBuy side ≡ true → inBooked amount (pos 0) ≡ inSide side amount
+  unfolding inLong inShort
+  in-buy e = rw e
 
-  pub long-sell : isBuy side ≡ false → pos 0 ≡ inLong side amount
-  unfolding inLong
-  long-sell e = rw e
-
-  pub short-buy : isBuy side ≡ true → pos 0 ≡ inShort side amount
-  unfolding inShort
-  short-buy e = rw e
-
-  pub short-sell : isBuy side ≡ false → amount ≡ inShort side amount
-  unfolding inShort
-  short-sell e = rw e
+  pub in-sell : isBuy side ≡ false → inBooked (pos 0) amount ≡ inSide side amount
+  unfolding inLong inShort
+  in-sell e = rw e
 
 module _ (r : Record) (p : Position) where
   pub holds-buy : isBuy (r .side) ≡ true → ltZ (p .long) (r .quantity) ≡ holdsTooLittle r p

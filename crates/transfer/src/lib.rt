@@ -1,5 +1,6 @@
 // Account transfer on sound tables: tests 3, 5 to 8 and 12 to 16, the booking, and the call that joins them.
 use lookup::Found;
+use rules::Movement;
 use rules::Position;
 use rules::Record;
 use rules::Reply;
@@ -21,7 +22,7 @@ ghost use Rattle.rules.specs.Layout.{rowsOf};
 ghost use Rattle.rules.specs.Request as Request;
 ghost use Rattle.rules.specs.Tables.{recordsLayout, soundRecords, soundPositions};
 ghost use Rattle.rules.specs.Handle.{answered};
-ghost use Rattle.rules.specs.Transfer.{transferFigures, inLong, inShort, holdsTooLittle};
+ghost use Rattle.rules.specs.Transfer.{transferFigures, inLong, inShort, inSide, holdsTooLittle};
 ghost use Rattle.verdict.specs.Verdict.{verdictOn, acceptedOn};
 ghost use Rattle.verdict.specs.HandledSoundly.{HandledSoundly};
 ghost use Rattle.verdict.specs.declared.Verdict.the-variants.{Accepted};
@@ -47,17 +48,23 @@ pub fn figures_valid(id: i64, suffix: i64, from: i64, to: i64, series: i64) -> b
     from != to
 }
 
-// An amount in the long of a buy, 0 for a sell; and in the short.
-fn in_long(side: i64, amount: i64) -> i64
-    ensures { λ r. ⌜ r ≡ inLong side amount ⌝ }
+// An amount in the long of a buy, in the short of a sell.
+fn in_side(side: i64, amount: i64) -> Movement
+    ensures { λ r. ⌜ r ≡ inSide side amount ⌝ }
 {
-    if figures::is_buy(side) { amount } else { 0 }
-}
-
-fn in_short(side: i64, amount: i64) -> i64
-    ensures { λ r. ⌜ r ≡ inShort side amount ⌝ }
-{
-    if figures::is_buy(side) { 0 } else { amount }
+    if figures::is_buy(side) {
+        Movement {
+            long: amount,
+            short: 0,
+            cash: 0,
+        }
+    } else {
+        Movement {
+            long: 0,
+            short: amount,
+            cash: 0,
+        }
+    }
 }
 
 // 12: the old account's long (buy) or short (sell) is below the quantity.
@@ -73,22 +80,22 @@ fn holds_too_little(r: Record, p: Position) -> bool
 // A position with an amount more in the side's figure.
 fn shifted(p: Position, side: i64, amount: i64) -> Position
     requires { ⌜ (soundPosition p ≡ true) × (magnitudeAtMost 1000000 amount ≡ true) ⌝ }
-    ensures { λ r. ⌜ r ≡ moved p (inLong side amount) (inShort side amount) (pos 0) ⌝ }
+    ensures { λ r. ⌜ r ≡ moved p (inSide side amount) ⌝ }
 {
-    requests::moved(p, in_long(side, amount), in_short(side, amount), 0)
+    requests::moved(p, in_side(side, amount))
 }
 
 // The old account's position without the record's quantity, and the new account's with it.
 fn taken_from(p: Position, r: Record) -> Position
     requires { ⌜ (soundPosition p ≡ true) × (magnitudeAtMost 1000000 (r .quantity) ≡ true) ⌝ }
-    ensures { λ s. ⌜ s ≡ moved p (inLong (r .side) (negℤ (r .quantity))) (inShort (r .side) (negℤ (r .quantity))) (pos 0) ⌝ }
+    ensures { λ s. ⌜ s ≡ moved p (inSide (r .side) (negℤ (r .quantity))) ⌝ }
 {
     shifted(p, r.side, -r.quantity)
 }
 
 fn given_to(p: Position, r: Record) -> Position
     requires { ⌜ (soundPosition p ≡ true) × (magnitudeAtMost 1000000 (r .quantity) ≡ true) ⌝ }
-    ensures { λ s. ⌜ s ≡ moved p (inLong (r .side) (r .quantity)) (inShort (r .side) (r .quantity)) (pos 0) ⌝ }
+    ensures { λ s. ⌜ s ≡ moved p (inSide (r .side) (r .quantity)) ⌝ }
 {
     shifted(p, r.side, r.quantity)
 }
@@ -98,22 +105,15 @@ pub fn inverse_row(r: Record, next: i64, kind: i64) -> Record
     requires { ⌜ magnitudeAtMost 1000000 (r .quantity) ≡ true ⌝ }
     ensures { λ s. ⌜ s ≡ inverseRecord r next kind (inLong (r .side) (negℤ (r .quantity))) (inShort (r .side) (negℤ (r .quantity))) (pos 0) ⌝ }
 {
-    let q = -r.quantity;
-    requests::inverse_record(r, next, kind, in_long(r.side, q), in_short(r.side, q), 0)
+    let m = in_side(r.side, -r.quantity);
+    requests::inverse_record(r, next, kind, m.long, m.short, 0)
 }
 
 pub fn arrived_row(r: Record, suffix: i64, to: i64, kind: i64) -> Record
     ensures { λ s. ⌜ s ≡ adjustableRecord r suffix kind to (r .quantity) (inLong (r .side) (r .quantity)) (inShort (r .side) (r .quantity)) ⌝ }
 {
-    requests::adjustable_record(
-        r,
-        suffix,
-        kind,
-        to,
-        r.quantity,
-        in_long(r.side, r.quantity),
-        in_short(r.side, r.quantity),
-    )
+    let m = in_side(r.side, r.quantity);
+    requests::adjustable_record(r, suffix, kind, to, r.quantity, m.long, m.short)
 }
 
 pub fn verdict(

@@ -1,4 +1,4 @@
--- The amounts by which a trade or a transfer moves a position are in range: what a trade closes lies between 0 and its quantity, since a sound position's figures are
+-- The amounts by which a trade, a transfer or a merge moves a position are in range: what a trade closes lies between 0 and its quantity, since a sound position's figures are
 -- not negative. Assumes nothing.
 use mathlib.Core.Path.{_≡_, refl}
 use mathlib.Core.Bool.{Bool, true, false, cond, _&&_}
@@ -9,16 +9,13 @@ use Rattle.integers.specs.Order.{inRange}
 use Rattle.integers.proofs.Linear.{zarith, neg-lin, minus-lin}
 use Rattle.integers.proofs.Order.{inRange-true}
 use Rattle.rules.specs.Figures.{magnitudeAtMost, validQuantity, isBuy, isToClose, mostQuantity}
-use Rattle.rules.specs.Rows.{soundPosition, validBooked}
+use Rattle.rules.specs.Rows.{inBooked, inCash, soundPosition, validBooked}
 use Rattle.rules.specs.Trade.{openAgainst, smaller, closedBy, longBooked, shortBooked}
-use Rattle.rules.specs.Transfer.{inLong, inShort}
+use Rattle.rules.specs.Transfer.{inLong, inShort, inSide}
 use Rattle.rules.specs.declared.Position.{Position}
 use Rattle.keys.proofs.Split.{split, and-left, and-right}
 use Rattle.soundness.proofs.FigureRanges.{quantity-range, in-booked}
-
--- What is required where a position is moved by amounts.
-abbrev pub MovedReady : Position → ℤ → ℤ → ℤ → Type 0
-MovedReady p long short cash = (soundPosition p ≡ true) × (validBooked long ≡ true) × (validBooked short ≡ true) × (magnitudeAtMost 1000000 cash ≡ true)
+use Rattle.verdict.specs.MovedReady.{MovedReady}
 
 no-cash : magnitudeAtMost 1000000 (pos 0) ≡ true
 unfolding magnitudeAtMost inRange
@@ -56,7 +53,7 @@ module _ (side quantity : ℤ) (p : Position) (sound : soundPosition p ≡ true)
       go true false f q = least (p .long) (f .0) (q .0) (split (leZ quantity (p .long)))
       go false buys f q = (omega zarith, omega (zarith, q .0))
 
-  pub trade-moves : MovedReady p (longBooked side quantity (closedBy side quantity p)) (shortBooked side quantity (closedBy side quantity p)) (pos 0)
+  pub trade-moves : MovedReady p (inBooked (longBooked side quantity (closedBy side quantity p)) (shortBooked side quantity (closedBy side quantity p)))
   unfolding longBooked shortBooked
   trade-moves =
       let c : ℤ = closedBy side quantity p in
@@ -69,7 +66,13 @@ module _ (side quantity : ℤ) (p : Position) (sound : soundPosition p ≡ true)
 -- ---- a transfer
 
 pub transfer-moves : (p : Position) (side amount : ℤ) → soundPosition p ≡ true → magnitudeAtMost 1000000 amount ≡ true
-    → MovedReady p (inLong side amount) (inShort side amount) (pos 0)
+    → MovedReady p (inSide side amount)
 unfolding inLong inShort validBooked
 transfer-moves p side amount sound small =
     (sound, either-booked (isBuy side) amount (pos 0) small no-cash, either-booked (isBuy side) (pos 0) amount no-cash small, no-cash)
+
+-- ---- a merge
+
+pub merge-moves : (p : Position) (residual : ℤ) → soundPosition p ≡ true → magnitudeAtMost 1000000 residual ≡ true → MovedReady p (inCash residual)
+unfolding validBooked
+merge-moves p residual sound small = (sound, no-cash, no-cash, small)

@@ -14,6 +14,7 @@ use Rattle.rules.specs.Rows.{keyOf, positionKey, moved}
 use Rattle.rules.specs.Layout.{roomOf, rowsOf}
 use Rattle.rules.specs.Tables.{positionsLayout, soundPositions}
 use Rattle.rules.specs.declared.Position.{Position}
+use Rattle.rules.specs.declared.Movement.{Movement}
 use Rattle.cells.proofs.SoundCells.{positions-known}
 use Rattle.soundness.proofs.ReadPosition.{readAt, read-key}
 use Rattle.verdict.specs.Verdict.{absentPosition}
@@ -23,18 +24,18 @@ abbrev pub positionRead : List ℤ → ℤ → ℤ → Position
 positionRead ps account series = readAt account series (rowsOf positionsLayout ps)
 
 module _ (ps : List ℤ) where
-  pub absent-moved : (account series long short cash : ℤ) (rest : List Position)
-      → absentFrom positionKey (rowsOf positionsLayout ps) (moved (positionRead ps account series) long short cash ∷ rest)
+  pub absent-moved : (account series : ℤ) (m : Movement) (rest : List Position)
+      → absentFrom positionKey (rowsOf positionsLayout ps) (moved (positionRead ps account series) m ∷ rest)
       ≡ absentPosition ps account series + absentFrom positionKey (rowsOf positionsLayout ps) rest
   unfolding absentFrom absentPosition moved
-  absent-moved account series long short cash rest =
+  absent-moved account series m rest =
       ap (λ (k : Key). cond (isSome (find positionKey k (rowsOf positionsLayout ps))) 0 1 + absentFrom positionKey (rowsOf positionsLayout ps) rest)
       (read-key account series (rowsOf positionsLayout ps))
 
-  pub absent-one : (account series long short cash : ℤ)
-      → absentFrom positionKey (rowsOf positionsLayout ps) (moved (positionRead ps account series) long short cash ∷ []) ≡ absentPosition ps account series
+  pub absent-one : (account series : ℤ) (m : Movement)
+      → absentFrom positionKey (rowsOf positionsLayout ps) (moved (positionRead ps account series) m ∷ []) ≡ absentPosition ps account series
   unfolding absentFrom
-  absent-one account series long short cash = omega (arith, absent-moved account series long short cash [])
+  absent-one account series m = omega (arith, absent-moved account series m [])
 
   pub absent-at-most-one : (account series : ℤ) → absentPosition ps account series ≤ 1
   unfolding absentPosition

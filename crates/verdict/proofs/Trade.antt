@@ -8,7 +8,7 @@ use lib.Dec.{ltb}
 use lib.IntN.{ℤ, pos, _-ℤ_}
 use lib.ListN.{length}
 use Rattle.rules.specs.Keyed.{greatest, isSome, upsert, upsertAll}
-use Rattle.rules.specs.Rows.{recordKey, positionKey, newRecord, moved, soundPosition}
+use Rattle.rules.specs.Rows.{recordKey, positionKey, newRecord, inBooked, moved, soundPosition}
 use Rattle.rules.specs.Refusal.{Test, test, anyOf, allOf, firstRefusal}
 use Rattle.rules.specs.Request.{trade}
 use Rattle.rules.specs.Books.{viewOf}
@@ -19,6 +19,7 @@ use Rattle.rules.specs.Tables.{booksOf, writeBooks, recordsLayout, positionsLay
 use Rattle.rules.specs.Handle.{planOf, planTables, answered}
 use Rattle.rules.specs.declared.Record.{Record}
 use Rattle.rules.specs.declared.Position.{Position}
+use Rattle.rules.specs.declared.Movement.{Movement}
 use Rattle.rules.specs.declared.Reply.the-variants.{Booked, ClosingError}
 use Rattle.verdict.specs.Verdict.{verdictOn, acceptedOn, absentPosition}
 use Rattle.verdict.proofs.Remaining.{row, fromTest, Remaining, and-true}
@@ -38,8 +39,11 @@ module _ (ps : List ℤ) (account series side quantity : ℤ) where
   abbrev pub tradeError : Bool
   tradeError = isClosingError side quantity tradeClosed
 
+  abbrev pub tradeMovement : Movement
+  tradeMovement = inBooked tradeLong tradeShort
+
   abbrev pub tradePosition : Position
-  tradePosition = moved (positionRead ps account series) tradeLong tradeShort (pos 0)
+  tradePosition = moved (positionRead ps account series) tradeMovement
 
   abbrev pub tradeRow : ℤ → ℤ → Record
   tradeRow id price = newRecord id (tradeKind tradeError) account series side quantity price tradeLong tradeShort

@@ -17,6 +17,7 @@ use Rattle.cells.proofs.RowCells.{records-lawful, positions-lawful}
 use Rattle.cells.proofs.SoundCells.{records-known, positions-known}
 use Rattle.soundness.specs.SoundBooks.{Accepts}
 use Rattle.soundness.proofs.Trade.{trade-passed, trade-facts}
+use Rattle.verdict.specs.MovedReady.{MovedReady}
 use Rattle.verdict.specs.Verdict.{verdictOn, acceptedOn}
 use Rattle.verdict.specs.declared.Verdict.the-variants.{Accepted}
 use Rattle.verdict.proofs.Acceptance.{sound-books, accepted-accepts}
@@ -24,8 +25,8 @@ use Rattle.verdict.proofs.Puts.{putOne, put-none}
 use Rattle.verdict.proofs.Ready.{Ready, ready, InsertReady, insert-ready, PutReady, put-ready}
 use Rattle.verdict.proofs.Room.{positionRead}
 use Rattle.verdict.proofs.SoundReads.{position-read-sound}
-use Rattle.verdict.proofs.Moves.{MovedReady, trade-moves}
-use Rattle.verdict.proofs.Trade.{tradeClosed, tradeLong, tradeShort, tradeError, tradePosition, tradeRow, trade-booked-error, trade-booked-plain}
+use Rattle.verdict.proofs.Moves.{trade-moves}
+use Rattle.verdict.proofs.Trade.{tradeClosed, tradeLong, tradeShort, tradeError, tradeMovement, tradePosition, tradeRow, trade-booked-error, trade-booked-plain}
 
 module _ (rs ps : List ℤ) (id account series side quantity price : ℤ)
     (records-sound : soundRecords rs ≡ true) (positions-sound : soundPositions ps ≡ true)
@@ -34,7 +35,7 @@ module _ (rs ps : List ℤ) (id account series side quantity price : ℤ)
   trade-quantity =
       trade-passed (booksOf (tablesOf rs ps)) id account series side quantity price (accepted-accepts rs ps (trade id account series side quantity price) accepted) .quantity-valid
 
-  pub trade-moved : MovedReady (positionRead ps account series) (tradeLong ps account series side quantity) (tradeShort ps account series side quantity) (pos 0)
+  pub trade-moved : MovedReady (positionRead ps account series) (tradeMovement ps account series side quantity)
   trade-moved = trade-moves side quantity (positionRead ps account series) (position-read-sound ps positions-sound account series) trade-quantity
 
   pub trade-ready : Ready rs ps [] (tradeRow ps account series side quantity id price ∷ []) (tradePosition ps account series side quantity ∷ [])

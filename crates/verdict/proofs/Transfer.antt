@@ -17,7 +17,7 @@ use Rattle.rules.specs.Refusal.{Test, test, anyOf, allOf, firstRefusal}
 use Rattle.rules.specs.Request.{transfer}
 use Rattle.rules.specs.Books.{viewOf}
 use Rattle.rules.specs.Plan.{planTests, bookingTests, suffixIsAbove, booked, planReply}
-use Rattle.rules.specs.Transfer.{transferFigures, inLong, inShort, holdsTooLittle, transferPlan}
+use Rattle.rules.specs.Transfer.{transferFigures, inLong, inShort, inSide, holdsTooLittle, transferPlan}
 use Rattle.rules.specs.Layout.{roomOf, rowsOf, write}
 use Rattle.rules.specs.Tables.{booksOf, writeBooks, recordsLayout, positionsLayout}
 use Rattle.rules.specs.Handle.{planOf, planTables, answered}
@@ -42,10 +42,10 @@ transferRows r next to = adjustedRecord r ∷ transferInverse r next ∷ transfe
 
 -- The positions that it leaves: the old account's and the new one's.
 abbrev pub transferOld : List ℤ → Record → ℤ → ℤ → Position
-transferOld ps r from series = moved (positionRead ps from series) (inLong (r .side) (negℤ (r .quantity))) (inShort (r .side) (negℤ (r .quantity))) (pos 0)
+transferOld ps r from series = moved (positionRead ps from series) (inSide (r .side) (negℤ (r .quantity)))
 
 abbrev pub transferNew : List ℤ → Record → ℤ → ℤ → Position
-transferNew ps r to series = moved (positionRead ps to series) (inLong (r .side) (r .quantity)) (inShort (r .side) (r .quantity)) (pos 0)
+transferNew ps r to series = moved (positionRead ps to series) (inSide (r .side) (r .quantity))
 
 module _ (rs ps : List ℤ) (id suffix from to series : ℤ) where
   abbrev next : ℤ

@@ -6,43 +6,54 @@ use Rattle.requests.proofs.PositionRange.{long-fits, short-fits, moved-
 use Rattle.requests.proofs.moved.Statement.{statement}
 use Rattle.requests.proofs.moved.Tie as tie
 
+abbrev start2 : tie.After-struct-told2 → tie.Start
+start2 c = c .before .before .before .before
+
+abbrev start4 : tie.After-struct-told4 → tie.Start
+start4 c = start2 (c .before .before .before .before)
+
+abbrev start6 : tie.After-struct-told6 → tie.Start
+start6 c = start4 (c .before .before .before .before)
+
+add-t3 : tie.Need-add-t3
+add-t3 c =
+    let s : tie.Start = start2 c in
+    simp (read-back (s .args .p .long) (c .before .before .struct-told .given .1 .1 .0 .1), read-back (s .args .m .long) (c .struct-told2 .given .0 .1))
+    (long-fits (s .args .p) (s .pre .0) (s .args .m .long) (s .pre .1))
+
+add-t4 : tie.Need-add-t4
+add-t4 c =
+    let s : tie.Start = start4 c in
+    simp (read-back (s .args .p .short) (c .before .before .struct-told3 .given .1 .1 .1 .0 .1), read-back (s .args .m .short) (c .struct-told4 .given .1 .0 .1))
+    (short-fits (s .args .p) (s .pre .0) (s .args .m .short) (s .pre .2))
+
 add-t5 : tie.Need-add-t5
 add-t5 c =
-    let s : tie.Start = c .before .before in
-    simp (read-back (s .args .p .long) (c .struct-told .given .1 .1 .0 .1), toZ-ofZ (s .fits .long))
-    (long-fits (s .args .p) (s .pre .0) (s .args .long) (s .pre .1))
-
-add-t6 : tie.Need-add-t6
-add-t6 c =
-    let s : tie.Start = c .before .before .before .before in
-    simp (read-back (s .args .p .short) (c .struct-told2 .given .1 .1 .1 .0 .1), toZ-ofZ (s .fits .short))
-    (short-fits (s .args .p) (s .pre .0) (s .args .short) (s .pre .2))
-
-add-t7 : tie.Need-add-t7
-add-t7 c =
-    let s : tie.Start = c .before .before .before .before .before .before in
-    simp (read-back (s .args .p .cash) (c .struct-told3 .given .1 .1 .1 .1 .0 .1), toZ-ofZ (s .fits .cash))
-    (moved-cash-fits (s .args .p) (s .pre .0) (s .args .cash) (s .pre .3))
+    let s : tie.Start = start6 c in
+    simp (read-back (s .args .p .cash) (c .before .before .struct-told5 .given .1 .1 .1 .1 .0 .1), read-back (s .args .m .cash) (c .struct-told6 .given .1 .1 .0 .1))
+    (moved-cash-fits (s .args .p) (s .pre .0) (s .args .m .cash) (s .pre .3))
 
 returns : tie.Need-returns
 unfolding moved
 returns c =
-    let s : tie.Start = c .before .before .before .before .before .before .before in
+    let s : tie.Start = start6 (c .before) in
     let p = s .args .p in
-    let known = c .struct-told4 .given in
+    let m = s .args .m in
+    let known = c .struct-told7 .given in
+    let changes = c .before .struct-told6 .given in
     simp (
       read-back (p .account) (known .0 .1),
       read-back (p .series) (known .1 .0 .1),
       read-back (p .long) (known .1 .1 .0 .1),
       read-back (p .short) (known .1 .1 .1 .0 .1),
       read-back (p .cash) (known .1 .1 .1 .1 .0 .1),
-      toZ-ofZ (s .fits .long),
-      toZ-ofZ (s .fits .short),
-      toZ-ofZ (s .fits .cash),
-      toZ-ofZ (long-fits p (s .pre .0) (s .args .long) (s .pre .1)),
-      toZ-ofZ (short-fits p (s .pre .0) (s .args .short) (s .pre .2)),
-      toZ-ofZ (moved-cash-fits p (s .pre .0) (s .args .cash) (s .pre .3)),
+      read-back (m .long) (changes .0 .1),
+      read-back (m .short) (changes .1 .0 .1),
+      read-back (m .cash) (changes .1 .1 .0 .1),
+      toZ-ofZ (long-fits p (s .pre .0) (m .long) (s .pre .1)),
+      toZ-ofZ (short-fits p (s .pre .0) (m .short) (s .pre .2)),
+      toZ-ofZ (moved-cash-fits p (s .pre .0) (m .cash) (s .pre .3)),
     )
 
 pub moved-spec : {M : Type 1} → statement M
-moved-spec = tie.close (tie.spec add-t5 add-t6 add-t7 returns)
+moved-spec = tie.close (tie.spec add-t3 add-t4 add-t5 returns)

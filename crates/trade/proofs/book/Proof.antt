@@ -5,7 +5,7 @@ use mathlib.Core.Bool.{Bool, true}
 use mathlib.Core.List.{List}
 use mathlib.Core.Logic.{⊎-elim}
 use borrow.Author.Needs.{needs}
-use lib.IntN.{ℤ, pos, _-ℤ_}
+use lib.IntN.{ℤ, _-ℤ_}
 use mir.Facts.{toZ-ofZ}
 use mir.Syntax.{w64}
 use mir.Val.{SFits, toZ, ofZ}
@@ -16,16 +16,17 @@ use Rattle.rules.specs.Trade.{tradeKind}
 use Rattle.rules.specs.Handle.{answered}
 use Rattle.rules.specs.declared.Record.{Record}
 use Rattle.rules.specs.declared.Position.{Position}
+use Rattle.rules.specs.declared.Movement.{Movement}
 use Rattle.rules.specs.declared.Reply.the-variants.{ClosingError}
 use Rattle.scan.proofs.ReadBack.{read-back}
 use Rattle.verdict.proofs.Puts.{putOne}
 use Rattle.verdict.proofs.Ready.{InsertReady, PutReady}
 use Rattle.verdict.proofs.Room.{positionRead}
 use Rattle.verdict.proofs.SoundReads.{position-read-sound}
-use Rattle.verdict.proofs.Trade.{tradeClosed, tradeLong, tradeShort, tradeError, tradePosition, tradeRow}
+use Rattle.verdict.proofs.Trade.{tradeClosed, tradeLong, tradeShort, tradeError, tradeMovement, tradePosition, tradeRow}
 use Rattle.verdict.proofs.TradeReady.{trade-quantity, trade-insert, trade-put, trade-returns-error, trade-returns-plain}
 use Rattle.trade.specs.Booking.{bookingOf}
-use Rattle.trade.proofs.TradeBooked.{opened-fits, booking-moves, closed-is, long-is, short-is, error-is, moved-is}
+use Rattle.trade.proofs.TradeBooked.{opened-fits, booking-moves, closed-is, movement-is, error-is, moved-is}
 use Rattle.trade.proofs.book.Statement.{statement}
 use Rattle.trade.proofs.book.Tie as tie
 
@@ -83,22 +84,19 @@ module _ (c : tie.After-booking-of) where
   closed : c .booking-of .result .closed ≡ closedOf s
   closed = closed-is (ps s) (s .args .account) (s .args .series) (s .args .side) (s .args .quantity) (c .before .position-of .result) (c .booking-of .result) (read (c .before)) booked
 
-  long : c .booking-of .result .long ≡ tradeLong (ps s) (s .args .account) (s .args .series) (s .args .side) (s .args .quantity)
-  long = long-is (ps s) (s .args .account) (s .args .series) (s .args .side) (s .args .quantity) (c .before .position-of .result) (c .booking-of .result) (read (c .before)) booked
-
-  short : c .booking-of .result .short ≡ tradeShort (ps s) (s .args .account) (s .args .series) (s .args .side) (s .args .quantity)
-  short = short-is (ps s) (s .args .account) (s .args .series) (s .args .side) (s .args .quantity) (c .before .position-of .result) (c .booking-of .result) (read (c .before)) booked
+  movement : c .booking-of .result .movement ≡ tradeMovement (ps s) (s .args .account) (s .args .series) (s .args .side) (s .args .quantity)
+  movement = movement-is (ps s) (s .args .account) (s .args .series) (s .args .side) (s .args .quantity) (c .before .position-of .result) (c .booking-of .result) (read (c .before)) booked
 
   error : c .booking-of .result .error ≡ errorOf s
   error = error-is (ps s) (s .args .account) (s .args .series) (s .args .side) (s .args .quantity) (c .before .position-of .result) (c .booking-of .result) (read (c .before)) booked
 
-  left : moved (c .before .position-of .result) (c .booking-of .result .long) (c .booking-of .result .short) (pos 0) ≡ leftOf s
+  left : moved (c .before .position-of .result) (c .booking-of .result .movement) ≡ leftOf s
   left = moved-is (ps s) (s .args .account) (s .args .series) (s .args .side) (s .args .quantity) (c .before .position-of .result) (c .booking-of .result) (read (c .before)) booked
 
 -- The row that is made.
 module _ (c : tie.After-new-record) where
   abbrev b : tie.After-booking-of
-  b = c .before .before .before .before
+  b = c .before .before .before .before .before
 
   kind : toZ w64 (c .before .before .before .if1 .kind) ≡ tradeKind (b .booking-of .result .error)
   unfolding tradeKind
@@ -111,10 +109,10 @@ module _ (c : tie.After-new-record) where
   row : c .new-record .result ≡ rowOf (s b)
   row =
       let kind-is : toZ w64 (c .before .before .before .if1 .kind) ≡ tradeKind (errorOf (s b)) = kind ∙ ap tradeKind (error b) in
-      let long-is : toZ w64 (ofZ w64 (b .booking-of .result .long)) ≡ tradeLong (ps (s b)) (s b .args .account) (s b .args .series) (s b .args .side) (s b .args .quantity)
-      = read-back (b .booking-of .result .long) (c .before .before .struct-told .given .1 .0 .1) ∙ long b in
-      let short-is : toZ w64 (ofZ w64 (b .booking-of .result .short)) ≡ tradeShort (ps (s b)) (s b .args .account) (s b .args .series) (s b .args .side) (s b .args .quantity)
-      = read-back (b .booking-of .result .short) (c .before .struct-told2 .given .1 .1 .0 .1) ∙ short b in
+      let long-is : toZ w64 (ofZ w64 (b .booking-of .result .movement .long)) ≡ tradeLong (ps (s b)) (s b .args .account) (s b .args .series) (s b .args .side) (s b .args .quantity)
+      = read-back (b .booking-of .result .movement .long) (c .before .before .struct-told .given .0 .1) ∙ ap (λ (m : Movement). m .long) (movement b) in
+      let short-is : toZ w64 (ofZ w64 (b .booking-of .result .movement .short)) ≡ tradeShort (ps (s b)) (s b .args .account) (s b .args .series) (s b .args .side) (s b .args .quantity)
+      = read-back (b .booking-of .result .movement .short) (c .before .struct-told2 .given .1 .0 .1) ∙ ap (λ (m : Movement). m .short) (movement b) in
       c .new-record .ensures
       ∙ (λ i.
       newRecord
@@ -139,19 +137,16 @@ module _ (c : tie.After-insert-record) where
 -- The position that the trade leaves.
 module _ (c : tie.After-moved) where
   abbrev e : tie.After-booking-of
-  e = d (c .before .before .before .before)
+  e = d (c .before .before)
 
   leaves : c .moved .result ≡ leftOf (s e)
-  leaves =
-      (simp (read-back (e .booking-of .result .long) (c .before .before .struct-told3 .given .1 .0 .1), read-back (e .booking-of .result .short) (c .before .struct-told4 .given .1 .1 .0 .1))
-      at (c .moved .ensures))
-      ∙ left e
+  leaves = c .moved .ensures ∙ left e
 
 put : (c : tie.After-put-position) → c .put-position .last .0 ≡ putOne positionsLayout positionKey (ps (s (e (c .before .before)))) (leftOf (s (e (c .before .before))))
 put c = c .put-position .ensures .0 ∙ ap (putOne positionsLayout positionKey (ps (s (e (c .before .before))))) (leaves (c .before .before))
 
 -- The excess of a closing error.
-module _ (c : tie.After-struct-told5) where
+module _ (c : tie.After-struct-told3) where
   abbrev p : tie.After-put-position
   p = c .before .before .before .before
 
@@ -166,7 +161,7 @@ module _ (c : tie.After-struct-told5) where
   excess : (toZ w64 (ofZ w64 (s f .args .quantity)) -ℤ toZ w64 (ofZ w64 (f .booking-of .result .closed))) ≡ s f .args .quantity -ℤ closedOf (s f)
   excess =
       let closed-back : toZ w64 (ofZ w64 (f .booking-of .result .closed)) ≡ closedOf (s f)
-      = read-back (f .booking-of .result .closed) (c .struct-told5 .given .0 .1) ∙ closed f in
+      = read-back (f .booking-of .result .closed) (c .struct-told3 .given .0 .1) ∙ closed f in
       λ i. toZ-ofZ (s f .fits .quantity) i -ℤ closed-back i
 
 position-of-requires : tie.Need-position-of-requires
@@ -185,15 +180,14 @@ insert-record-requires c κs =
 
 moved-requires : tie.Need-moved-requires
 moved-requires c κs =
-    let b : tie.After-booking-of = d (c .before .before .before) in
-    simp (read-back (b .booking-of .result .long) (c .before .struct-told3 .given .1 .0 .1), read-back (b .booking-of .result .short) (c .struct-told4 .given .1 .1 .0 .1))
-    (booking-moves (s b .args .side) (s b .args .quantity) (b .before .position-of .result) (quantity-valid (s b)) (read-sound (b .before)) (b .booking-of .result) (booked b))
+    let b : tie.After-booking-of = d (c .before) in
+    booking-moves (s b .args .side) (s b .args .quantity) (b .before .position-of .result) (quantity-valid (s b)) (read-sound (b .before)) (b .booking-of .result) (booked b)
 
 put-position-requires : tie.Need-put-position-requires
 put-position-requires c κs = subst (λ (q : Position). PutReady (ps (s (e (c .before)))) q) (sym (leaves (c .before))) (puttable (s (e (c .before))))
 
-sub-t23 : tie.Need-sub-t23
-sub-t23 c = subst (SFits w64) (sym (excess c)) (excess-fits c)
+sub-t24 : tie.Need-sub-t24
+sub-t24 c = subst (SFits w64) (sym (excess c)) (excess-fits c)
 
 same-length : tie.Need-same-length
 same-length c = search needs
@@ -206,7 +200,7 @@ returns c =
     let s : tie.Start = s (f c) in
     let excess-back : toZ w64 (ofZ w64 (toZ w64 (ofZ w64 (s .args .quantity)) -ℤ toZ w64 (ofZ w64 (f c .booking-of .result .closed)))) ≡ s .args .quantity -ℤ closedOf s
     = ap (λ (z : ℤ). toZ w64 (ofZ w64 z)) (excess c) ∙ toZ-ofZ (excess-fits c) in
-    let i : tie.After-insert-record = p c .before .before .before .before .before .before in
+    let i : tie.After-insert-record = p c .before .before .before .before in
     ap (λ (z : ℤ). answered (ClosingError z) (i .insert-record .last .0) (p c .put-position .last .0)) excess-back
     ∙ trade-returns-error (rs s) (ps s) (s .args .id) (s .args .account) (s .args .series) (s .args .side) (s .args .quantity) (s .args .price)
     (i .insert-record .last .0) (p c .put-position .last .0) (inserted i) (put (p c)) (sym (error (f c)) ∙ c .before .before .if2 .taken)
@@ -221,7 +215,7 @@ returns-2 : tie.Need-returns-2
 returns-2 c =
     let p : tie.After-put-position = c .before .before in
     let s : tie.Start = s (e (p .before .before)) in
-    let i : tie.After-insert-record = p .before .before .before .before .before .before in
+    let i : tie.After-insert-record = p .before .before .before .before in
     trade-returns-plain (rs s) (ps s) (s .args .id) (s .args .account) (s .args .series) (s .args .side) (s .args .quantity) (s .args .price)
     (i .insert-record .last .0) (p .put-position .last .0) (inserted i) (put p) (sym (error (e (p .before .before))) ∙ c .if2 .left)
 
@@ -235,7 +229,7 @@ book-spec =
     insert-record-requires
     moved-requires
     put-position-requires
-    sub-t23
+    sub-t24
     same-length
     same-length-2
     returns

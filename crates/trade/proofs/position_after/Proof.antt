@@ -2,10 +2,8 @@
 use mathlib.Core.Path.{_≡_, sym, _∙_, ap}
 use mathlib.Core.Bool.{true}
 use borrow.Author.Needs.{needs}
-use lib.IntN.{pos}
 use mir.Facts.{toZ-ofZ}
-use Rattle.rules.specs.Rows.{soundPosition, moved}
-use Rattle.scan.proofs.ReadBack.{read-back}
+use Rattle.rules.specs.Rows.{soundPosition}
 use Rattle.verdict.proofs.Room.{positionRead}
 use Rattle.verdict.proofs.SoundReads.{position-read-sound}
 use Rattle.trade.specs.Booking.{bookingOf}
@@ -35,19 +33,14 @@ booking-of-requires c κs = simp (toZ-ofZ (s c .fits .quantity)) (s c .pre .1, s
 
 moved-requires : tie.Need-moved-requires
 moved-requires c κs =
-    let b : tie.After-booking-of = c .before .before in
-    let t : tie.Start = s (b .before) in
-    simp (read-back (b .booking-of .result .long) (c .before .struct-told .given .1 .0 .1), read-back (b .booking-of .result .short) (c .struct-told2 .given .1 .1 .0 .1))
-    (booking-moves (t .args .side) (t .args .quantity) (b .before .position-of .result) (t .pre .1) (sound (b .before)) (b .booking-of .result) (booked b))
+    let t : tie.Start = s (c .before) in
+    booking-moves (t .args .side) (t .args .quantity) (c .before .position-of .result) (t .pre .1) (sound (c .before)) (c .booking-of .result) (booked c)
 
 returns : tie.Need-returns
 returns c =
-    let b : tie.After-booking-of = c .before .before .before in
+    let b : tie.After-booking-of = c .before in
     let t : tie.Start = s (b .before) in
-    let left : c .moved .result ≡ moved (b .before .position-of .result) (b .booking-of .result .long) (b .booking-of .result .short) (pos 0)
-    = simp (read-back (b .booking-of .result .long) (c .before .before .struct-told .given .1 .0 .1), read-back (b .booking-of .result .short) (c .before .struct-told2 .given .1 .1 .0 .1))
-    at (c .moved .ensures) in
-    left
+    c .moved .ensures
     ∙ moved-is (t .args .cells .now) (t .args .account) (t .args .series) (t .args .side) (t .args .quantity)
     (b .before .position-of .result) (b .booking-of .result) (read (b .before)) (booked b)
     ∙ sym (after-is (t .args .cells .now) (t .args .account) (t .args .series) (t .args .side) (t .args .quantity))

@@ -2,7 +2,7 @@
 -- position put, each as the rules put it, one after the other. Assumes nothing.
 use Prim.Native.Nat.{_+_, _/_, _≤_, _<_}
 use native.Mathlib.Omega.{arith}
-use mathlib.Core.Path.{_≡_, refl, sym, _∙_, ap, subst}
+use mathlib.Core.Path.{_≡_, sym, _∙_, ap, subst}
 use mathlib.Core.Bool.{Bool, true, false}
 use mathlib.Core.List.{List, [], _∷_, map}
 use mathlib.Core.Option.{none}
@@ -14,10 +14,9 @@ use mir.Syntax.{w64}
 use mir.Val.{SFits, toZ, ofZ}
 use Rattle.integers.specs.Average.{averageOf, residualOf}
 use Rattle.integers.specs.Averageable.{Averageable}
-use Rattle.integers.specs.Order.{inRange}
 use Rattle.rules.specs.Figures.{magnitudeAtMost, isBuy, mergeKind}
 use Rattle.rules.specs.Keyed.{find, upsert, upsertAll, absentFrom}
-use Rattle.rules.specs.Rows.{recordKey, positionKey, soundRecord, soundPosition, validBooked, newRecord}
+use Rattle.rules.specs.Rows.{recordKey, positionKey, soundRecord, soundPosition, newRecord}
 use Rattle.rules.specs.Refusal.{anyOf, allOf}
 use Rattle.rules.specs.Layout.{roomOf, rowsOf, write}
 use Rattle.rules.specs.Tables.{recordsLayout, positionsLayout}
@@ -27,6 +26,7 @@ use Rattle.rules.specs.declared.Record.{Record}
 use Rattle.rules.specs.declared.Position.{Position}
 use Rattle.rules.specs.declared.Reply.the-variants.{Booked}
 use Rattle.scan.proofs.ReadBack.{read-back}
+use Rattle.verdict.proofs.Moves.{merge-moves}
 use Rattle.verdict.proofs.Room.{positionRead}
 use Rattle.verdict.proofs.SoundReads.{position-read-sound}
 use Rattle.merge_sources.specs.Sources.{sourcesIn, sourceRecords, allFound}
@@ -162,10 +162,6 @@ position-is c =
     let s : tie.Start = start4 c in
     simp (toZ-ofZ (s .fits .account), toZ-ofZ (s .fits .series)) at (c .position-of .ensures)
 
-none-booked : validBooked (pos 0) ≡ true
-unfolding validBooked magnitudeAtMost inRange
-none-booked = refl
-
 left-is : (c : tie.After-moved) → c .moved .result ≡ mergePosition (ps (start4 (c .before))) (account (start4 (c .before))) (series (start4 (c .before))) (sources (start4 (c .before)))
 left-is c = rw (position-is (c .before), residual-is (c .before .before .before .before)) at (c .moved .ensures)
 
@@ -247,7 +243,8 @@ position-of-requires c κs = search needs
 moved-requires : tie.Need-moved-requires
 moved-requires c κs =
     let s : tie.Start = start4 c in
-    rw (position-is c, residual-is (c .before .before .before)) (position-read-sound (ps s) (s .pre .1) (account s) (series s), none-booked, none-booked, small-residual s)
+    rw (position-is c, residual-is (c .before .before .before))
+    (merge-moves (positionRead (ps s) (account s) (series s)) (mergeResidual (sources s)) (position-read-sound (ps s) (s .pre .1) (account s) (series s)) (small-residual s))
 
 adjust-sources-requires : tie.Need-adjust-sources-requires
 adjust-sources-requires c κs =

@@ -2,7 +2,7 @@
 -- which remain, and each return is the one that applies. Assumes nothing.
 use Prim.Native.Nat.{ℕ, _+_, _/_, _≤_}
 use native.Mathlib.Omega.{arith}
-use mathlib.Core.Path.{_≡_, refl, sym, _∙_, ap}
+use mathlib.Core.Path.{_≡_, sym, _∙_, ap}
 use mathlib.Core.Bool.{Bool, true, false, not}
 use mathlib.Core.List.{List, map}
 use borrow.Author.Needs.{needs, sfits-of}
@@ -16,11 +16,10 @@ use mir.Syntax.{w64}
 use mir.Val.{SFits, toZ, ofZ}
 use Rattle.integers.specs.Average.{residualOf}
 use Rattle.integers.specs.Averageable.{Averageable}
-use Rattle.integers.specs.Order.{inRange}
 use Rattle.integers.proofs.Linear.{zarith}
 use Rattle.rules.specs.Figures.{magnitudeAtMost, mostQuantity}
 use Rattle.rules.specs.Keyed.{isSome}
-use Rattle.rules.specs.Rows.{soundPosition, validBooked}
+use Rattle.rules.specs.Rows.{soundPosition}
 use Rattle.rules.specs.Refusal.{anyOf}
 use Rattle.rules.specs.Layout.{roomOf, rowsOf}
 use Rattle.rules.specs.Tables.{positionsLayout}
@@ -29,6 +28,7 @@ use Rattle.rules.specs.declared.Record.{Record}
 use Rattle.figures.proofs.Tests.{failed, passed}
 use Rattle.verdict.specs.Verdict.{absentPosition}
 use Rattle.verdict.proofs.Remaining.{_past_, stops, ends}
+use Rattle.verdict.proofs.Moves.{merge-moves}
 use Rattle.verdict.proofs.Room.{positionRead, absent-at-most-one}
 use Rattle.verdict.proofs.SoundReads.{position-read-sound}
 use Rattle.merge_sources.specs.Sources.{sourcesIn, sourceRecords}
@@ -205,10 +205,6 @@ position-is c =
     let s : tie.Start = s6 (c .before) in
     simp (toZ-ofZ (s .fits .account), toZ-ofZ (s .fits .series)) at (c .position-of .ensures)
 
-none-booked : validBooked (pos 0) ≡ true
-unfolding validBooked magnitudeAtMost inRange
-none-booked = refl
-
 moved-is : (c : tie.After-moved) →
     c .moved .result ≡ mergePosition (ps (s6 (c .before .before))) (account (s6 (c .before .before))) (series (s6 (c .before .before))) (sources (s6 (c .before .before)))
 moved-is c = rw (position-is (c .before), residual-is (c .before .before)) at (c .moved .ensures)
@@ -239,7 +235,7 @@ moved-requires : tie.Need-moved-requires
 moved-requires c κs =
     let s : tie.Start = s6 (c .before) in
     rw (position-is c, residual-is (c .before))
-    (position-read-sound (ps s) (s .pre .0 .1) (account s) (series s), none-booked, none-booked, small-residual (c .before))
+    (merge-moves (positionRead (ps s) (account s) (series s)) (mergeResidual (sources s)) (position-read-sound (ps s) (s .pre .0 .1) (account s) (series s)) (small-residual (c .before)))
 
 sound-position-requires : tie.Need-sound-position-requires
 sound-position-requires c κs = search needs

@@ -11,7 +11,7 @@ use mir.Syntax.{w64}
 use mir.Val.{toZ, ofZ}
 use Rattle.rules.specs.Figures.{transferKind}
 use Rattle.rules.specs.Rows.{keyOf, recordKey, positionKey, adjustedRecord, adjustableRecord, moved}
-use Rattle.rules.specs.Transfer.{inLong, inShort}
+use Rattle.rules.specs.Transfer.{inLong, inShort, inSide}
 use Rattle.rules.specs.Layout.{roomOf, rowsOf, startOf}
 use Rattle.rules.specs.Tables.{recordsLayout, positionsLayout}
 use Rattle.rules.specs.declared.Record.{Record}
@@ -126,7 +126,7 @@ module _ (c : tie.After-taken-from) where
   pub taken-is : c .taken-from .result ≡ transferOld (ps (s read4)) (r read4) (from (s read4)) (series (s read4))
   taken-is =
       c .taken-from .ensures
-      ∙ ap (λ (p : Position). moved p (inLong (r read4 .side) (negℤ (r read4 .quantity))) (inShort (r read4 .side) (negℤ (r read4 .quantity))) (pos 0)) (old-is read4)
+      ∙ ap (λ (p : Position). moved p (inSide (r read4 .side) (negℤ (r read4 .quantity)))) (old-is read4)
 
 module _ (c : tie.After-put-position) where
   pub old-put : c .put-position .last .0
