@@ -1,6 +1,6 @@
 -- What is known in `transfer::book` after each change: the record adjusted, the gap for two rows and each of them written, then the two positions put.
 -- Assumes nothing.
-use Prim.Native.Nat.{suc, _+_, _*_, _≤_, _<_}
+use Prim.Native.Nat.{suc, _+_, _≤_, _<_}
 use mathlib.Core.Path.{_≡_, sym, _∙_, ap}
 use mathlib.Core.List.{List, [], _∷_}
 use lib.IntN.{ℤ, pos, negℤ, _+ℤ_}
@@ -16,7 +16,7 @@ use Rattle.rules.specs.Layout.{roomOf, rowsOf, startOf}
 use Rattle.rules.specs.Tables.{recordsLayout, positionsLayout}
 use Rattle.rules.specs.declared.Record.{Record}
 use Rattle.rules.specs.declared.Position.{Position}
-use Rattle.lookup.specs.Lookup.{rowPlace, placeIn}
+use Rattle.lookup.specs.Lookup.{placeIn}
 use Rattle.soundness.proofs.NamedRecord.{nextOf}
 use Rattle.verdict.proofs.Puts.{putOne, putAll}
 use Rattle.verdict.proofs.Transfer.{transferInverse, transferArrived, transferOld, transferNew}
