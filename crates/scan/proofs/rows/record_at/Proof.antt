@@ -1,13 +1,29 @@
 -- `scan::rows::record_at` meets its contract: each figure is its cell, read back from its bits.
 -- Assumes nothing.
-use Prim.Native.Nat.{ℕ, _+_}
+use Prim.Native.Nat.{ℕ, _+_, _*_, _<_}
+use native.Mathlib.Omega.{arith}
 use mathlib.Core.List.{List}
 use borrow.Author.Needs.{needs}
+use lib.Dec.{lit<}
 use lib.IntN.{ℤ, pos}
-use lib.ListN.{getD}
+use lib.ListN.{length, getD}
+use mir.Syntax.{w64}
+use mir.Val.{Fits}
+use Rattle.rules.specs.Tables.{recordsLayout}
 use Rattle.scan.proofs.ReadBack.{read-back}
 use Rattle.scan.proofs.rows.record_at.Statement.{statement}
 use Rattle.scan.proofs.rows.record_at.Tie as tie
+
+-- the row's cells, from its first one on: each is within the slice, and its place fits a `usize`, in bytes too
+module _ (s : tie.Start) (k : ℕ) (h : k < recordsLayout .width) where
+  within : s .args .at + k < length (s .args .cells .now)
+  within = omega arith
+
+  sum-fits : Fits w64 (s .args .at + k)
+  sum-fits = omega arith
+
+  bytes-fit : Fits w64 ((s .args .at + k) * 8)
+  bytes-fit = omega arith
 
 returns : tie.Need-returns
 returns c =
@@ -36,40 +52,40 @@ record-at-spec =
     (tie.spec
     (λ c. search needs)
     (λ c. search needs)
-    (λ c. search needs)
-    (λ c. search needs)
-    (λ c. search needs)
-    (λ c. search needs)
-    (λ c. search needs)
-    (λ c. search needs)
-    (λ c. search needs)
-    (λ c. search needs)
-    (λ c. search needs)
-    (λ c. search needs)
-    (λ c. search needs)
-    (λ c. search needs)
-    (λ c. search needs)
-    (λ c. search needs)
-    (λ c. search needs)
-    (λ c. search needs)
-    (λ c. search needs)
-    (λ c. search needs)
-    (λ c. search needs)
-    (λ c. search needs)
-    (λ c. search needs)
-    (λ c. search needs)
-    (λ c. search needs)
-    (λ c. search needs)
-    (λ c. search needs)
-    (λ c. search needs)
-    (λ c. search needs)
-    (λ c. search needs)
-    (λ c. search needs)
-    (λ c. search needs)
-    (λ c. search needs)
-    (λ c. search needs)
-    (λ c. search needs)
-    (λ c. search needs)
-    (λ c. search needs)
-    (λ c. search needs)
+    (λ c. sum-fits (c .before) _ (lit< tt))
+    (λ c. bytes-fit (c .before) _ (lit< tt))
+    (λ c. within (c .before) _ (lit< tt))
+    (λ c. sum-fits (c .before .before) _ (lit< tt))
+    (λ c. bytes-fit (c .before .before) _ (lit< tt))
+    (λ c. within (c .before .before) _ (lit< tt))
+    (λ c. sum-fits (c .before .before .before) _ (lit< tt))
+    (λ c. bytes-fit (c .before .before .before) _ (lit< tt))
+    (λ c. within (c .before .before .before) _ (lit< tt))
+    (λ c. sum-fits (c .before .before .before .before) _ (lit< tt))
+    (λ c. bytes-fit (c .before .before .before .before) _ (lit< tt))
+    (λ c. within (c .before .before .before .before) _ (lit< tt))
+    (λ c. sum-fits (c .before .before .before .before .before) _ (lit< tt))
+    (λ c. bytes-fit (c .before .before .before .before .before) _ (lit< tt))
+    (λ c. within (c .before .before .before .before .before) _ (lit< tt))
+    (λ c. sum-fits (c .before .before .before .before .before .before) _ (lit< tt))
+    (λ c. bytes-fit (c .before .before .before .before .before .before) _ (lit< tt))
+    (λ c. within (c .before .before .before .before .before .before) _ (lit< tt))
+    (λ c. sum-fits (c .before .before .before .before .before .before .before) _ (lit< tt))
+    (λ c. bytes-fit (c .before .before .before .before .before .before .before) _ (lit< tt))
+    (λ c. within (c .before .before .before .before .before .before .before) _ (lit< tt))
+    (λ c. sum-fits (c .before .before .before .before .before .before .before .before) _ (lit< tt))
+    (λ c. bytes-fit (c .before .before .before .before .before .before .before .before) _ (lit< tt))
+    (λ c. within (c .before .before .before .before .before .before .before .before) _ (lit< tt))
+    (λ c. sum-fits (c .before .before .before .before .before .before .before .before .before) _ (lit< tt))
+    (λ c. bytes-fit (c .before .before .before .before .before .before .before .before .before) _ (lit< tt))
+    (λ c. within (c .before .before .before .before .before .before .before .before .before) _ (lit< tt))
+    (λ c. sum-fits (c .before .before .before .before .before .before .before .before .before .before) _ (lit< tt))
+    (λ c. bytes-fit (c .before .before .before .before .before .before .before .before .before .before) _ (lit< tt))
+    (λ c. within (c .before .before .before .before .before .before .before .before .before .before) _ (lit< tt))
+    (λ c. sum-fits (c .before .before .before .before .before .before .before .before .before .before .before) _ (lit< tt))
+    (λ c. bytes-fit (c .before .before .before .before .before .before .before .before .before .before .before) _ (lit< tt))
+    (λ c. within (c .before .before .before .before .before .before .before .before .before .before .before) _ (lit< tt))
+    (λ c. sum-fits (c .before .before .before .before .before .before .before .before .before .before .before .before) _ (lit< tt))
+    (λ c. bytes-fit (c .before .before .before .before .before .before .before .before .before .before .before .before) _ (lit< tt))
+    (λ c. within (c .before .before .before .before .before .before .before .before .before .before .before .before) _ (lit< tt))
     returns)
