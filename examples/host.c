@@ -1,5 +1,5 @@
 /*
- * A host: lends two tables, books document 01's worked example P11, and prints both tables and a refusal.
+ * A host: lends two tables, books document 01's worked example P11, and prints both tables, a refusal, and a list of trades that stops.
  *
  *     cc -std=c11 -Iinclude examples/host.c target/staticlib/libvelichundam.a -o host
  */
@@ -8,7 +8,7 @@
 
 #include "velichundam.h"
 
-#define RECORDS_LEN VELICHUNDAM_RECORDS_LEN(8)
+#define RECORDS_LEN VELICHUNDAM_RECORDS_LEN(12)
 #define POSITIONS_LEN VELICHUNDAM_POSITIONS_LEN(4)
 
 static int64_t records[RECORDS_LEN];
@@ -50,6 +50,9 @@ static void print_reply(const char *request, velichundam_reply r)
     case VELICHUNDAM_LINEAGE:
         printf("price %" PRId64 ", links %" PRId64 "\n", r.first, r.second);
         break;
+    case VELICHUNDAM_STOPPED:
+        printf("stopped, booked %" PRId64 ", number %" PRId64 " (%s), place %" PRId64 "\n", r.first, r.second, why(r.second), r.third);
+        break;
     default:
         printf("refused, number %" PRId64 " (%s), place %" PRId64 "\n", r.first, why(r.first), r.second);
     }
@@ -63,6 +66,28 @@ static void print_table(const char *title, const int64_t *table, size_t width)
             printf("%s%" PRId64, cell == 0 ? "| " : " | ", table[1 + row * width + cell]);
         printf(" |\n");
     }
+}
+
+/* A morning's trades. The third has an id that is taken, so the first two are booked and the fourth is not tried. */
+static void book_a_morning(void)
+{
+    enum { TRADES = 4 };
+    const int64_t trades[TRADES * VELICHUNDAM_TRADE_FIGURES] = {
+        500002, 3, 1, VELICHUNDAM_BUY_OPEN, 40, 1250000000,
+        500001, 3, 1, VELICHUNDAM_SELL_CLOSE, 60, 1260000000,
+        456789, 3, 1, VELICHUNDAM_BUY_OPEN, 10, 1250000000,
+        500003, 3, 1, VELICHUNDAM_BUY_OPEN, 10, 1250000000
+    };
+    int64_t excess[TRADES] = {-1, -1, -1, -1};
+
+    print_reply("morning", velichundam_trades(records, RECORDS_LEN, positions, POSITIONS_LEN,
+        trades, TRADES * VELICHUNDAM_TRADE_FIGURES, excess, TRADES));
+    printf("excess:");
+    for (int k = 0; k < TRADES; k++)
+        printf(" %" PRId64, excess[k]);
+    printf("\n");
+    print_table("records", records, VELICHUNDAM_RECORD_CELLS);
+    print_table("positions", positions, VELICHUNDAM_POSITION_CELLS);
 }
 
 int main(void)
@@ -83,5 +108,8 @@ int main(void)
     printf("\n");
     print_reply("separation again", velichundam_separate(records, RECORDS_LEN, positions, POSITIONS_LEN,
         456789, 2, 2, 1, again, sizeof again / sizeof again[0]));
+
+    printf("\n");
+    book_a_morning();
     return 0;
 }

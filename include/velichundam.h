@@ -3,10 +3,11 @@
  *
  * The book lives in two tables that the host owns and lends for the length of a call: plain arrays of signed 64-bit numbers. Nothing is
  * allocated, nothing is kept between calls, and no call does input or output. Four requests book: trade, separation, account transfer and
- * average-price merge. One question, lineage, only reads.
+ * average-price merge; a list of trades may be handed in by one call. One question, lineage, only reads.
  *
- * Every call takes any tables of any length with any contents and any figures, and answers. A request that is refused changes nothing. What each
- * call answers and what it leaves in every cell is proved of the code behind these functions (see crates/velichundam/src/lib.rt).
+ * Every call takes any tables of any length with any contents and any figures, and answers. A request that is refused changes nothing; a list of
+ * trades stops at the first that is refused, and those before it stay booked. What each call answers and what it leaves in every cell is proved of
+ * the code behind these functions (see crates/velichundam/src/lib.rt).
  *
  * docs/RULES.md has the rules of the book for a host's author: what each request writes, row by row with every cell, and the refusals in order.
  *
@@ -44,6 +45,7 @@
  *     price           -1,000,000,000,000 to 1,000,000,000,000, in units of 0.0000001
  *     long, short     0 to 1,000,000,000,000, in a position   cash             magnitude at most 1,000,000,000,000,000
  *     parts of a separation, sources of a merge               2 to 1,000
+ *     trades in one call                                      1 to 1,000
  *
  * In a record the type is 0, 4, 6, 10 or 901; the status 0, 1 or 2; the quantity is not 0, has magnitude at most 1,000,000 and is negative
  * exactly where the status is 2; the two booked cells have magnitude at most 1,000,000; into is 0 or an id; the parent is below the suffix, or
@@ -54,9 +56,9 @@
  *
  * For the length of a call:
  *   - a pointer points to as many int64_t as its length says, aligned as int64_t is, and is not NULL even where the length is 0;
- *   - that memory may be read, and written for the two tables (not for a parameter that is const);
- *   - records, positions and the list share no cell with each other;
- *   - nobody else writes any of them, nor reads a table that the call may write: where threads share a book, hold a lock.
+ *   - that memory may be read, and written for the two tables and the excesses (not for a parameter that is const);
+ *   - records, positions, the list and the excesses share no cell with each other;
+ *   - nobody else writes any of them, nor reads what the call may write: where threads share a book, hold a lock.
  *
  * Different tables may be used from different threads at the same time: the functions have no state of their own.
  *
@@ -66,9 +68,9 @@
  * itself on the parent, once for each link, and a table of 4,096 records has chains of up to 4,095 links. A merge keeps the rows of its sources in
  * an array of 1,000 numbers of 16 bits. In bytes, from the host's call down, rounded up:
  *
- *     lineage                        270,000 at the longest chain: 64 for each link, and 200
- *     merge                            3,000
- *     trade, separation, transfer      1,000
+ *     lineage                                270,000 at the longest chain: 64 for each link, and 200
+ *     merge                                    3,000
+ *     trade, trades, separation, transfer      1,000
  *
  * These were measured with this archive on x86-64, on full tables, the longest chain, and lists of 1,000. They are no part of what is proved. The
  * C library's memmove and memset are in them, but not the dynamic linker: where it looks these two up at the first call (lazy binding), that call
@@ -91,6 +93,10 @@ extern "C" {
 #define VELICHUNDAM_POSITION_CELLS 5
 #define VELICHUNDAM_MOST_RECORDS 4096
 #define VELICHUNDAM_MOST_POSITIONS 1024
+
+/* Figures of a trade in a list, and the most trades that one call takes. */
+#define VELICHUNDAM_TRADE_FIGURES 6
+#define VELICHUNDAM_MOST_TRADES 1000
 
 /* How many cells a table takes that has room for so many rows. */
 #define VELICHUNDAM_RECORDS_LEN(rows) (VELICHUNDAM_RECORDS_HEADER + (size_t)VELICHUNDAM_RECORD_CELLS * (rows))
@@ -121,29 +127,32 @@ enum {
 };
 
 /*
- * An answer: which of four it is, and two numbers.
+ * An answer: which of five it is, and up to three numbers. A number that an answer lacks is 0.
  *
- *     kind                            first                            second
+ *     kind                            first                            second                          third
  *     0 VELICHUNDAM_BOOKED            rows added to the records table  residual (0 but for a merge)
- *     1 VELICHUNDAM_CLOSING_ERROR     excess (the trade is booked)     0
+ *     1 VELICHUNDAM_CLOSING_ERROR     excess (the trade is booked)
  *     2 VELICHUNDAM_LINEAGE           price of the original            links followed
  *     3 VELICHUNDAM_REFUSED           number, 1 to 16                  place
+ *     4 VELICHUNDAM_STOPPED           trades booked                    number                          place
  */
 typedef struct velichundam_reply {
     int64_t kind;
     int64_t first;
     int64_t second;
+    int64_t third;
 } velichundam_reply;
 
 enum {
     VELICHUNDAM_BOOKED = 0,
     VELICHUNDAM_CLOSING_ERROR = 1,
     VELICHUNDAM_LINEAGE = 2,
-    VELICHUNDAM_REFUSED = 3
+    VELICHUNDAM_REFUSED = 3,
+    VELICHUNDAM_STOPPED = 4
 };
 
 /*
- * Why a request is refused: the lowest number that applies.
+ * Why a request is refused, or why a list of trades stops: the lowest number that applies.
  *
  * The place is the position in the list, from 0, of the first source that fails, for 5 to 10 in a merge; otherwise 0. In a merge each test runs
  * over the whole list before the next number is tried.
@@ -153,7 +162,8 @@ enum {
     VELICHUNDAM_RECORDS_NOT_SOUND = 1,
     /* The positions table is not sound. Not for lineage. */
     VELICHUNDAM_POSITIONS_NOT_SOUND = 2,
-    /* A figure of the request, an element of its list or the list's count is out of range; the list of pairs has an odd length; from equals to. */
+    /* A figure of the request, an element of its list or the list's count is out of range; the list of pairs has an odd length; from equals to;
+     * the list of trades has no multiple of six figures, or fewer cells for the excesses than trades. */
     VELICHUNDAM_OUT_OF_RANGE = 3,
     /* Trade, merge: the new id has a record already, under whatever suffix. */
     VELICHUNDAM_ID_TAKEN = 4,
@@ -193,6 +203,21 @@ enum {
  */
 velichundam_reply velichundam_trade(int64_t *records, size_t records_len, int64_t *positions, size_t positions_len,
     int64_t id, int64_t account, int64_t series, int64_t side, int64_t quantity, int64_t price);
+
+/*
+ * Books a list of trades, each as velichundam_trade does, one by one up to the first that is refused. trades holds id, account, series, side,
+ * quantity, price, id, ..: trades_len is six times the number of trades, 1 to 1,000. A trade sees what those before it in the list have booked.
+ * excess has a cell for each listed trade, or more. The cell of a booked trade gets the excess of its closing error, 0 if it has none; the cells of
+ * trades that are not booked, and those past the trades, stay as they were.
+ *
+ * Answers booked (a row for each trade) where all are booked. Otherwise stopped: how many were booked, which is also the refused trade's place in
+ * the list from 0, and that trade's refusal, by 3, 4, 14, 15 or 16 with place 0. It and those after it change nothing. A figure out of range in a
+ * trade is that trade's refusal, so the list stops there.
+ *
+ * Refuses by 1, 2, and by 3 for the list as a whole: its length, the number of trades, or fewer cells of excess than trades. Nothing is written then.
+ */
+velichundam_reply velichundam_trades(int64_t *records, size_t records_len, int64_t *positions, size_t positions_len,
+    const int64_t *trades, size_t trades_len, int64_t *excess, size_t excess_len);
 
 /*
  * Separates a record into parts, which use up its whole quantity. The record becomes adjusted; an inverse row and a row for each part follow, with

@@ -1,6 +1,7 @@
 //! A day's bookings, from an empty book on: the same list of requests for each way to keep it.
 
 use crate::request::{by_hand, ours, Book, Coded, Request, KINDS, REFUSED};
+use crate::rng::Rng;
 use crate::sqlite::SqlBook;
 use std::time::Instant;
 use velichundam::{positions_len, records_len, MOST_POSITIONS, MOST_RECORDS, RECORDS_HEADER, RECORD_CELLS};
@@ -14,19 +15,6 @@ pub struct Day {
 
 fn empty_tables() -> (Vec<i64>, Vec<i64>) {
     (vec![0; records_len(MOST_RECORDS)], vec![0; positions_len(MOST_POSITIONS)])
-}
-
-/// splitmix64
-struct Rng(u64);
-
-impl Rng {
-    fn below(&mut self, n: usize) -> usize {
-        self.0 = self.0.wrapping_add(0x9e37_79b9_7f4a_7c15);
-        let mut z = self.0;
-        z = (z ^ (z >> 30)).wrapping_mul(0xbf58_476d_1ce4_e5b9);
-        z = (z ^ (z >> 27)).wrapping_mul(0x94d0_49bb_1331_11eb);
-        ((z ^ (z >> 31)) % n as u64) as usize
-    }
 }
 
 impl Day {

@@ -1,15 +1,17 @@
-//! The time of a request, for the proved book, for the same written by hand in Rust, and for SQLite: `cargo run --release -- [--samples N] [--days N]`.
-//! No time is asserted; that the books agree is.
+//! The time of a request, for the proved book, for the same written by hand in Rust, and for SQLite:
+//! `cargo run --release -- [--samples N] [--batches N] [--days N]`. No time is asserted; that the books agree is.
 
+mod batch;
 mod calls;
 mod day;
 mod request;
+mod rng;
 mod sqlite;
 mod stats;
 
 use request::KINDS;
 use sqlite::SqlBook;
-use stats::spread;
+use stats::{spread, Spread};
 
 fn number(words: &[String], name: &str, otherwise: usize) -> usize {
     let at = words.iter().position(|word| word == name);
@@ -18,24 +20,60 @@ fn number(words: &[String], name: &str, otherwise: usize) -> usize {
 
 fn main() {
     let words: Vec<String> = std::env::args().collect();
-    let (samples, days) = (number(&words, "--samples", 1_000), number(&words, "--days", 15));
+    print_calls(number(&words, "--samples", 1_000));
+    print_batches(number(&words, "--batches", 50));
+    print_day(number(&words, "--days", 15));
+}
 
+fn cell(s: Spread) -> String {
+    format!("{:.0} [{:.0} .. {:.0}]", s.median, s.low, s.high)
+}
+
+fn print_calls(samples: usize) {
     println!("One call, in nanoseconds: median of {samples} samples [a tenth below .. a tenth above]. Tables are restored before each call, untimed.\n");
     println!("| request    |  rows |                     ours |              by hand, Rust | ours / by hand |");
     println!("|------------|------:|-------------------------:|---------------------------:|---------------:|");
     for line in calls::measure(samples) {
-        let cell = |s: stats::Spread| format!("{:.0} [{:.0} .. {:.0}]", s.median, s.low, s.high);
         let ratio = line.ours.median / line.by_hand.median;
         println!("| {:<10} | {:>5} | {:>24} | {:>26} | {ratio:>14.2} |", KINDS[line.kind], line.rows, cell(line.ours), cell(line.by_hand));
     }
+}
 
+fn print_batches(samples: usize) {
+    let sql = SqlBook::open();
+    println!(
+        "\n1,000 trades in one call, in nanoseconds a trade: median of {samples} samples [a tenth below .. a tenth above]. Tables are restored before each,"
+    );
+    println!("untimed. Rising ids come after the table's, shuffled ones lie all over it. One by one: the same trades by our call for one trade.");
+    println!("{}\n", sql_note(&sql, "all trades in one transaction"));
+    println!(
+        "| ids      |  rows |                  ours |         by hand, Rust | one by one |   SQLite | ours / by hand | one by one / ours | SQLite / ours |"
+    );
+    println!(
+        "|----------|------:|----------------------:|----------------------:|-----------:|---------:|---------------:|------------------:|--------------:|"
+    );
+    for line in batch::measure(samples, sql) {
+        let ids = if line.shuffled { "shuffled" } else { "rising" };
+        let (ours, by_hand, singly) = (line.ours.median, line.by_hand.median, line.one_by_one);
+        let (sqlite, against) = line.sqlite.map_or(("-".into(), "-".into()), |time| (format!("{time:.0}"), format!("{:.2}", time / ours)));
+        print!("| {ids:<8} | {:>5} | {:>21} | {:>21} | {singly:>10.0} | {sqlite:>8} ", line.rows, cell(line.ours), cell(line.by_hand));
+        println!("| {:>14.2} | {:>17.2} | {against:>13} |", ours / by_hand, singly / ours);
+    }
+}
+
+fn sql_note(sql: &Option<SqlBook>, how: &str) -> String {
+    match sql {
+        Some(book) => format!("SQLite {} in memory, {how}.", book.version()),
+        None => "SQLite is skipped: the library libsqlite3 is not installed.".to_string(),
+    }
+}
+
+fn print_day(days: usize) {
     let day = day::Day::new(1);
     let counts = day.counts();
     let sql = SqlBook::open();
-    match &sql {
-        Some(book) => println!("\nA day of {} requests from an empty book on, in microseconds a request: median of {days} days. SQLite {} in memory.\n", day.requests.len(), book.version()),
-        None => println!("\nA day of {} requests from an empty book on, in microseconds a request: median of {days} days.\nSQLite is skipped: the library libsqlite3 is not installed.\n", day.requests.len()),
-    }
+    println!("\nA day of {} requests from an empty book on, in microseconds a request: median of {days} days.", day.requests.len());
+    println!("{}\n", sql_note(&sql, "a transaction for each"));
     println!("| request    | count |     ours |  by hand |   SQLite | ours / by hand | SQLite / ours |");
     println!("|------------|------:|---------:|---------:|---------:|---------------:|--------------:|");
     for (kind, ways) in day.measure(days, sql).into_iter().enumerate() {

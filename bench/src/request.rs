@@ -1,7 +1,7 @@
 //! A request, and the two books that answer it on lent tables: the archive through its C interface, and the peer by hand.
 
 pub use velichundam::c::Coded;
-use velichundam::c::{velichundam_lineage, velichundam_merge, velichundam_separate, velichundam_trade, velichundam_transfer};
+use velichundam::c::{velichundam_lineage, velichundam_merge, velichundam_separate, velichundam_trade, velichundam_trades, velichundam_transfer};
 
 #[derive(Clone, Debug)]
 pub enum Request {
@@ -27,6 +27,7 @@ impl Request {
 }
 
 pub const REFUSED: i64 = 3;
+const STOPPED: i64 = 4;
 
 pub type Book = fn(&mut [i64], &mut [i64], &Request) -> Coded;
 
@@ -57,11 +58,46 @@ pub fn by_hand(records: &mut [i64], positions: &mut [i64], request: &Request) ->
         Request::Merge { id, account, series, pairs } => peer::merge(records, positions, *id, *account, *series, pairs),
         Request::Lineage { id, suffix } => peer::lineage(records, *id, *suffix),
     };
-    let (kind, first, second) = match reply {
-        peer::Reply::Booked { rows, residual } => (0, rows, residual),
-        peer::Reply::ClosingError { excess } => (1, excess, 0),
-        peer::Reply::Lineage { price, links } => (2, price, links),
-        peer::Reply::Refused { number, place } => (REFUSED, number, place),
+    coded(reply)
+}
+
+fn coded(reply: peer::Reply) -> Coded {
+    let (kind, first, second, third) = match reply {
+        peer::Reply::Booked { rows, residual } => (0, rows, residual, 0),
+        peer::Reply::ClosingError { excess } => (1, excess, 0, 0),
+        peer::Reply::Lineage { price, links } => (2, price, links, 0),
+        peer::Reply::Refused { number, place } => (REFUSED, number, place, 0),
+        peer::Reply::Stopped { booked, number, place } => (STOPPED, booked, number, place),
     };
-    Coded { kind, first, second }
+    Coded { kind, first, second, third }
+}
+
+/// Books a list of trades, six figures each, and writes each one's excess.
+pub type TradesBook = fn(&mut [i64], &mut [i64], &[i64], &mut [i64]) -> Coded;
+
+/// The archive, in one call.
+#[inline(never)]
+pub fn trades_of_ours(records: &mut [i64], positions: &mut [i64], trades: &[i64], excess: &mut [i64]) -> Coded {
+    let (r, p, e) = (records.as_mut_ptr(), positions.as_mut_ptr(), excess.as_mut_ptr());
+    unsafe { velichundam_trades(r, records.len(), p, positions.len(), trades.as_ptr(), trades.len(), e, excess.len()) }
+}
+
+/// The peer, in one call.
+#[inline(never)]
+pub fn trades_by_hand(records: &mut [i64], positions: &mut [i64], trades: &[i64], excess: &mut [i64]) -> Coded {
+    coded(peer::trades(records, positions, trades, excess))
+}
+
+/// The archive, a call for each trade.
+#[inline(never)]
+pub fn one_by_one(records: &mut [i64], positions: &mut [i64], trades: &[i64], excess: &mut [i64]) -> Coded {
+    let (r, rn, p, pn) = (records.as_mut_ptr(), records.len(), positions.as_mut_ptr(), positions.len());
+    let (trades, _) = trades.as_chunks::<6>();
+    for (booked, (&[id, account, series, side, quantity, price], cell)) in trades.iter().zip(excess).enumerate() {
+        match unsafe { velichundam_trade(r, rn, p, pn, id, account, series, side, quantity, price) } {
+            Coded { kind: REFUSED, first, second, .. } => return Coded { kind: STOPPED, first: booked as i64, second: first, third: second },
+            Coded { kind, first, .. } => *cell = if kind == 1 { first } else { 0 },
+        }
+    }
+    Coded { kind: 0, first: trades.len() as i64, second: 0, third: 0 }
 }

@@ -1,5 +1,5 @@
-//! The same book kept in SQLite, in memory: the two tables as SQL tables, a transaction for each request, prepared statements. SQLite keeps the rows
-//! sound by CHECK constraints and finds them by their keys; its tables have no room, so 14 and 15 are not tested.
+//! The same book kept in SQLite, in memory: the two tables as SQL tables, a transaction for each request or for a list of trades, prepared statements.
+//! SQLite keeps the rows sound by CHECK constraints and finds them by their keys; its tables have no room, so 14 and 15 are not tested.
 //!
 //! The library is opened at run time, where it is installed.
 
@@ -239,9 +239,39 @@ impl SqlBook {
             }
             Err(Stop::Refused(number, place)) => {
                 self.run(self.rollback, &[]);
-                Coded { kind: REFUSED, first: number, second: place as i64 }
+                Coded { kind: REFUSED, first: number, second: place as i64, third: 0 }
             }
         }
+    }
+
+    /// A list of trades in one transaction; each one's excess is written. It is taken back whole where a trade is refused: what is measured is booked whole.
+    pub fn trades(&mut self, trades: &[i64], excess: &mut [i64]) -> Coded {
+        self.run(self.begin, &[]);
+        let (trades, _) = trades.as_chunks::<6>();
+        for (&[id, account, series, side, quantity, price], cell) in trades.iter().zip(excess) {
+            match self.trade(id, account, series, side, quantity, price) {
+                Ok(answer) => *cell = if answer.kind == 1 { answer.first } else { 0 },
+                Err(Stop::Refused(number, _)) => {
+                    self.run(self.rollback, &[]);
+                    return Coded { kind: REFUSED, first: number, second: 0, third: 0 };
+                }
+            }
+        }
+        self.run(self.commit, &[]);
+        booked(trades.len(), 0)
+    }
+
+    /// Takes over the rows of two lent tables.
+    pub fn load(&mut self, records: &[i64], positions: &[i64]) {
+        self.clear();
+        self.run(self.begin, &[]);
+        for row in records[1..].chunks_exact(13).take(records[0] as usize) {
+            assert!(self.run(self.add, row), "{}", self.message());
+        }
+        for row in positions[1..].chunks_exact(5).take(positions[0] as usize) {
+            assert!(self.run(self.make_position, &row[..2]) && self.run(self.move_position, row), "{}", self.message());
+        }
+        self.run(self.commit, &[]);
     }
 
     fn find(&self, id: i64, suffix: i64, place: usize) -> Result<Record, Stop> {
@@ -293,7 +323,7 @@ impl SqlBook {
         let kind = if excess > 0 { 10 } else { 0 };
         self.move_by(account, series, long, short, 0)?;
         self.add_record(id, 0, [0, kind, 0, account, series, side, quantity, price, long, short, 0])?;
-        Ok(if excess > 0 { Coded { kind: 1, first: excess, second: 0 } } else { Coded { kind: 0, first: 1, second: 0 } })
+        Ok(if excess > 0 { Coded { kind: 1, first: excess, second: 0, third: 0 } } else { booked(1, 0) })
     }
 
     fn separate(&self, id: i64, suffix: i64, account: i64, series: i64, parts: &[i64]) -> Result<Coded, Stop> {
@@ -315,7 +345,7 @@ impl SqlBook {
         for (k, &part) in parts.iter().enumerate() {
             self.add_record(id, next + 1 + k as i64, [suffix, 6, 0, account, series, side, part, price, 0, 0, 0])?;
         }
-        Ok(Coded { kind: 0, first: 1 + parts.len() as i64, second: 0 })
+        Ok(booked(1 + parts.len(), 0))
     }
 
     fn transfer(&self, id: i64, suffix: i64, from: i64, to: i64, series: i64) -> Result<Coded, Stop> {
@@ -335,7 +365,7 @@ impl SqlBook {
         self.add_record(id, next + 1, [suffix, 4, 0, to, series, side, quantity, price, long, short, 0])?;
         self.move_by(from, series, -long, -short, 0)?;
         self.move_by(to, series, long, short, 0)?;
-        Ok(Coded { kind: 0, first: 2, second: 0 })
+        Ok(booked(2, 0))
     }
 
     fn merge(&self, id: i64, account: i64, series: i64, pairs: &[i64]) -> Result<Coded, Stop> {
@@ -371,7 +401,7 @@ impl SqlBook {
         }
         self.add_record(id, 0, [0, 901, 0, account, series, side, quantity, average, 0, 0, 0])?;
         self.move_by(account, series, 0, 0, residual)?;
-        Ok(Coded { kind: 0, first: sources.len() as i64 + 1, second: residual })
+        Ok(booked(sources.len() + 1, residual))
     }
 
     fn lineage(&self, id: i64, suffix: i64) -> Result<Coded, Stop> {
@@ -381,12 +411,16 @@ impl SqlBook {
         loop {
             let row = self.find(id, at, 0)?;
             if at == 0 {
-                return Ok(Coded { kind: 2, first: row[7], second: links });
+                return Ok(Coded { kind: 2, first: row[7], second: links, third: 0 });
             }
             at = row[0];
             links += 1;
         }
     }
+}
+
+fn booked(rows: usize, residual: i64) -> Coded {
+    Coded { kind: 0, first: rows as i64, second: residual, third: 0 }
 }
 
 fn is_in(figure: i64, least: i64, most: i64) -> bool {

@@ -16,6 +16,10 @@ pub const POSITIONS_HEADER: usize = 1;
 pub const POSITION_CELLS: usize = 5;
 /// The greatest room of a positions table; a longer slice is fine.
 pub const MOST_POSITIONS: usize = 1_024;
+/// Figures of a trade in a list: id, account, series, side, quantity, price.
+pub const TRADE_FIGURES: usize = 6;
+/// The most trades that one call takes.
+pub const MOST_TRADES: usize = 1_000;
 
 /// How many cells a records table takes that has room for so many rows.
 pub const fn records_len(rows: usize) -> usize {
@@ -38,22 +42,25 @@ pub enum Reply {
     Lineage { price: i64, links: i64 },
     /// Refused, with the first number that applies, 1 to 16, and its place in the list; no cell has changed.
     Refused { number: i64, place: i64 },
+    /// A list of trades stopped at one that is refused: how many trades before it are booked, and that refusal. Those stay booked.
+    Stopped { booked: i64, number: i64, place: i64 },
 }
 
 /// The answer that the numbers of the C interface stand for.
 ///
 /// # Panics
 ///
-/// At a kind that is none of 0 to 3. The archive is proved to answer with these alone, so another number means that the archive that was linked and this crate
+/// At a kind that is none of 0 to 4. The archive is proved to answer with these alone, so another number means that the archive that was linked and this crate
 /// don't belong together. To call it a refusal would be to say that no cell has changed, which nobody knows then.
 impl From<c::Coded> for Reply {
     fn from(coded: c::Coded) -> Reply {
-        let c::Coded { kind, first, second } = coded;
+        let c::Coded { kind, first, second, third } = coded;
         match kind {
             0 => Reply::Booked { rows: first, residual: second },
             1 => Reply::ClosingError { excess: first },
             2 => Reply::Lineage { price: first, links: second },
             3 => Reply::Refused { number: first, place: second },
+            4 => Reply::Stopped { booked: first, number: second, place: third },
             _ => panic!("an answer of kind {kind}: the archive that is linked is not the one that this crate was written for"),
         }
     }
@@ -64,6 +71,13 @@ impl From<c::Coded> for Reply {
 pub fn trade(records: &mut [i64], positions: &mut [i64], id: i64, account: i64, series: i64, side: i64, quantity: i64, price: i64) -> Reply {
     let (r, p) = (records.as_mut_ptr(), positions.as_mut_ptr());
     unsafe { c::velichundam_trade(r, records.len(), p, positions.len(), id, account, series, side, quantity, price) }.into()
+}
+
+/// Books a list of 1 to 1,000 trades, six figures each, one by one up to the first that is refused. Each booked trade's excess, 0 if none, goes to its cell of
+/// `excess`, which has a cell for each listed trade or more; the other cells stay.
+pub fn trades(records: &mut [i64], positions: &mut [i64], trades: &[i64], excess: &mut [i64]) -> Reply {
+    let (r, p, e) = (records.as_mut_ptr(), positions.as_mut_ptr(), excess.as_mut_ptr());
+    unsafe { c::velichundam_trades(r, records.len(), p, positions.len(), trades.as_ptr(), trades.len(), e, excess.len()) }.into()
 }
 
 /// Separates a record into parts, whose quantities come to the record's.
@@ -98,12 +112,15 @@ pub mod c {
         pub kind: i64,
         pub first: i64,
         pub second: i64,
+        pub third: i64,
     }
 
     #[rustfmt::skip]
     extern "C" {
         pub fn velichundam_trade(records: *mut i64, records_len: usize, positions: *mut i64, positions_len: usize,
             id: i64, account: i64, series: i64, side: i64, quantity: i64, price: i64) -> Coded;
+        pub fn velichundam_trades(records: *mut i64, records_len: usize, positions: *mut i64, positions_len: usize,
+            trades: *const i64, trades_len: usize, excess: *mut i64, excess_len: usize) -> Coded;
         pub fn velichundam_separate(records: *mut i64, records_len: usize, positions: *mut i64, positions_len: usize,
             id: i64, suffix: i64, account: i64, series: i64, parts: *const i64, parts_len: usize) -> Coded;
         pub fn velichundam_transfer(records: *mut i64, records_len: usize, positions: *mut i64, positions_len: usize,

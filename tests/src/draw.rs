@@ -1,6 +1,7 @@
 //! Random tables and random requests on them. Ids, accounts, series and figures come from small pools with the ends of their ranges in them, so that
 //! requests meet each other's records and positions and the rules' limits.
 
+use crate::batches;
 use crate::rng::Rng;
 use crate::tables::{Tables, POSITION_CELLS, RECORD_CELLS};
 use model::Request;
@@ -266,25 +267,27 @@ pub fn damage(rng: &mut Rng, tables: &mut Tables) {
     }
 }
 
-/// A request of that kind (0 to 4, as in `coverage::KINDS`), mostly one that fits the tables.
+/// A request of that kind (0 to 5, as in `coverage::KINDS`), mostly one that fits the tables.
 pub fn request(rng: &mut Rng, tables: &Tables, kind: usize) -> Request {
     let mut request = match kind {
         0 => trade(rng, tables),
         1 => separation(rng, tables),
         2 => transfer(rng, tables),
         3 => merge(rng, tables),
-        _ => lineage(rng, tables),
+        4 => lineage(rng, tables),
+        _ => batches::draw(rng, tables),
     };
-    if rng.percent(4) {
+    let count = figures(&request);
+    if count > 0 && rng.percent(4) {
         let figure = rng.pick(&ENDS);
-        let which = rng.below(figures(&request));
+        let which = rng.below(count);
         set_figure(&mut request, which, figure);
     }
     request
 }
 
 pub fn any_request(rng: &mut Rng, tables: &Tables) -> Request {
-    let kind = rng.pick(&[0, 0, 0, 1, 1, 2, 2, 3, 3, 4]);
+    let kind = rng.pick(&[0, 0, 0, 1, 1, 2, 2, 3, 3, 4, 5]);
     request(rng, tables, kind)
 }
 
@@ -296,6 +299,7 @@ pub fn figures(request: &Request) -> usize {
         Request::Transfer { .. } => 5,
         Request::Merge { pairs, .. } => 3 + pairs.len(),
         Request::Lineage { .. } => 2,
+        Request::Trades { figures, .. } => figures.len(),
     }
 }
 
@@ -306,6 +310,7 @@ pub fn set_figure(request: &mut Request, which: usize, figure: i64) {
         Request::Transfer { id, suffix, from, to, series } => [id, suffix, from, to, series].into_iter().nth(which),
         Request::Merge { id, account, series, pairs } => [id, account, series].into_iter().chain(pairs).nth(which),
         Request::Lineage { id, suffix } => [id, suffix].into_iter().nth(which),
+        Request::Trades { figures, .. } => figures.get_mut(which),
     };
     *place.expect("the request has this figure") = figure;
 }
@@ -322,14 +327,14 @@ fn new_id(rng: &mut Rng, tables: &Tables) -> i64 {
 }
 
 fn trade(rng: &mut Rng, tables: &Tables) -> Request {
-    Request::Trade {
-        id: if rng.percent(90) { new_id(rng, tables) } else { draw_id(rng) },
-        account: rng.pick(&ACCOUNTS),
-        series: rng.pick(&SERIES),
-        side: rng.between(1, 4),
-        quantity: draw_quantity(rng),
-        price: draw_price(rng),
-    }
+    let id = if rng.percent(90) { new_id(rng, tables) } else { draw_id(rng) };
+    let [account, series, side, quantity, price] = trade_figures(rng);
+    Request::Trade { id, account, series, side, quantity, price }
+}
+
+/// Account, series, side, quantity and price of a trade.
+pub fn trade_figures(rng: &mut Rng) -> [i64; 5] {
+    [rng.pick(&ACCOUNTS), rng.pick(&SERIES), rng.between(1, 4), draw_quantity(rng), draw_price(rng)]
 }
 
 /// A record, most of the time one that the test likes.

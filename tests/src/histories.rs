@@ -1,12 +1,13 @@
-//! The random part of a run: single calls on drawn and damaged tables, histories of requests, and demand 3.
+//! The random part of a run: single calls on drawn and damaged tables, and histories of requests.
 
+use crate::batches::{self, trades_of};
 use crate::checker::Checker;
 use crate::coverage::{column_of, POSSIBLE};
 use crate::draw::{any_request, damage, empty_tables, request, sound_tables, Lean, LEANS};
+use crate::orders::{entries_of, reordered};
 use crate::rng::Rng;
-use crate::tables::Tables;
-use model::{Reply, Request};
-use std::collections::BTreeSet;
+use crate::tables::{Tables, POSITION_CELLS, RECORD_CELLS};
+use model::{Answer, Reply, Request};
 
 /// For each kind of request and each answer that it may get: calls that get just this answer, drawn until the model gives it.
 pub fn aimed(checker: &mut Checker, rng: &mut Rng, times: usize) {
@@ -21,7 +22,7 @@ pub fn aimed(checker: &mut Checker, rng: &mut Rng, times: usize) {
                     }
                     let request = request(rng, &tables, kind);
                     let mut trial = tables.clone();
-                    if column_of(model::handle(&mut trial.records, &mut trial.positions, &request)) == answer {
+                    if column_of(model::handle(&mut trial.records, &mut trial.positions, &request).reply) == answer {
                         checker.ask(&tables, &request);
                         break;
                     }
@@ -58,10 +59,12 @@ pub fn history(checker: &mut Checker, rng: &mut Rng) {
     let mut entries = Vec::new();
     for _ in 0..4 + rng.below(44) {
         let request = any_request(rng, &tables);
-        let reply = checker.call(&mut tables, &request);
-        if !matches!(reply, Reply::Refused { .. }) {
-            entries.push((request, reply));
+        let before = tables.clone();
+        let answer = checker.call(&mut tables, &request);
+        if rng.percent(20) {
+            one_by_one(checker, &before, &request, &answer, &tables);
         }
+        entries.extend(entries_of(request, answer));
     }
     if entries.len() < 2 {
         return;
@@ -71,68 +74,39 @@ pub fn history(checker: &mut Checker, rng: &mut Rng) {
     }
 }
 
-/// Demand 3: the accepted entries in another order that keeps touching pairs in theirs. Each gets the answer that it got, and at the end every cell
-/// is the same.
-fn reordered(checker: &mut Checker, rng: &mut Rng, start: &Tables, entries: &[(Request, Reply)], end: &Tables) {
-    let order = other_order(rng, entries);
-    if !order.is_sorted() {
-        checker.coverage.situation("demand 3: accepted entries in another order");
-        if entries.len() >= 10 && entries.iter().any(|(request, _)| matches!(request, Request::Merge { .. })) {
-            checker.coverage.situation("demand 3: ten entries or more, a merge among them");
-        }
-    }
-    let mut tables = start.clone();
-    for &place in &order {
-        let (request, first) = &entries[place];
-        let second = checker.call(&mut tables, request);
-        if second != *first {
-            checker.fail_reordered(&print_orders(start, entries, &order, &format!("entry {place} answered {first:?} and then {second:?}")));
-        }
-    }
-    if tables != *end {
-        checker.fail_reordered(&print_orders(
-            start,
-            entries,
-            &order,
-            &format!("the cells differ at the end\nfirst run\n{}second run\n{}", end.print(), tables.print()),
-        ));
+/// Batches of 999 to 1,001 trades, on tables with room for about as many. From empty tables most are booked whole or stop far in.
+pub fn large_batches(checker: &mut Checker, rng: &mut Rng, times: usize) {
+    for k in 0..times {
+        let mut tables = if k % 3 > 0 { empty_tables(rng, 0, 16) } else { sound_tables(rng, Lean::Plain, 14) };
+        tables.records.extend(vec![-3; RECORD_CELLS * (990 + rng.below(40))]);
+        tables.positions.extend(vec![-3; POSITION_CELLS * 20]);
+        let count = rng.pick(&[999, 1_000, 1_000, 1_001]);
+        let request = batches::of_trades(rng, &tables, count);
+        checker.ask(&tables, &request);
     }
 }
 
-/// A random order in which any two touching entries keep theirs: each time one of those is taken that no entry before them holds back.
-fn other_order(rng: &mut Rng, entries: &[(Request, Reply)]) -> Vec<usize> {
-    let named: Vec<Names> = entries.iter().map(|(request, _)| names(request)).collect();
-    let touch = |a: usize, b: usize| !named[a].0.is_disjoint(&named[b].0) || !named[a].1.is_disjoint(&named[b].1);
-    let mut left: Vec<usize> = (0..entries.len()).collect();
-    let mut order = Vec::new();
-    // Half of the orders prefer the latest entry that may go first: the farthest from the first order.
-    let latest = rng.percent(50);
-    while !left.is_empty() {
-        let free: Vec<usize> = (0..left.len()).filter(|k| left[..*k].iter().all(|earlier| !touch(*earlier, left[*k]))).collect();
-        let chosen = if latest { free[free.len() - 1] } else { rng.pick(&free) };
-        order.push(left.remove(chosen));
-    }
-    order
-}
-
-/// Ids, and positions.
-type Names = (BTreeSet<i64>, BTreeSet<(i64, i64)>);
-
-/// "A request's ids are all it names, new ones included; its positions are each account it names with its series."
-fn names(request: &Request) -> Names {
-    match request {
-        Request::Trade { id, account, series, .. } => (BTreeSet::from([*id]), BTreeSet::from([(*account, *series)])),
-        Request::Separate { id, account, series, .. } => (BTreeSet::from([*id]), BTreeSet::from([(*account, *series)])),
-        Request::Transfer { id, from, to, series, .. } => (BTreeSet::from([*id]), BTreeSet::from([(*from, *series), (*to, *series)])),
-        Request::Merge { id, account, series, pairs } => {
-            let ids = pairs.iter().step_by(2).chain([id]).copied().collect();
-            (ids, BTreeSet::from([(*account, *series)]))
+/// "Tables and answers equal those of the trades handed in one by one."
+fn one_by_one(checker: &mut Checker, before: &Tables, request: &Request, answer: &Answer, after: &Tables) {
+    let (Request::Trades { figures, .. }, false) = (request, matches!(answer.reply, Reply::Refused { .. })) else { return };
+    let (mut tables, mut output, mut stop) = (before.clone(), Vec::new(), None);
+    for trade in trades_of(figures) {
+        match checker.call(&mut tables, &trade).reply {
+            Reply::ClosingError { excess } => output.push(excess),
+            Reply::Refused { number, place } => {
+                stop = Some((number, place));
+                break;
+            }
+            _ => output.push(0),
         }
-        Request::Lineage { id, .. } => (BTreeSet::from([*id]), BTreeSet::new()),
     }
-}
-
-fn print_orders(start: &Tables, entries: &[(Request, Reply)], order: &[usize], what: &str) -> String {
-    let list: Vec<String> = entries.iter().enumerate().map(|(k, (request, reply))| format!("  {k}: {request:?} -> {reply:?}")).collect();
-    format!("{what}\n\nTables at the start\n{}\nAccepted entries\n{}\n\nSecond order\n  {order:?}", start.print(), list.join("\n"))
+    let booked = output.len() as i64;
+    let reply = match stop {
+        None => Reply::Booked { rows: booked, residual: 0 },
+        Some((number, place)) => Reply::Stopped { booked, number, place },
+    };
+    if (Answer { reply, output }) != *answer || tables != *after {
+        checker.fail_later(&format!("a batch and its trades one by one: {request:?} answered {answer:?}\n{}", before.print()));
+    }
+    checker.coverage.situation("batch: its trades one by one");
 }

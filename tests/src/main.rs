@@ -1,15 +1,19 @@
-//! Compares the book, as a host links it, with the model of document 01: `cargo run --release -- [--seed S] [--calls N] [--show K]`.
+//! Compares the book, as a host links it, with the model of documents 01 and 02: `cargo run --release -- [--seed S] [--calls N] [--show K]`.
 //!
-//! A run has a fixed part (the ends of every range, every length around the limits, full tables: some 34,000 calls) and a random part of which the
+//! A run has a fixed part (the ends of every range, every length around the limits, full tables: some 41,000 calls) and a random part of which the
 //! seed decides, until N calls are made. It prints which answers it saw, and ends with a line that says how many calls passed. The first difference is
 //! printed in full.
 
+mod batch_sweeps;
+mod batches;
 mod checker;
 mod coverage;
 mod draw;
 mod histories;
 mod lent;
+mod orders;
 mod rng;
+mod situations;
 mod subject;
 mod sweeps;
 mod tables;
@@ -54,9 +58,11 @@ fn main() -> ExitCode {
     let mut checker = Checker::new(options.seed, options.show);
 
     sweeps::run(&mut checker);
+    batch_sweeps::run(&mut checker);
     println!("the ends of the ranges, the lengths and the limits: {} calls", checker.calls);
     let fixed = checker.calls;
     histories::aimed(&mut checker, &mut rng, 20);
+    histories::large_batches(&mut checker, &mut rng, 20);
     for _ in 0..100 {
         histories::history(&mut checker, &mut rng);
     }

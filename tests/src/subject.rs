@@ -4,48 +4,59 @@ use crate::lent::{Arena, Fence};
 use crate::tables::Tables;
 use model::{Reply, Request};
 pub use velichundam::c::Coded;
-use velichundam::c::{velichundam_lineage, velichundam_merge, velichundam_separate, velichundam_trade, velichundam_transfer};
+use velichundam::c::{velichundam_lineage, velichundam_merge, velichundam_separate, velichundam_trade, velichundam_trades, velichundam_transfer};
 
 /// The numbers by which include/velichundam.h gives an answer.
 pub fn coded(reply: Reply) -> Coded {
-    let (kind, first, second) = match reply {
-        Reply::Booked { rows, residual } => (0, rows, residual),
-        Reply::ClosingError { excess } => (1, excess, 0),
-        Reply::Lineage { price, links } => (2, price, links),
-        Reply::Refused { number, place } => (3, number, place),
+    let (kind, first, second, third) = match reply {
+        Reply::Booked { rows, residual } => (0, rows, residual, 0),
+        Reply::ClosingError { excess } => (1, excess, 0, 0),
+        Reply::Lineage { price, links } => (2, price, links, 0),
+        Reply::Refused { number, place } => (3, number, place, 0),
+        Reply::Stopped { booked, number, place } => (4, booked, number, place),
     };
-    Coded { kind, first, second }
+    Coded { kind, first, second, third }
 }
 
-/// The three pieces of memory that calls borrow.
+/// What the cells of an output hold when they are lent: nothing that a call writes.
+pub fn lent_output(request: &Request) -> Vec<i64> {
+    let cells = if let Request::Trades { cells, .. } = request { *cells } else { 0 };
+    (0..cells as i64).map(|k| -5_000_000_000 - k).collect()
+}
+
+/// The four pieces of memory that calls borrow.
 pub struct Subject {
     records: Arena,
     positions: Arena,
     list: Arena,
+    output: Arena,
 }
 
 /// What came of a call: its answer, the cells afterwards, and what it may not have written.
 pub struct Outcome {
     pub answer: Coded,
     pub tables: Tables,
+    pub output: Vec<i64>,
     pub guards_kept: bool,
     pub list_kept: bool,
 }
 
 impl Subject {
     pub fn new() -> Subject {
-        Subject { records: Arena::new(60_000), positions: Arena::new(8_000), list: Arena::new(4_000) }
+        Subject { records: Arena::new(60_000), positions: Arena::new(8_000), list: Arena::new(8_000), output: Arena::new(2_000) }
     }
 
     pub fn call(&mut self, tables: &Tables, request: &Request, fence: Fence) -> Outcome {
         let list: &[i64] = match request {
             Request::Separate { parts, .. } => parts,
             Request::Merge { pairs, .. } => pairs,
+            Request::Trades { figures, .. } => figures,
             _ => &[],
         };
         let records = self.records.lend(&tables.records, fence);
         let positions = self.positions.lend(&tables.positions, fence);
         let lent_list = self.list.lend(list, fence);
+        let output = self.output.lend(&lent_output(request), fence);
         let (r, rn, p, pn, l, ln) = (records.first, records.len, positions.first, positions.len, lent_list.first.cast_const(), lent_list.len);
         let answer = unsafe {
             match *request {
@@ -54,15 +65,18 @@ impl Subject {
                 Request::Transfer { id, suffix, from, to, series } => velichundam_transfer(r, rn, p, pn, id, suffix, from, to, series),
                 Request::Merge { id, account, series, .. } => velichundam_merge(r, rn, p, pn, id, account, series, l, ln),
                 Request::Lineage { id, suffix } => velichundam_lineage(r.cast_const(), rn, id, suffix),
+                Request::Trades { .. } => velichundam_trades(r, rn, p, pn, l, ln, output.first, output.len),
             }
         };
         let (records, records_kept) = self.records.take_back(rn, fence);
         let (positions, positions_kept) = self.positions.take_back(pn, fence);
         let (list_after, list_guards_kept) = self.list.take_back(ln, fence);
+        let (output, output_guards_kept) = self.output.take_back(output.len, fence);
         Outcome {
             answer,
             tables: Tables { records: records.to_vec(), positions: positions.to_vec() },
-            guards_kept: records_kept && positions_kept && list_guards_kept,
+            output: output.to_vec(),
+            guards_kept: records_kept && positions_kept && list_guards_kept && output_guards_kept,
             list_kept: list_after == list,
         }
     }
@@ -78,10 +92,11 @@ mod peer_behind_the_interface {
 
     fn coded(reply: Reply) -> Coded {
         match reply {
-            Reply::Booked { rows, residual } => Coded { kind: 0, first: rows, second: residual },
-            Reply::ClosingError { excess } => Coded { kind: 1, first: excess, second: 0 },
-            Reply::Lineage { price, links } => Coded { kind: 2, first: price, second: links },
-            Reply::Refused { number, place } => Coded { kind: 3, first: number, second: place },
+            Reply::Booked { rows, residual } => Coded { kind: 0, first: rows, second: residual, third: 0 },
+            Reply::ClosingError { excess } => Coded { kind: 1, first: excess, second: 0, third: 0 },
+            Reply::Lineage { price, links } => Coded { kind: 2, first: price, second: links, third: 0 },
+            Reply::Refused { number, place } => Coded { kind: 3, first: number, second: place, third: 0 },
+            Reply::Stopped { booked, number, place } => Coded { kind: 4, first: booked, second: number, third: place },
         }
     }
 
@@ -89,6 +104,12 @@ mod peer_behind_the_interface {
     unsafe extern "C" fn velichundam_trade(records: *mut i64, records_len: usize, positions: *mut i64, positions_len: usize,
         id: i64, account: i64, series: i64, side: i64, quantity: i64, price: i64) -> Coded {
         coded(peer::trade(from_raw_parts_mut(records, records_len), from_raw_parts_mut(positions, positions_len), id, account, series, side, quantity, price))
+    }
+
+    #[no_mangle]
+    unsafe extern "C" fn velichundam_trades(records: *mut i64, records_len: usize, positions: *mut i64, positions_len: usize,
+        trades: *const i64, trades_len: usize, excess: *mut i64, excess_len: usize) -> Coded {
+        coded(peer::trades(from_raw_parts_mut(records, records_len), from_raw_parts_mut(positions, positions_len), from_raw_parts(trades, trades_len), from_raw_parts_mut(excess, excess_len)))
     }
 
     #[no_mangle]

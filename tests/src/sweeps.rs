@@ -6,7 +6,7 @@ use crate::tables::{positions_len, records_len, Tables, MOST_POSITIONS, MOST_REC
 use model::{Reply, Request};
 
 /// A small pair of tables on which each of `accepted` is accepted.
-fn small() -> Tables {
+pub fn small() -> Tables {
     let mut records = vec![
         6, //
         5, 0, 0, 0, 0, 1, 1, 1, 10, 100, 10, 0, 0, //
@@ -35,12 +35,13 @@ fn accepted() -> Vec<Request> {
         Request::Transfer { id: 7, suffix: 3, from: 1, to: 2, series: 1 },
         Request::Merge { id: 6, account: 1, series: 1, pairs: vec![7, 3, 5, 0, 7, 2] },
         Request::Lineage { id: 7, suffix: 3 },
+        Request::Trades { figures: vec![8, 2, 1, 1, 3, 99, 6, 1, 1, 4, 35, -99, 10, 2, 1, 4, 2, 0], cells: 4 },
     ]
 }
 
 pub fn run(checker: &mut Checker) {
     for request in accepted() {
-        assert!(!matches!(checker.ask(&small(), &request), Reply::Refused { .. }), "{request:?}");
+        assert!(!matches!(checker.ask(&small(), &request).reply, Reply::Refused { .. } | Reply::Stopped { .. }), "{request:?}");
     }
     every_figure(checker);
     every_cell(checker);
@@ -108,7 +109,7 @@ fn every_length(checker: &mut Checker) {
 }
 
 /// A records table of so many adjustable buys of 1 in account 1, series 1, under ids from 10 on, and one position that holds them.
-fn many(rows: usize, room: usize, quantity: i64) -> Tables {
+pub fn many(rows: usize, room: usize, quantity: i64) -> Tables {
     let mut records = vec![rows as i64];
     for k in 0..rows as i64 {
         records.extend([10 + k, 0, 0, 0, 0, 1, 1, 1, quantity, 50 + k % 7, quantity, 0, 0]);
@@ -211,7 +212,7 @@ fn deep_lineage(checker: &mut Checker) {
     let mut suffix = 0;
     for quantity in (12..=70).rev() {
         let request = Request::Separate { id: 10, suffix, account: 1, series: 1, parts: vec![1, quantity - 1] };
-        assert!(matches!(checker.call(&mut tables, &request), Reply::Booked { .. }), "{request:?}");
+        assert!(matches!(checker.call(&mut tables, &request).reply, Reply::Booked { .. }), "{request:?}");
         suffix += 3;
     }
     for suffix in 0..=suffix + 1 {

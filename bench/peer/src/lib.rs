@@ -11,6 +11,7 @@ pub enum Reply {
     ClosingError { excess: i64 },
     Lineage { price: i64, links: i64 },
     Refused { number: i64, place: i64 },
+    Stopped { booked: i64, number: i64, place: i64 },
 }
 
 struct Refusal {
@@ -156,12 +157,22 @@ fn end_of(records: &Records, id: i64) -> (usize, i64) {
 
 #[allow(clippy::too_many_arguments)]
 pub fn trade(records: &mut [i64], positions: &mut [i64], id: i64, account: i64, series: i64, side: i64, quantity: i64, price: i64) -> Reply {
-    answer(try_trade(records, positions, id, account, series, side, quantity, price))
+    answer(try_trade(records, positions, &[id, account, series, side, quantity, price]))
 }
 
-#[allow(clippy::too_many_arguments)]
-fn try_trade(records: &mut [i64], positions: &mut [i64], id: i64, account: i64, series: i64, side: i64, quantity: i64, price: i64) -> Outcome {
+/// id, account, series, side, quantity, price
+type Trade = [i64; 6];
+
+fn try_trade(records: &mut [i64], positions: &mut [i64], trade: &Trade) -> Outcome {
     let (mut records, mut positions) = open(records, positions)?;
+    let excess = book_trade(&mut records, &mut positions, trade)?;
+    Ok(if excess > 0 { Reply::ClosingError { excess } } else { Reply::Booked { rows: 1, residual: 0 } })
+}
+
+/// A trade on sound tables: its excess.
+#[inline(always)]
+fn book_trade(records: &mut Records, positions: &mut Positions, trade: &Trade) -> Result<i64, Refusal> {
+    let [id, account, series, side, quantity, price] = *trade;
     let valid = is_id(id) && is_account(account) && is_series(series) && (1..=4).contains(&side) && is_quantity(quantity) && is_price(price);
     refuse_if(!valid, 3)?;
     let place = records.find(id, i64::MIN).unwrap_or_else(|place| place);
@@ -191,7 +202,25 @@ fn try_trade(records: &mut [i64], positions: &mut [i64], id: i64, account: i64, 
     let kind = if excess > 0 { CLOSING_ERROR } else { ORIGINAL };
     records.insert(place, [id, 0, 0, kind, ADJUSTABLE, account, series, side, quantity, price, long, short, 0]);
     positions.put(held, position);
-    Ok(if excess > 0 { Reply::ClosingError { excess } } else { Reply::Booked { rows: 1, residual: 0 } })
+    Ok(excess)
+}
+
+/// A list of trades, six figures each: both tables are tested once, then each trade is booked, up to the first that is refused.
+pub fn trades(records: &mut [i64], positions: &mut [i64], trades: &[i64], excess: &mut [i64]) -> Reply {
+    answer(try_trades(records, positions, trades, excess))
+}
+
+fn try_trades(records: &mut [i64], positions: &mut [i64], trades: &[i64], excess: &mut [i64]) -> Outcome {
+    let (mut records, mut positions) = open(records, positions)?;
+    let (trades, rest) = trades.as_chunks::<6>();
+    refuse_if(!rest.is_empty() || !(1..=1_000).contains(&trades.len()) || excess.len() < trades.len(), 3)?;
+    for (booked, (trade, cell)) in trades.iter().zip(excess).enumerate() {
+        match book_trade(&mut records, &mut positions, trade) {
+            Ok(over) => *cell = over,
+            Err(Refusal { number, place }) => return Ok(Reply::Stopped { booked: booked as i64, number, place: place as i64 }),
+        }
+    }
+    Ok(Reply::Booked { rows: trades.len() as i64, residual: 0 })
 }
 
 pub fn separate(records: &mut [i64], positions: &mut [i64], id: i64, suffix: i64, account: i64, series: i64, parts: &[i64]) -> Reply {

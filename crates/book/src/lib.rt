@@ -1,11 +1,16 @@
-// The transaction book: the four requests and the one question, each on lent tables of any length and content and with any figures.
-// Each promise is one equation: the answer and the cells of both tables at the end are those of `handle` on the cells at entry and this request.
+// The transaction book: the four requests and the one question, and a batch of trades, each on lent tables of any length and content and with any figures.
+// Each promise is one equation: the answer and the cells of both tables at the end are those of `handle` on the cells at entry and this request. A batch also writes
+// to a lent output; its promise gives every cell of it.
 use rules::Reply;
 use verdict::Verdict;
 ghost use mathlib.Core.Path.{_≡_};
 ghost use mathlib.Core.List.{[]};
 ghost use Rattle.rules.specs.Request as Request;
+ghost use lib.ListN.{length};
+ghost use Rattle.rules.specs.Call as Call;
+ghost use Rattle.rules.specs.Call.{handleCall};
 ghost use Rattle.rules.specs.Handle.{handle, answered};
+ghost use Rattle.rules.specs.Left.{left, leftBy};
 ghost use Rattle.rules.specs.Tables.{tablesOf};
 ghost use Rattle.verdict.specs.Verdict.{verdictOnTables};
 
@@ -46,6 +51,21 @@ pub fn trade(
             quantity,
             price,
         ),
+    }
+}
+
+// Six figures each: id, account, series, side code, quantity, price; and a cell for each trade's excess.
+pub fn trades(
+    records: &mut [i64],
+    positions: &mut [i64],
+    trades: &[i64],
+    excess: &mut [i64],
+) -> Reply
+    ensures { λ r. ⌜ left r (now (excess .exit)) (now (records .exit)) (now (positions .exit)) ≡ leftBy (now (excess .entry)) (handleCall (tablesOf (now (records .entry)) (now (positions .entry))) (Call.trades (now (trades .entry)) (length (now (excess .entry))))) ⌝ }
+{
+    match verdict_on_tables(records, positions) {
+        Verdict::Refused(number, place) => Reply::Refused(number, place),
+        Verdict::Accepted => batch::on_sound(records, positions, trades, excess),
     }
 }
 

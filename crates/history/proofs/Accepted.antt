@@ -12,12 +12,12 @@ use Rattle.rules.specs.Request.{Request}
 use Rattle.rules.specs.Reply.{refusedBy}
 use Rattle.rules.specs.Plan.{Effects, Plan, booking, question, planTests, planReply}
 use Rattle.rules.specs.Tables.{Tables, soundRecords, soundPositions, booksOf}
-use Rattle.rules.specs.Handle.{soundnessTests, refusals, planTables, answer, handle}
+use Rattle.rules.specs.Handle.{soundnessTests, refusals, planTables, answer, answeredBy, refusalOf, handle}
 use Rattle.soundness.specs.SoundBooks.{planOn, Accepts}
 use Rattle.soundness.specs.SoundTables.{SoundTables}
 use Rattle.keys.proofs.Counts.{isSome-absent, isSome-present}
 use Rattle.keys.proofs.Clauses.{isSome-none}
-use Rattle.history.specs.History.{refusalOf, isAccepted}
+use Rattle.history.specs.History.{isAccepted}
 use Rattle.history.proofs.Refusals.{no-refusal, test-passes, rest-passes, passes-test, left-passes, right-passes, both-pass}
 
 module _ (t : Tables) (r : Request) where
@@ -39,20 +39,20 @@ module _ (t : Tables) (r : Request) where
   -- "A refused request changes nothing."
   pub refused-tables : isAccepted t r ≡ false → handle t r .tables ≡ t
   unfolding handle answer
-  refused-tables h = ap (λ (o : Option Test). answer o t (record { reply = planReply planAt; tables = planTables planAt t }) .tables) (refused-some h .1)
+  refused-tables h = ap (λ (o : Option Test). answer o t (answeredBy (planReply planAt) (planTables planAt t)) .tables) (refused-some h .1)
 
   -- "refused, with number and place": those of the first test that applies.
   pub refused-reply : (x : Test) → refusalOf t r ≡ some x → handle t r .reply ≡ refusedBy x
   unfolding handle answer
-  refused-reply x e = ap (λ (o : Option Test). answer o t (record { reply = planReply planAt; tables = planTables planAt t }) .reply) e
+  refused-reply x e = ap (λ (o : Option Test). answer o t (answeredBy (planReply planAt) (planTables planAt t)) .reply) e
 
   pub accepted-reply : isAccepted t r ≡ true → handle t r .reply ≡ planReply planAt
   unfolding handle answer
-  accepted-reply h = ap (λ (o : Option Test). answer o t (record { reply = planReply planAt; tables = planTables planAt t }) .reply) (accepted-none h)
+  accepted-reply h = ap (λ (o : Option Test). answer o t (answeredBy (planReply planAt) (planTables planAt t)) .reply) (accepted-none h)
 
   pub accepted-tables : isAccepted t r ≡ true → handle t r .tables ≡ planTables planAt t
   unfolding handle answer
-  accepted-tables h = ap (λ (o : Option Test). answer o t (record { reply = planReply planAt; tables = planTables planAt t }) .tables) (accepted-none h)
+  accepted-tables h = ap (λ (o : Option Test). answer o t (answeredBy (planReply planAt) (planTables planAt t)) .tables) (accepted-none h)
 
   pub accepted-rows : isAccepted t r ≡ true → Accepts (booksOf t) r
   unfolding refusals

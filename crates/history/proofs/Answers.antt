@@ -16,10 +16,10 @@ use Rattle.rules.specs.Transfer.{transferPlan}
 use Rattle.rules.specs.Merge.{mergePlan}
 use Rattle.rules.specs.Lineage.{Origin, lineageReply, lineagePlan}
 use Rattle.rules.specs.Tables.{Tables, booksOf}
-use Rattle.rules.specs.Handle.{planOf, handle}
+use Rattle.rules.specs.Handle.{planOf, refusalOf, handle}
 use Rattle.rules.specs.declared.Reply.the-variants.{Refused}
 use Rattle.keys.proofs.Split.{split, clash}
-use Rattle.history.specs.History.{refusalOf, isAccepted}
+use Rattle.history.specs.History.{isAccepted}
 use Rattle.history.specs.Answers.{isRefusal}
 use Rattle.history.proofs.Accepted.{refused-some, refused-reply, accepted-reply}
 

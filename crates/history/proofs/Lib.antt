@@ -11,9 +11,13 @@ pub mod Exchange
 pub mod Accepted
 pub mod Step
 pub mod TableExchange
+pub mod Sequences
+pub mod Apart
+pub mod Parts
 pub mod Demand3
 pub mod ByPlaces
 pub mod Samples
 pub mod Answers
 pub mod LineageAlone
 pub mod OnTables
+pub mod CallsOnTables

@@ -10,17 +10,18 @@ use Rattle.rules.specs.Books.{viewOf}
 use Rattle.rules.specs.Plan.{planTests, planReply}
 use Rattle.rules.specs.Lineage.{lineagePlan}
 use Rattle.rules.specs.Tables.{Tables, tablesOf, booksOf}
-use Rattle.rules.specs.Handle.{answer, answered, handle, planOf, planTables, refusals, soundnessTests}
+use Rattle.rules.specs.Handle.{answer, answered, answeredBy, handle, planOf, planTables, refusals, soundnessTests}
 use Rattle.rules.specs.declared.Reply.{Reply}
+use Rattle.history.proofs.Sequences.{writes-nothing}
 
 -- Refused or not, a question leaves the tables, and the reply depends on the refusal and on its own reply alone.
-leaves : (t : Tables) (o : Option Test) (reply : Reply) → answer o t (record { reply = reply; tables = t }) .tables ≡ t
+leaves : (t : Tables) (o : Option Test) (reply : Reply) → answer o t (answeredBy reply t) .tables ≡ t
 unfolding answer
 leaves t none reply = refl
 leaves t (some x) reply = refl
 
 replies : (t u : Tables) (o : Option Test) (reply : Reply) →
-    answer o t (record { reply = reply; tables = t }) .reply ≡ answer o u (record { reply = reply; tables = u }) .reply
+    answer o t (answeredBy reply t) .reply ≡ answer o u (answeredBy reply u) .reply
 unfolding answer
 replies t u none reply = refl
 replies t u (some x) reply = refl
@@ -39,4 +40,4 @@ lineage-apart records positions others id suffix = replies (tablesOf records pos
 -- The whole answer on any tables, by the reply that the call promises.
 pub lineage-promised : (t : Tables) (id suffix : ℤ) →
     handle t (lineage id suffix) ≡ answered (handle (tablesOf (t .records) []) (lineage id suffix) .reply) (t .records) (t .positions)
-lineage-promised t id suffix = λ i. record { reply = lineage-apart (t .records) (t .positions) [] id suffix i; tables = lineage-stays t id suffix i }
+lineage-promised t id suffix = λ i. record { reply = lineage-apart (t .records) (t .positions) [] id suffix i; output = writes-nothing t (lineage id suffix) i; tables = lineage-stays t id suffix i }

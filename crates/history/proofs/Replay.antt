@@ -4,7 +4,7 @@
 use Prim.Native.Nat.{ℕ, zero, suc, _<_}
 use mathlib.Core.Path.{_≡_, refl, sym, _∙_, ap, subst}
 use mathlib.Core.Bool.{Bool, true, false}
-use mathlib.Core.List.{List, [], _∷_}
+use mathlib.Core.List.{List, [], _∷_, _++_}
 use mathlib.Core.Option.{some}
 use lib.ListN.{length, getElem?}
 use native.Mathlib.Omega.{arith}
@@ -12,11 +12,26 @@ use Rattle.keys.proofs.Split.{is-false, none-some, some-inj}
 use Rattle.history.specs.History.{Reordering}
 use Rattle.history.proofs.Places.{closer, closer-within, closer-once, closer-order, reached, without, length-without, at-without, within-list}
 
+-- An item touches none of a list, and none of a list does.
+module _ {Item : Type 0} (touches : Item → Item → Bool) where
+  abbrev pub Apart : Item → List Item → Type 0
+  Apart y [] = Unit {0}
+  Apart y (x ∷ rest) = (touches y x ≡ false) × (Apart y rest)
+
+  abbrev pub AllApart : List Item → List Item → Type 0
+  AllApart [] xs = Unit {0}
+  AllApart (y ∷ rest) xs = (Apart y xs) × (AllApart rest xs)
+
 module _ {State Item : Type 0} (does : State → Item → Type 0) (next : State → Item → State) where
   -- Each item in turn does what it says, from the first state to the last.
   abbrev pub Replays : State → List Item → State → Type 0
   Replays s [] end = s ≡ end
   Replays s (x ∷ rest) end = (does s x) × (Replays (next s x) rest end)
+
+  -- One replay after another.
+  pub replays-then : (xs ys : List Item) (s mid end : State) → Replays s xs mid → Replays mid ys end → Replays s (xs ++ ys) end
+  replays-then [] ys s mid end h k = subst (λ (u : State). Replays u ys end) (sym h) k
+  replays-then (x ∷ rest) ys s mid end h k = (h .0, replays-then rest ys (next s x) mid end (h .1) k)
 
   module _ (touches : Item → Item → Bool)
       (exchange : (s : State) (x y : Item) → touches y x ≡ false → does s x → does (next s x) y →
@@ -35,6 +50,22 @@ module _ {State Item : Type 0} (does : State → Item → Type 0) (next : State 
     forward (suc p) s end (x ∷ rest) y h d r =
         exchanged s end x y (without p rest) (d 0 x (omega arith) refl)
         (r .0, forward p (next s x) end rest y h (λ q z l e. d (suc q) z (omega arith) e) (r .1))
+
+    -- An item goes before a whole list, and a list before a list.
+    before-all : (xs : List Item) (s mid : State) (y : Item) → Apart touches y xs → Replays s xs mid → does mid y → (does s y) × (Replays (next s y) xs (next mid y))
+    before-all [] s mid y a r d = (subst (λ (u : State). does u y) (sym r) d, ap (λ (u : State). next u y) r)
+    before-all (x ∷ rest) s mid y a r d =
+        let w : (does (next s x) y) × (Replays (next (next s x) y) rest (next mid y)) = before-all rest (next s x) mid y (a .1) (r .1) d in
+        let e : (does s y) × (does (next s y) x) × (next (next s y) x ≡ next (next s x) y) = exchange s x y (a .0) (r .0) (w .0) in
+        (e .0, (e .1, subst (λ (u : State). Replays u rest (next mid y)) (sym (e .2)) (w .1)))
+
+    pub lists-exchanged : (ys xs : List Item) (s mid end : State) → AllApart touches ys xs → Replays s xs mid → Replays mid ys end →
+        (between : State) × (Replays s ys between) × (Replays between xs end)
+    lists-exchanged [] xs s mid end a r k = (s, refl, subst (λ (u : State). Replays s xs u) k r)
+    lists-exchanged (y ∷ rest) xs s mid end a r k =
+        let w : (does s y) × (Replays (next s y) xs (next mid y)) = before-all xs s mid y (a .0) r (k .0) in
+        let v : (between : State) × (Replays (next s y) rest between) × (Replays between xs end) = lists-exchanged rest xs (next s y) (next mid y) end (a .1) (w .1) (k .1) in
+        (v .0, (w .0, v .1), v .2)
 
     -- The rest of a reordering is one of the rest.
     later : (old rest : List Item) (y : Item) (o : Reordering touches old (y ∷ rest)) → Reordering touches (without (o .from 0) old) rest

@@ -1,14 +1,15 @@
--- The theorem is not hollow: a history of all five kinds with refused requests among them has the accepted entries stated, another order of them is a reordering, and it goes through with
+-- The theorem is not hollow: a history of all five kinds and of batches, with refused requests and a batch that stops among them, has the accepted entries stated, another order of them is a reordering, and it goes through with
 -- the same answers to the same cells. And a pair that touches does not: exchanged, it answers otherwise. By computation. Assumes nothing.
 use mathlib.Core.Path.{_≡_, refl, sym, subst}
 use mathlib.Core.Bool.{true}
 use mathlib.Core.List.{List, [], _∷_}
 use lib.IntN.{pos}
 use Rattle.rules.specs.Touching.{touch}
+use Rattle.rules.specs.Call.{one}
 use Rattle.rules.specs.Run.{run}
 use Rattle.rules.specs.declared.Reply.the-variants.{Booked, ClosingError}
 use Rattle.rules.proofs.Computed.{Computed}
-use Rattle.history.specs.History.{Entry, isAccepted, acceptedEntries, entriesTouch, requestsOf, Reordering}
+use Rattle.history.specs.History.{Entry, isAccepted, callAccepted, bookedBy, entriesOf, acceptedEntries, entriesTouch, callsOf, Reordering}
 use Rattle.history.specs.ByPlaces.{eachTwo, mayStand, isOrder}
 use Rattle.history.specs.Sample.{start, history, accepted, places, past, another, finish, buy, sell}
 use Rattle.history.proofs.Demand3.{demand-3}
@@ -16,7 +17,7 @@ use Rattle.history.proofs.ByPlaces.{by-places}
 
 -- To compute with the definitions of demand 3 too.
 unfoldable ComputedHistory : Type 0
-unfolding Computed isAccepted acceptedEntries entriesTouch eachTwo mayStand isOrder
+unfolding Computed isAccepted callAccepted bookedBy entriesOf acceptedEntries entriesTouch eachTwo mayStand isOrder
 ComputedHistory = Unit {0}
 
 pub sample-accepted : acceptedEntries start history ≡ accepted
@@ -27,7 +28,7 @@ pub sample-order : Reordering entriesTouch accepted another
 unfolding ComputedHistory
 sample-order = by-places entriesTouch past accepted places refl
 
-pub sample-answers : acceptedEntries start (requestsOf another) ≡ another
+pub sample-answers : acceptedEntries start (callsOf another) ≡ another
 unfolding ComputedHistory
 sample-answers = refl
 
@@ -35,12 +36,12 @@ pub sample-cells : run start history .tables ≡ finish
 unfolding ComputedHistory
 sample-cells = refl
 
-pub sample-cells-again : run start (requestsOf another) .tables ≡ finish
+pub sample-cells-again : run start (callsOf another) .tables ≡ finish
 unfolding ComputedHistory
 sample-cells-again = refl
 
 -- The theorem says it of this order without computing.
-pub sample-by-demand-3 : (acceptedEntries start (requestsOf another) ≡ another) × (run start (requestsOf another) .tables ≡ run start history .tables)
+pub sample-by-demand-3 : (acceptedEntries start (callsOf another) ≡ another) × (run start (callsOf another) .tables ≡ run start history .tables)
 sample-by-demand-3 = demand-3 start history another (subst (λ (l : List Entry). Reordering entriesTouch l another) (sym sample-accepted) sample-order)
 
 -- The two touch, and exchanged the sell finds nothing to close.
@@ -48,10 +49,10 @@ pub pair-touches : touch buy sell ≡ true
 unfolding ComputedHistory
 pair-touches = refl
 
-pub pair-in-order : run start (buy ∷ sell ∷ []) .replies ≡ Booked (pos 1) (pos 0) ∷ Booked (pos 1) (pos 0) ∷ []
+pub pair-in-order : run start (one buy ∷ one sell ∷ []) .replies ≡ Booked (pos 1) (pos 0) ∷ Booked (pos 1) (pos 0) ∷ []
 unfolding ComputedHistory
 pair-in-order = refl
 
-pub pair-exchanged : run start (sell ∷ buy ∷ []) .replies ≡ ClosingError (pos 60) ∷ Booked (pos 1) (pos 0) ∷ []
+pub pair-exchanged : run start (one sell ∷ one buy ∷ []) .replies ≡ ClosingError (pos 60) ∷ Booked (pos 1) (pos 0) ∷ []
 unfolding ComputedHistory
 pair-exchanged = refl

@@ -1,44 +1,63 @@
 -- Demand 3 speaks of the accepted requests of a history with their answers, and of another order of them in which touching requests keep their order.
 use Prim.Native.Nat.{ℕ, _<_}
 use mathlib.Core.Path.{_≡_}
-use mathlib.Core.Bool.{Bool, true, cond, not}
-use mathlib.Core.List.{List, [], _∷_, map}
-use mathlib.Core.Option.{Option, some}
+use mathlib.Core.Bool.{Bool, true, cond, not, _&&_}
+use mathlib.Core.List.{List, [], _∷_, _++_, map}
+use mathlib.Core.Option.{some}
+use lib.IntN.{ℤ}
 use lib.ListN.{length, getElem?}
 use Rattle.rules.specs.Keyed.{isSome}
-use Rattle.rules.specs.Refusal.{Test, firstRefusal}
 use Rattle.rules.specs.Request.{Request}
-use Rattle.rules.specs.Books.{viewOf}
-use Rattle.rules.specs.Tables.{Tables, booksOf}
-use Rattle.rules.specs.Touching.{touch}
-use Rattle.rules.specs.Handle.{planOf, refusals, handle}
+use Rattle.rules.specs.Tables.{Tables}
+use Rattle.rules.specs.Handle.{refusalOf}
+use Rattle.rules.specs.Sequence.{Done, untilRefused}
+use Rattle.rules.specs.Batch.{tradesOf, batchRefusal}
+use Rattle.rules.specs.Call.{Call, one, trades, handleCall}
+use Rattle.rules.specs.Touching.{callsTouch}
 use Rattle.rules.specs.declared.Reply.{Reply}
-
--- The first refusal of document 01's table that applies to this request on these tables, where one does.
-abbrev pub refusalOf : Tables → Request → Option Test
-refusalOf t r = firstRefusal (refusals t (planOf (viewOf (booksOf t)) r))
 
 -- "A request is accepted when no refusal number applies to it."
 unfoldable pub isAccepted : Tables → Request → Bool
 isAccepted t r = not (isSome (refusalOf t r))
 
--- An accepted request with its whole answer.
+-- "a batch is accepted only when all its trades are": it is not refused itself, and no trade stops it.
+unfoldable pub callAccepted : Tables → Call → Bool
+callAccepted t (one r) = isAccepted t r
+callAccepted t (trades figures cells) = not (isSome (batchRefusal t figures cells)) && not (isSome (untilRefused t (tradesOf figures) .stop))
+
+-- An accepted call with its whole answer: the reply, and what is written to a lent output.
 pub record Entry : Type 0 where
-  pub request : Request
+  pub call : Call
   pub reply : Reply
+  pub output : List ℤ
 
-abbrev pub requestsOf : List Entry → List Request
-requestsOf entries = map (λ (e : Entry). e .request) entries
+abbrev pub callsOf : List Entry → List Call
+callsOf entries = map (λ (e : Entry). e .call) entries
 
--- The requests handed in one after the other from these tables: those that are accepted, in their order. "A refused request may stand anywhere in the first list."
-unfoldable pub acceptedEntries : Tables → List Request → List Entry
+-- A call as it is answered on these tables.
+abbrev pub entryOf : Tables → Call → Entry
+entryOf t c = record { call = c; reply = handleCall t c .reply; output = handleCall t c .output }
+
+-- A request that was handed in as a part of a call, with its own answer.
+abbrev pub asEntry : Done → Entry
+asEntry d = record { call = one (d .request); reply = d .reply; output = [] }
+
+-- What a call that is not accepted has booked: "a stopped one stands in the list as the trades it booked".
+unfoldable pub bookedBy : Tables → Call → List Entry
+bookedBy t (one r) = []
+bookedBy t (trades figures cells) = cond (isSome (batchRefusal t figures cells)) [] (map asEntry (untilRefused t (tradesOf figures) .done))
+
+-- How a call stands in the list of the accepted ones: as itself, or as what it booked.
+unfoldable pub entriesOf : Tables → Call → List Entry
+entriesOf t c = cond (callAccepted t c) (entryOf t c ∷ []) (bookedBy t c)
+
+-- The calls made one after the other from these tables: what is accepted, in order. "A refused request may stand anywhere in the first list."
+unfoldable pub acceptedEntries : Tables → List Call → List Entry
 acceptedEntries t [] = []
-acceptedEntries t (r ∷ rest) =
-    let later : List Entry = acceptedEntries (handle t r .tables) rest in
-    cond (isAccepted t r) (record { request = r; reply = handle t r .reply } ∷ later) later
+acceptedEntries t (c ∷ rest) = entriesOf t c ++ acceptedEntries (handleCall t c .tables) rest
 
 unfoldable pub entriesTouch : Entry → Entry → Bool
-entriesTouch a b = touch (a .request) (b .request)
+entriesTouch a b = callsTouch (a .call) (b .call)
 
 -- The new list has each item of the old one exactly once, and two items that touch keep their order. Items are told apart by their places, so that equal ones may recur:
 -- `from j` is the place in the old list of the new list's item j.

@@ -1,9 +1,10 @@
--- A history of all five kinds of request with two refused ones, another order of its accepted ones, and a touching pair that may not be exchanged.
+-- A history of all five kinds of request and of batches, with two refused requests and a batch that stops, another order of its accepted ones, and a touching pair that may not be exchanged.
 use Prim.Native.Nat.{ℕ}
 use mathlib.Core.List.{List, [], _∷_, _++_}
 use lib.IntN.{ℤ, pos, negℤ}
 use lib.ListN.{replicate}
 use Rattle.rules.specs.Request.{Request, trade, separate, transfer, merge, lineage}
+use Rattle.rules.specs.Call.{Call, one, trades}
 use Rattle.rules.specs.Tables.{Tables}
 use Rattle.rules.specs.declared.Reply.{Reply}
 use Rattle.rules.specs.declared.Reply.the-variants.{Booked, Lineage}
@@ -12,7 +13,7 @@ use Rattle.history.specs.ByPlaces.{inOrder}
 
 -- Two tables with no row; cells that hold no row hold -1.
 abbrev pub start : Tables
-start = record { records = pos 0 ∷ replicate 160 (negℤ (pos 1)); positions = pos 0 ∷ replicate 27 (negℤ (pos 1)) }
+start = record { records = pos 0 ∷ replicate 199 (negℤ (pos 1)); positions = pos 0 ∷ replicate 37 (negℤ (pos 1)) }
 
 -- Trades 1 and 2, the first separated; trade 3, transferred; the parts of 1 merged into 5.
 abbrev pub trade1 : Request
@@ -36,21 +37,39 @@ transfer3 = transfer (pos 3) (pos 0) (pos 30) (pos 31) (pos 6)
 abbrev pub merge1 : Request
 merge1 = merge (pos 5) (pos 10) (pos 5) (pos 1 ∷ pos 2 ∷ pos 1 ∷ pos 3 ∷ [])
 
+-- Trades 11 and 12 in one call; the second closes 10 of 15.
+abbrev pub batch : Call
+batch = trades (pos 11 ∷ pos 40 ∷ pos 6 ∷ pos 1 ∷ pos 10 ∷ pos 3 ∷ pos 12 ∷ pos 40 ∷ pos 6 ∷ pos 4 ∷ pos 15 ∷ pos 3 ∷ []) 4
+
+abbrev pub trade13 : Request
+trade13 = trade (pos 13) (pos 42) (pos 6) (pos 2) (pos 8) (pos 2)
+
+-- Trade 13, then trade 2 again, where it stops, and trade 14, which is not tried.
+abbrev pub stopping : Call
+stopping =
+    trades
+    (pos 13 ∷ pos 42 ∷ pos 6 ∷ pos 2 ∷ pos 8 ∷ pos 2 ∷ pos 2 ∷ pos 20 ∷ pos 5 ∷ pos 2 ∷ pos 50 ∷ pos 9 ∷ pos 14 ∷ pos 42 ∷ pos 6 ∷ pos 2 ∷ pos 8 ∷ pos 2 ∷ [])
+    3
+
 -- Trade 1 a second time is refused, and so is the lineage of an id that is not there.
-abbrev pub history : List Request
-history = trade1 ∷ trade1 ∷ trade2 ∷ separate1 ∷ lineage2 ∷ lineage (pos 9) (pos 0) ∷ trade3 ∷ transfer3 ∷ merge1 ∷ []
+abbrev pub history : List Call
+history =
+    one trade1 ∷ one trade1 ∷ one trade2 ∷ one separate1 ∷ batch ∷ one lineage2 ∷ one (lineage (pos 9) (pos 0)) ∷ one trade3 ∷ stopping ∷ one transfer3 ∷ one merge1 ∷ []
 
 abbrev pub entry : Request → Reply → Entry
-entry request reply = record { request = request; reply = reply }
+entry request reply = record { call = one request; reply = reply; output = [] }
 
+-- The batch that stopped stands as the trade that it booked.
 abbrev pub accepted : List Entry
 accepted =
-    entry trade1 (Booked (pos 1) (pos 0)) ∷ entry trade2 (Booked (pos 1) (pos 0)) ∷ entry separate1 (Booked (pos 3) (pos 0)) ∷ entry lineage2 (Lineage (pos 9) (pos 0))
-    ∷ entry trade3 (Booked (pos 1) (pos 0)) ∷ entry transfer3 (Booked (pos 2) (pos 0)) ∷ entry merge1 (Booked (pos 3) (pos 0)) ∷ []
+    entry trade1 (Booked (pos 1) (pos 0)) ∷ entry trade2 (Booked (pos 1) (pos 0)) ∷ entry separate1 (Booked (pos 3) (pos 0))
+    ∷ record { call = batch; reply = Booked (pos 2) (pos 0); output = pos 0 ∷ pos 5 ∷ [] }
+    ∷ entry lineage2 (Lineage (pos 9) (pos 0)) ∷ entry trade3 (Booked (pos 1) (pos 0)) ∷ entry trade13 (Booked (pos 1) (pos 0))
+    ∷ entry transfer3 (Booked (pos 2) (pos 0)) ∷ entry merge1 (Booked (pos 3) (pos 0)) ∷ []
 
--- Trade 3, trade 2, trade 1, the transfer, the separation, the merge, the lineage.
+-- Trade 3, the batch, trade 2, trade 1, the transfer, trade 13, the separation, the merge, the lineage.
 abbrev pub places : List ℕ
-places = 4 ∷ 1 ∷ 0 ∷ 5 ∷ 2 ∷ 6 ∷ 3 ∷ []
+places = 5 ∷ 3 ∷ 1 ∷ 0 ∷ 7 ∷ 6 ∷ 2 ∷ 8 ∷ 4 ∷ []
 
 -- An entry past the end, which no place needs.
 abbrev pub past : Entry
@@ -70,7 +89,7 @@ position account series long short cash = account ∷ series ∷ long ∷ short 
 abbrev pub finish : Tables
 finish = record {
   records =
-      pos 11
+      pos 14
       ∷ row (pos 1) (pos 0) (pos 0) (pos 0) (pos 1) (pos 10) (pos 5) (pos 1) (pos 100) (pos 7) (pos 100) (pos 0) (pos 0)
       ++ row (pos 1) (pos 1) (pos 0) (pos 6) (pos 2) (pos 10) (pos 5) (pos 1) (negℤ (pos 100)) (pos 7) (pos 0) (pos 0) (pos 0)
       ++ row (pos 1) (pos 2) (pos 0) (pos 6) (pos 1) (pos 10) (pos 5) (pos 1) (pos 40) (pos 7) (pos 0) (pos 0) (pos 0)
@@ -82,13 +101,18 @@ finish = record {
       ++ row (pos 3) (pos 1) (pos 0) (pos 4) (pos 2) (pos 30) (pos 6) (pos 1) (negℤ (pos 5)) (negℤ (pos 4)) (negℤ (pos 5)) (pos 0) (pos 0)
       ++ row (pos 3) (pos 2) (pos 0) (pos 4) (pos 0) (pos 31) (pos 6) (pos 1) (pos 5) (negℤ (pos 4)) (pos 5) (pos 0) (pos 0)
       ++ row (pos 5) (pos 0) (pos 0) (pos 901) (pos 0) (pos 10) (pos 5) (pos 1) (pos 100) (pos 7) (pos 0) (pos 0) (pos 0)
+      ++ row (pos 11) (pos 0) (pos 0) (pos 0) (pos 0) (pos 40) (pos 6) (pos 1) (pos 10) (pos 3) (pos 10) (pos 0) (pos 0)
+      ++ row (pos 12) (pos 0) (pos 0) (pos 10) (pos 0) (pos 40) (pos 6) (pos 4) (pos 15) (pos 3) (negℤ (pos 10)) (pos 5) (pos 0)
+      ++ row (pos 13) (pos 0) (pos 0) (pos 0) (pos 0) (pos 42) (pos 6) (pos 2) (pos 8) (pos 2) (pos 0) (pos 8) (pos 0)
       ++ replicate 17 (negℤ (pos 1));
   positions =
-      pos 4
+      pos 6
       ∷ position (pos 10) (pos 5) (pos 100) (pos 0) (pos 0)
       ++ position (pos 20) (pos 5) (pos 0) (pos 50) (pos 0)
       ++ position (pos 30) (pos 6) (pos 0) (pos 0) (pos 0)
       ++ position (pos 31) (pos 6) (pos 5) (pos 0) (pos 0)
+      ++ position (pos 40) (pos 6) (pos 0) (pos 5) (pos 0)
+      ++ position (pos 42) (pos 6) (pos 0) (pos 8) (pos 0)
       ++ replicate 7 (negℤ (pos 1));
 }
 

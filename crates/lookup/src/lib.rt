@@ -47,7 +47,14 @@ fn comes_before(major: i64, minor: i64, major2: i64, minor2: i64) -> bool
     (major < major2) | ((major == major2) & (minor < minor2))
 }
 
-// By halving, a row at most 8 rows before the place where a key belongs.
+// How many rows halving leaves for the walk: of few rows the last ones are faster one by one.
+fn rows_to_walk(count: usize) -> usize
+    ensures { λ r. ⌜ 1 ≤ r ⌝ }
+{
+    if 64 < count { 1 } else { 8 }
+}
+
+// By halving, a row near the place where a key belongs, and not after it.
 fn row_near(
     cells: &[i64],
     header: usize,
@@ -59,9 +66,10 @@ fn row_near(
     requires { ⌜ Searchable header width count (now cells) ⌝ }
     ensures { λ r. ⌜ r ≤ rowPlace header width (keyOf major minor) count (now (cells .entry)) ⌝ }
 {
+    let least = rows_to_walk(count);
     let mut low = 0;
     let mut left = count;
-    while 8 < left {
+    while least < left {
         let half = left / 2;
         let at = header + (low + half) * width;
         if !comes_before(major, minor, cells[at], cells[at + 1]) {

@@ -1,2 +1,3 @@
 pub mod PositionRange
 pub mod OnSound
+pub mod AbsentRow

@@ -22,6 +22,7 @@ ghost use Rattle.rules.specs.Layout.{roomOf, rowsOf};
 ghost use Rattle.rules.specs.Tables.{recordsLayout, positionsLayout, soundRecords, soundPositions};
 ghost use Rattle.verdict.specs.MovedReady.{MovedReady};
 ghost use Rattle.verdict.specs.Verdict.{absentPosition};
+ghost use Rattle.requests.specs.AbsentRow.{absentRow};
 
 // 14: row count plus new rows exceeds the records room.
 pub fn lacks_records_room(cells: &[i64], added: usize) -> bool
@@ -39,15 +40,22 @@ pub fn lacks_positions_room(cells: &[i64], added: usize) -> bool
     positions::room(cells) < positions::count(cells) + added
 }
 
-// 1 where an account and series have no row, else 0.
+// 1 where the lookup found no row, else 0.
+pub fn absent_row(found: Found) -> usize
+    ensures { λ r. ⌜ r ≡ absentRow found ⌝ }
+{
+    match found {
+        Found::Row(_) => 0,
+        Found::Absent => 1,
+    }
+}
+
+// The same of an account and series.
 pub fn absent_position(cells: &[i64], account: i64, series: i64) -> usize
     requires { ⌜ soundPositions (now cells) ≡ true ⌝ }
     ensures { λ r. ⌜ r ≡ absentPosition (now (cells .entry)) account series ⌝ }
 {
-    match positions::find_position(cells, account, series) {
-        Found::Row(_) => 0,
-        Found::Absent => 1,
-    }
+    absent_row(positions::find_position(cells, account, series))
 }
 
 // A position with its figures changed by signed amounts.

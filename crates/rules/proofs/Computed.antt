@@ -1,7 +1,10 @@
 -- To compute with the rules, each of their definitions is opened: a statement that holds by computation says `unfolding Computed`. A definition that the rules gain is one word more here.
+use mathlib.Core.List.{flatMap}
 use Rattle.integers.specs.Order.{eqZ, inRange}
 use Rattle.integers.specs.Average.{floorDiv, averageOf, residualOf}
+use Rattle.rules.specs.Batch.{tradesOf, batchFigures, batchTests, excessOf, excessesOf, batchReply, batchAnswer, handleBatch}
 use Rattle.rules.specs.Books.{viewOf}
+use Rattle.rules.specs.Call.{handleCall, requestsOf}
 use Rattle.rules.specs.Figures.{magnitudeAtMost, validId, validSuffix, validAccount, validSeries, validQuantity, validPrice, validSide, isBuy, isToClose, validCount}
 use Rattle.rules.specs.Handle.{planOf, soundnessTests, refusals, planTables, answer, handle}
 use Rattle.rules.specs.Keyed.{below, same, isSome, atLeast, rising, find, greatest, upsert, upsertAll, absentFrom}
@@ -14,12 +17,13 @@ use Rattle.rules.specs.Refusal.{test, anyOf, allOf, firstPlace, testEach
 use Rattle.rules.specs.Reply.{refusedBy}
 use Rattle.rules.specs.Rows.{validKind, validStatus, validSignedQuantity, validBooked, validInto, validParent, soundRecord, soundPosition, zeroPosition, orZeros, moved, adjustedRecord, newRecord, inverseRecord, adjustableRecord}
 use Rattle.rules.specs.Run.{afterReply, run}
+use Rattle.rules.specs.Sequence.{goesOn, untilRefused}
 use Rattle.rules.specs.Separation.{sumOf, separationFigures, partRecords, separationPlan}
 use Rattle.rules.specs.Tables.{recordCells, positionCells, soundTable, soundRecords, soundPositions, booksOf, writeBooks}
-use Rattle.rules.specs.Touching.{idsOf, positionsOf, isNamedIn, shareId, sharePosition, touch}
+use Rattle.rules.specs.Touching.{idsOf, positionsOf, isNamedIn, shareId, sharePosition, touch, callIds, callPositions, callsTouch}
 use Rattle.rules.specs.Trade.{tradeFigures, openAgainst, smaller, closedBy, longBooked, shortBooked, isClosingError, tradeKind, tradeReply, tradePlan}
 use Rattle.rules.specs.Transfer.{transferFigures, inLong, inShort, holdsTooLittle, transferPlan}
 
 unfoldable pub Computed : Type 0
-unfolding eqZ inRange floorDiv averageOf residualOf viewOf magnitudeAtMost validId validSuffix validAccount validSeries validQuantity validPrice validSide isBuy isToClose validCount planOf soundnessTests refusals planTables answer handle below same isSome atLeast rising find greatest upsert upsertAll absentFrom encode roomFor roomOf rowsOf countIsSound write oneMoreLink originVia originOf lineageReply lineagePlan pairsOf validPair mergeFigures sourcesOf recordsOf isMissing closes isAmong stoodEarlier firstOf sideDiffers sumOfQuantities sumOfValues timesIn mergeInverses mergedRecord mergeResidual mergePlan noRecord theRecord isElsewhere isNotAdjustable nextSuffix suffixIsAbove bookingTests planTests booked planBooks planReply test anyOf allOf firstPlace testEach firstRefusal refusedBy validKind validStatus validSignedQuantity validBooked validInto validParent soundRecord soundPosition zeroPosition orZeros moved adjustedRecord newRecord inverseRecord adjustableRecord afterReply run sumOf separationFigures partRecords separationPlan recordCells positionCells soundTable soundRecords soundPositions booksOf writeBooks idsOf positionsOf isNamedIn shareId sharePosition touch tradeFigures openAgainst smaller closedBy longBooked shortBooked isClosingError tradeKind tradeReply tradePlan transferFigures inLong inShort holdsTooLittle transferPlan
+unfolding flatMap eqZ inRange floorDiv averageOf residualOf tradesOf batchFigures batchTests excessOf excessesOf batchReply batchAnswer handleBatch viewOf handleCall requestsOf magnitudeAtMost validId validSuffix validAccount validSeries validQuantity validPrice validSide isBuy isToClose validCount planOf soundnessTests refusals planTables answer handle below same isSome atLeast rising find greatest upsert upsertAll absentFrom encode roomFor roomOf rowsOf countIsSound write oneMoreLink originVia originOf lineageReply lineagePlan pairsOf validPair mergeFigures sourcesOf recordsOf isMissing closes isAmong stoodEarlier firstOf sideDiffers sumOfQuantities sumOfValues timesIn mergeInverses mergedRecord mergeResidual mergePlan noRecord theRecord isElsewhere isNotAdjustable nextSuffix suffixIsAbove bookingTests planTests booked planBooks planReply test anyOf allOf firstPlace testEach firstRefusal refusedBy validKind validStatus validSignedQuantity validBooked validInto validParent soundRecord soundPosition zeroPosition orZeros moved adjustedRecord newRecord inverseRecord adjustableRecord afterReply run goesOn untilRefused sumOf separationFigures partRecords separationPlan recordCells positionCells soundTable soundRecords soundPositions booksOf writeBooks idsOf positionsOf isNamedIn shareId sharePosition touch callIds callPositions callsTouch tradeFigures openAgainst smaller closedBy longBooked shortBooked isClosingError tradeKind tradeReply tradePlan transferFigures inLong inShort holdsTooLittle transferPlan
 Computed = Unit {0}

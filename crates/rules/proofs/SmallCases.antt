@@ -5,12 +5,13 @@ use mathlib.Core.Bool.{true, false}
 use mathlib.Core.List.{List, [], _∷_, _++_, map}
 use lib.IntN.{pos}
 use Rattle.rules.specs.Request.{trade, separate, transfer, merge}
-use Rattle.rules.specs.Run.{run}
-use Rattle.rules.specs.Touching.{touch}
-use Rattle.rules.specs.SmallTables.{empty, buy, recordsAfter, positionsAfter}
+use Rattle.rules.specs.Handle.{answeredBy}
+use Rattle.rules.specs.Call.{one, trades, handleCall}
+use Rattle.rules.specs.Touching.{touch, callsTouch}
+use Rattle.rules.specs.SmallTables.{empty, buy, buyFigures, runOf, recordsAfter, positionsAfter}
 use Rattle.rules.specs.declared.Record.{Record}
 use Rattle.rules.specs.declared.Position.{Position}
-use Rattle.rules.specs.declared.Reply.the-variants.{Booked, Refused}
+use Rattle.rules.specs.declared.Reply.the-variants.{Booked, Refused, Stopped}
 use Rattle.rules.proofs.Computed.{Computed}
 
 -- "Booking the separation's inverse against the position: long drops to 0 and never returns." Long stays, and no row of the separation books anything.
@@ -40,19 +41,19 @@ inverses-take-successive-suffixes = refl
 
 -- "Putting new rows at the end, so the tables depend on who came first." They do not.
 pub rows-stand-by-key :
-    (run (empty 26 10) (buy (pos 7) (pos 1) ∷ buy (pos 6) (pos 2) ∷ [])) .tables
-    ≡ (run (empty 26 10) (buy (pos 6) (pos 2) ∷ buy (pos 7) (pos 1) ∷ [])) .tables
+    (runOf (empty 26 10) (buy (pos 7) (pos 1) ∷ buy (pos 6) (pos 2) ∷ [])) .tables
+    ≡ (runOf (empty 26 10) (buy (pos 6) (pos 2) ∷ buy (pos 7) (pos 1) ∷ [])) .tables
 unfolding Computed
 rows-stand-by-key = refl
 
 -- A refusal is the first that applies: a transfer of a record that is in another account (6), adjusted (7) and held by nobody there (12) is refused 6.
 pub first-number-given :
-    (run (empty 52 10)
+    (runOf (empty 52 10)
     (buy (pos 7) (pos 1)
     ∷ transfer (pos 7) (pos 0) (pos 1) (pos 2) (pos 1)
     ∷ transfer (pos 7) (pos 0) (pos 2) (pos 3) (pos 1)
     ∷ [])) .replies
-    ≡ (run (empty 52 10) (buy (pos 7) (pos 1) ∷ transfer (pos 7) (pos 0) (pos 1) (pos 2) (pos 1) ∷ [])) .replies ++ (Refused (pos 6) (pos 0) ∷ [])
+    ≡ (runOf (empty 52 10) (buy (pos 7) (pos 1) ∷ transfer (pos 7) (pos 0) (pos 1) (pos 2) (pos 1) ∷ [])) .replies ++ (Refused (pos 6) (pos 0) ∷ [])
 unfolding Computed
 first-number-given = refl
 
@@ -86,7 +87,7 @@ sources-touch = refl
 
 -- "A refused request changes nothing": the second trade of an id is refused 4 and leaves every cell.
 pub refused-leaves-the-cells :
-    (run (empty 26 5) (buy (pos 7) (pos 1) ∷ buy (pos 7) (pos 1) ∷ [])) .tables ≡ (run (empty 26 5) (buy (pos 7) (pos 1) ∷ [])) .tables
+    (runOf (empty 26 5) (buy (pos 7) (pos 1) ∷ buy (pos 7) (pos 1) ∷ [])) .tables ≡ (runOf (empty 26 5) (buy (pos 7) (pos 1) ∷ [])) .tables
 unfolding Computed
 refused-leaves-the-cells = refl
 
@@ -104,6 +105,44 @@ residual-in-cash = refl
 
 -- "row count plus the request's new rows": with room for one row a second trade is refused 14.
 pub room-counts-new-rows :
-    (run (empty 13 10) (buy (pos 7) (pos 1) ∷ buy (pos 8) (pos 2) ∷ [])) .replies ≡ Booked (pos 1) (pos 0) ∷ Refused (pos 14) (pos 0) ∷ []
+    (runOf (empty 13 10) (buy (pos 7) (pos 1) ∷ buy (pos 8) (pos 2) ∷ [])) .replies ≡ Booked (pos 1) (pos 0) ∷ Refused (pos 14) (pos 0) ∷ []
 unfolding Computed
 room-counts-new-rows = refl
+
+-- Document 02, K1: a batch whose second trade is refused 4 "keeps what came before" and does not go on to the third, which would be accepted.
+pub batch-stops :
+    handleCall (empty 39 10) (trades (buyFigures (pos 7) (pos 1) ++ buyFigures (pos 7) (pos 2) ++ buyFigures (pos 8) (pos 3)) 3)
+    ≡ record { reply = Stopped (pos 1) (pos 4) (pos 0); output = pos 0 ∷ []; tables = runOf (empty 39 10) (buy (pos 7) (pos 1) ∷ []) .tables }
+unfolding Computed
+batch-stops = refl
+
+-- "each booked trade's excess, 0 if none": a sell to close of 150 against 100.
+pub excess-each :
+    handleCall (empty 39 10) (trades (buyFigures (pos 7) (pos 1) ++ (pos 8 ∷ pos 1 ∷ pos 1 ∷ pos 4 ∷ pos 150 ∷ pos 5 ∷ [])) 3)
+    ≡ record {
+      reply = Booked (pos 2) (pos 0);
+      output = pos 0 ∷ pos 50 ∷ [];
+      tables = runOf (empty 39 10) (buy (pos 7) (pos 1) ∷ trade (pos 8) (pos 1) (pos 1) (pos 4) (pos 150) (pos 5) ∷ []) .tables;
+    }
+unfolding Computed
+excess-each = refl
+
+-- "fewer cells than listed trades: 3", and "otherwise refusal 3, after 1 and 2, nothing booked".
+pub short-excess-refused :
+    handleCall (empty 39 10) (trades (buyFigures (pos 7) (pos 1) ++ buyFigures (pos 8) (pos 2)) 1) ≡ answeredBy (Refused (pos 3) (pos 0)) (empty 39 10)
+unfolding Computed
+short-excess-refused = refl
+
+pub seventh-figure-refused :
+    handleCall (empty 39 10) (trades (buyFigures (pos 7) (pos 1) ++ (pos 8 ∷ [])) 9) ≡ answeredBy (Refused (pos 3) (pos 0)) (empty 39 10)
+unfolding Computed
+seventh-figure-refused = refl
+
+-- A batch "names all their ids and positions".
+pub batch-names-each-id : callsTouch (trades (buyFigures (pos 7) (pos 1) ++ buyFigures (pos 8) (pos 2)) 2) (one (buy (pos 8) (pos 3))) ≡ true
+unfolding Computed
+batch-names-each-id = refl
+
+pub batch-names-each-position : callsTouch (one (buy (pos 9) (pos 2))) (trades (buyFigures (pos 7) (pos 1) ++ buyFigures (pos 8) (pos 2)) 2) ≡ true
+unfolding Computed
+batch-names-each-position = refl

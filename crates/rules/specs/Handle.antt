@@ -37,13 +37,19 @@ soundnessTests t (question tests reply) = test 1 (not (soundRecords (t .records)
 unfoldable pub refusals : Tables → Plan → List Test
 refusals t plan = soundnessTests t plan ++ planTests (booksOf t) plan
 
+-- The whole answer: the reply, what is written to a lent output, from its first cell on, and the tables afterwards.
 pub record Answer : Type 0 where
   pub reply : Reply
+  pub output : List ℤ
   pub tables : Tables
 
--- A reply, with the cells of both tables afterwards.
+-- An answer that writes to no output.
+abbrev pub answeredBy : Reply → Tables → Answer
+answeredBy reply t = record { reply = reply; output = []; tables = t }
+
+-- The same, by the cells of both tables afterwards.
 abbrev pub answered : Reply → List ℤ → List ℤ → Answer
-answered reply records positions = record { reply = reply; tables = tablesOf records positions }
+answered reply records positions = answeredBy reply (tablesOf records positions)
 
 -- The tables that an accepted request leaves. A question never writes.
 unfoldable pub planTables : Plan → Tables → Tables
@@ -53,10 +59,14 @@ planTables (question tests reply) t = t
 -- "A refused request changes nothing."
 unfoldable pub answer : Option Test → Tables → Answer → Answer
 answer none t done = done
-answer (some refusal) t done = record { reply = refusedBy refusal; tables = t }
+answer (some refusal) t done = answeredBy (refusedBy refusal) t
 
 -- "A request is accepted when no refusal number applies to it"; otherwise the first that applies is given.
 unfoldable pub handle : Tables → Request → Answer
 handle t r =
     let plan : Plan = planOf (viewOf (booksOf t)) r in
-    answer (firstRefusal (refusals t plan)) t (record { reply = planReply plan; tables = planTables plan t })
+    answer (firstRefusal (refusals t plan)) t (answeredBy (planReply plan) (planTables plan t))
+
+-- The first refusal of the table that applies to this request on these tables, where one does.
+abbrev pub refusalOf : Tables → Request → Option Test
+refusalOf t r = firstRefusal (refusals t (planOf (viewOf (booksOf t)) r))

@@ -12,9 +12,13 @@ pub mod Separation
 pub mod Transfer
 pub mod Merge
 pub mod Lineage
-pub mod Touching
 pub mod Layout
 pub mod Tables
 pub mod Handle
+pub mod Left
+pub mod Sequence
+pub mod Batch
+pub mod Call
+pub mod Touching
 pub mod Run
 pub mod SmallTables

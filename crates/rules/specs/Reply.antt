@@ -1,20 +1,22 @@
--- Document 01, "Replies": the number and the values of each answer.
+-- Document 01, "Replies": the number and the values of each answer, with those that document 02 adds.
 use lib.IntN.{ℤ, pos}
 use Rattle.rules.specs.Refusal.{Test}
 use Rattle.rules.specs.declared.Reply.{Reply}
-use Rattle.rules.specs.declared.Reply.the-variants.{Booked, ClosingError, Lineage, Refused}
+use Rattle.rules.specs.declared.Reply.the-variants.{Booked, ClosingError, Lineage, Refused, Stopped}
 
--- An answer as three numbers: which of the four it is, in the order of "The answer is one of", and what it carries, 0 where it carries less.
+-- An answer as four numbers: which it is, in the order of "The answer is one of" and then of document 02, and what it carries, 0 where it carries less.
 pub record Code : Type 0 where
   pub kind : ℤ
   pub first : ℤ
   pub second : ℤ
+  pub third : ℤ
 
 abbrev pub codeOf : Reply → Code
-codeOf (Booked rows residual) = record { kind = pos 0; first = rows; second = residual }
-codeOf (ClosingError excess) = record { kind = pos 1; first = excess; second = pos 0 }
-codeOf (Lineage price links) = record { kind = pos 2; first = price; second = links }
-codeOf (Refused number place) = record { kind = pos 3; first = number; second = place }
+codeOf (Booked rows residual) = record { kind = pos 0; first = rows; second = residual; third = pos 0 }
+codeOf (ClosingError excess) = record { kind = pos 1; first = excess; second = pos 0; third = pos 0 }
+codeOf (Lineage price links) = record { kind = pos 2; first = price; second = links; third = pos 0 }
+codeOf (Refused number place) = record { kind = pos 3; first = number; second = place; third = pos 0 }
+codeOf (Stopped booked number place) = record { kind = pos 4; first = booked; second = number; third = place }
 
 -- "refused, with number and place"
 unfoldable pub refusedBy : Test → Reply

@@ -1,11 +1,12 @@
 -- The smallest tables and requests on which a rule is seen at work.
 use Prim.Native.Nat.{ℕ}
-use mathlib.Core.List.{List, _∷_}
+use mathlib.Core.List.{List, [], _∷_, map}
 use lib.IntN.{ℤ, pos}
 use lib.ListN.{replicate}
 use Rattle.rules.specs.Layout.{rowsOf}
 use Rattle.rules.specs.Request.{Request, trade}
-use Rattle.rules.specs.Run.{run}
+use Rattle.rules.specs.Call.{one}
+use Rattle.rules.specs.Run.{Run, run}
 use Rattle.rules.specs.Tables.{Tables, recordsLayout, positionsLayout}
 use Rattle.rules.specs.declared.Record.{Record}
 use Rattle.rules.specs.declared.Position.{Position}
@@ -17,9 +18,16 @@ empty records positions = record { records = pos 0 ∷ replicate records (pos 0)
 abbrev pub buy : ℤ → ℤ → Request
 buy id account = trade id account (pos 1) (pos 1) (pos 100) (pos 5)
 
--- The rows after some requests.
+-- The same as six figures of a batch.
+abbrev pub buyFigures : ℤ → ℤ → List ℤ
+buyFigures id account = id ∷ account ∷ pos 1 ∷ pos 1 ∷ pos 100 ∷ pos 5 ∷ []
+
+-- Some requests, one call each, and the rows afterwards.
+abbrev pub runOf : Tables → List Request → Run
+runOf t requests = run t (map one requests)
+
 abbrev pub recordsAfter : Tables → List Request → List Record
-recordsAfter t requests = rowsOf recordsLayout ((run t requests) .tables .records)
+recordsAfter t requests = rowsOf recordsLayout ((runOf t requests) .tables .records)
 
 abbrev pub positionsAfter : Tables → List Request → List Position
-positionsAfter t requests = rowsOf positionsLayout ((run t requests) .tables .positions)
+positionsAfter t requests = rowsOf positionsLayout ((runOf t requests) .tables .positions)

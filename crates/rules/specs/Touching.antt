@@ -1,12 +1,13 @@
 -- Document 01, "Touching".
 use mathlib.Core.Bool.{Bool, false, _||_}
-use mathlib.Core.List.{List, [], _∷_, map}
+use mathlib.Core.List.{List, [], _∷_, map, flatMap}
 use lib.IntN.{ℤ}
 use Rattle.integers.specs.Order.{eqZ}
 use Rattle.rules.specs.Keyed.{Key}
 use Rattle.rules.specs.Rows.{keyOf}
 use Rattle.rules.specs.Request.{Request, trade, separate, transfer, merge, lineage}
 use Rattle.rules.specs.Merge.{pairsOf, isAmong}
+use Rattle.rules.specs.Call.{Call, requestsOf}
 
 -- "A request's ids are all it names, new ones included"
 unfoldable pub idsOf : Request → List ℤ
@@ -39,3 +40,13 @@ sharePosition (k ∷ rest) others = isAmong k others || sharePosition rest other
 -- "Two requests touch if they share an id or a position."
 unfoldable pub touch : Request → Request → Bool
 touch a b = shareId (idsOf a) (idsOf b) || sharePosition (positionsOf a) (positionsOf b)
+
+-- Document 02, K1: a batch "names all their ids and positions", those of its trades.
+unfoldable pub callIds : Call → List ℤ
+callIds c = flatMap idsOf (requestsOf c)
+
+unfoldable pub callPositions : Call → List Key
+callPositions c = flatMap positionsOf (requestsOf c)
+
+unfoldable pub callsTouch : Call → Call → Bool
+callsTouch a b = shareId (callIds a) (callIds b) || sharePosition (callPositions a) (callPositions b)

@@ -41,9 +41,23 @@ pub struct Movement {
 
 // The answer to a request.
 pub enum Reply {
-    Booked { rows: i64, residual: i64 },
-    ClosingError { excess: i64 },
-    Lineage { price: i64, links: i64 },
+    Booked {
+        rows: i64,
+        residual: i64,
+    },
+    ClosingError {
+        excess: i64,
+    },
+    Lineage {
+        price: i64,
+        links: i64,
+    },
     // The number of the first refusal that applies, then its place.
     Refused(i64, i64),
+    // A batch that stopped: how many trades it booked, and the refusal of the next, its number and place.
+    Stopped {
+        booked: i64,
+        number: i64,
+        place: i64,
+    },
 }

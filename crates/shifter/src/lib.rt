@@ -1,14 +1,14 @@
 // The shifter: the part of a lent table from the insertion row on is lent to it. One for every table; the row's length is its width.
+use rules::layout::POSITION_WIDTH;
 use rules::layout::RECORD_WIDTH;
 ghost use mathlib.Core.Path.{_≡_};
 ghost use mathlib.Core.List.{_++_};
 ghost use Prim.Native.Nat.{suc, _+_, _-_, _*_, _≤_, _<_};
 ghost use lib.ListN.{length, take, drop};
-ghost use Rattle.rules.specs.Tables.{recordsLayout};
 ghost use Rattle.shifter.specs.Insertion.{inserted, replaced, gapped, raised};
 
-// The first `used` cells moved up by `by`, for any distance.
-fn move_up_any(tail: &mut [i64], used: usize, by: usize)
+// The first `used` cells moved up by `by`.
+fn move_by(tail: &mut [i64], used: usize, by: usize)
     requires { ⌜ used + by ≤ length (now tail) ⌝ }
     ensures { λ r. ⌜ now (tail .exit) ≡ raised by used (now (tail .entry)) ⌝ }
 {
@@ -19,75 +19,30 @@ fn move_up_any(tail: &mut [i64], used: usize, by: usize)
     }
 }
 
-// The cells of one to four records.
-const ONE_RECORD: usize = RECORD_WIDTH;
-
+// The cells of two to four records.
 const TWO_RECORDS: usize = 2 * RECORD_WIDTH;
 
 const THREE_RECORDS: usize = 3 * RECORD_WIDTH;
 
 const FOUR_RECORDS: usize = 4 * RECORD_WIDTH;
 
-// The same by one to four records: with the distance in the text, the compiler makes one block move of the loop.
-fn move_up_1(tail: &mut [i64], used: usize)
-    requires { ⌜ used + recordsLayout .width ≤ length (now tail) ⌝ }
-    ensures { λ r. ⌜ now (tail .exit) ≡ raised (recordsLayout .width) used (now (tail .entry)) ⌝ }
-{
-    let mut k = used;
-    while 0 < k {
-        k -= 1;
-        tail[k + ONE_RECORD] = tail[k];
-    }
-}
-
-fn move_up_2(tail: &mut [i64], used: usize)
-    requires { ⌜ used + 2 * recordsLayout .width ≤ length (now tail) ⌝ }
-    ensures { λ r. ⌜ now (tail .exit) ≡ raised (2 * recordsLayout .width) used (now (tail .entry)) ⌝ }
-{
-    let mut k = used;
-    while 0 < k {
-        k -= 1;
-        tail[k + TWO_RECORDS] = tail[k];
-    }
-}
-
-fn move_up_3(tail: &mut [i64], used: usize)
-    requires { ⌜ used + 3 * recordsLayout .width ≤ length (now tail) ⌝ }
-    ensures { λ r. ⌜ now (tail .exit) ≡ raised (3 * recordsLayout .width) used (now (tail .entry)) ⌝ }
-{
-    let mut k = used;
-    while 0 < k {
-        k -= 1;
-        tail[k + THREE_RECORDS] = tail[k];
-    }
-}
-
-fn move_up_4(tail: &mut [i64], used: usize)
-    requires { ⌜ used + 4 * recordsLayout .width ≤ length (now tail) ⌝ }
-    ensures { λ r. ⌜ now (tail .exit) ≡ raised (4 * recordsLayout .width) used (now (tail .entry)) ⌝ }
-{
-    let mut k = used;
-    while 0 < k {
-        k -= 1;
-        tail[k + FOUR_RECORDS] = tail[k];
-    }
-}
-
-// The first `used` cells moved up by `by`.
+// The same: with the distance in the text, the compiler makes one block move of the loop.
 fn move_up(tail: &mut [i64], used: usize, by: usize)
     requires { ⌜ used + by ≤ length (now tail) ⌝ }
     ensures { λ r. ⌜ now (tail .exit) ≡ raised by used (now (tail .entry)) ⌝ }
 {
-    if by == ONE_RECORD {
-        move_up_1(tail, used);
+    if by == RECORD_WIDTH {
+        move_by(tail, used, RECORD_WIDTH);
+    } else if by == POSITION_WIDTH {
+        move_by(tail, used, POSITION_WIDTH);
     } else if by == TWO_RECORDS {
-        move_up_2(tail, used);
+        move_by(tail, used, TWO_RECORDS);
     } else if by == THREE_RECORDS {
-        move_up_3(tail, used);
+        move_by(tail, used, THREE_RECORDS);
     } else if by == FOUR_RECORDS {
-        move_up_4(tail, used);
+        move_by(tail, used, FOUR_RECORDS);
     } else {
-        move_up_any(tail, used, by);
+        move_by(tail, used, by);
     }
 }
 

@@ -9,11 +9,14 @@ use mir.Syntax.{w64}
 use mir.Val.{SFits}
 use Rattle.integers.proofs.Linear.{zarith, neg-lin, minus-lin}
 use Rattle.rules.specs.Figures.{validId, validAccount, validSeries, validSide, validQuantity, validPrice, isBuy, isToClose, mostQuantity}
-use Rattle.rules.specs.Rows.{inBooked, soundPosition, moved}
+use Rattle.rules.specs.Rows.{keyOf, positionKey, inBooked, soundPosition, moved}
+use Rattle.rules.specs.Layout.{rowsOf}
+use Rattle.rules.specs.Tables.{positionsLayout}
 use Rattle.rules.specs.Trade.{tradeFigures, openAgainst, smaller, closedBy, longBooked, shortBooked, isClosingError}
 use Rattle.rules.specs.declared.Position.{Position}
 use Rattle.keys.proofs.Split.{and-left, and-right}
 use Rattle.soundness.proofs.FigureRanges.{quantity-range}
+use Rattle.soundness.proofs.ReadPosition.{read-key}
 use Rattle.verdict.specs.MovedReady.{MovedReady}
 use Rattle.verdict.proofs.Moves.{closed-range, trade-moves}
 use Rattle.verdict.proofs.Room.{positionRead}
@@ -99,10 +102,6 @@ module _ (side quantity : ℤ) (p : Position) where
 -- ---- of the position that is read
 
 module _ (ps : List ℤ) (account series side quantity : ℤ) where
-  pub after-is : positionAfter ps account series side quantity ≡ tradePosition ps account series side quantity
-  unfolding positionAfter bookingOf
-  after-is = refl
-
   module _ (p : Position) (b : Booking) (e : p ≡ positionRead ps account series) (f : b ≡ bookingOf side quantity p) where
     pub closed-is : b .closed ≡ tradeClosed ps account series side quantity
     unfolding bookingOf
@@ -119,3 +118,12 @@ module _ (ps : List ℤ) (account series side quantity : ℤ) where
     pub moved-is : moved p (b .movement) ≡ tradePosition ps account series side quantity
     unfolding bookingOf
     moved-is = rw (f, e)
+
+  pub after-is : (p : Position) → p ≡ positionRead ps account series → positionAfter side quantity p ≡ tradePosition ps account series side quantity
+  unfolding positionAfter bookingOf
+  after-is p e = rw e
+
+  -- The position that is left has the account and series that were named.
+  pub left-key : positionKey (tradePosition ps account series side quantity) ≡ keyOf account series
+  unfolding moved
+  left-key = read-key account series (rowsOf positionsLayout ps)

@@ -1,4 +1,5 @@
-// Trade on sound tables: tests 3, 4 and 14 to 16, the booking, and the call that joins them.
+// Trade on sound tables: tests 3, 4 and 14 to 16, the booking, and the call that joins them. Its position is looked up once, for the tests and for the booking.
+use lookup::Found;
 use rules::Movement;
 use rules::Position;
 use rules::Reply;
@@ -20,6 +21,7 @@ ghost use Rattle.verdict.specs.Verdict.{verdictOn, acceptedOn};
 ghost use Rattle.verdict.specs.HandledSoundly.{HandledSoundly};
 ghost use Rattle.verdict.specs.declared.Verdict.the-variants.{Accepted};
 ghost use Rattle.trade.specs.Booking.{bookingOf, positionAfter};
+ghost use Rattle.trade.specs.KnownPosition.{KnownPosition};
 
 // What a trade closes and books.
 pub struct Booking {
@@ -104,17 +106,16 @@ fn booking_of(side: i64, quantity: i64, p: Position) -> Booking
     }
 }
 
-// The position of the account and series, as the trade will leave it.
-fn position_after(cells: &[i64], account: i64, series: i64, side: i64, quantity: i64) -> Position
-    requires { ⌜ (soundPositions (now cells) ≡ true) × (validQuantity quantity ≡ true) ⌝ }
-    ensures { λ r. ⌜ r ≡ positionAfter (now (cells .entry)) account series side quantity ⌝ }
+// The position as the trade will leave it.
+fn position_after(side: i64, quantity: i64, p: Position) -> Position
+    requires { ⌜ (validQuantity quantity ≡ true) × (soundPosition p ≡ true) ⌝ }
+    ensures { λ r. ⌜ r ≡ positionAfter side quantity p ⌝ }
 {
-    let p = positions::position_of(cells, account, series);
     let b = booking_of(side, quantity, p);
     requests::moved(p, b.movement)
 }
 
-pub fn verdict(
+fn verdict(
     records: &[i64],
     positions: &[i64],
     id: i64,
@@ -123,8 +124,10 @@ pub fn verdict(
     side: i64,
     quantity: i64,
     price: i64,
+    found: Found,
+    p: Position,
 ) -> Verdict
-    requires { ⌜ (soundRecords (now records) ≡ true) × (soundPositions (now positions) ≡ true) ⌝ }
+    requires { ⌜ (soundRecords (now records) ≡ true) × (soundPositions (now positions) ≡ true) × KnownPosition (now positions) account series found p ⌝ }
     ensures { λ r. ⌜ r ≡ verdictOn (now (records .entry)) (now (positions .entry)) (Request.trade id account series side quantity price) ⌝ }
 {
     if !figures_valid(id, account, series, side, quantity, price) {
@@ -136,18 +139,18 @@ pub fn verdict(
     if requests::lacks_records_room(records, 1) {
         return Verdict::Refused(14, 0);
     }
-    let absent = requests::absent_position(positions, account, series);
+    let absent = requests::absent_row(found);
     if requests::lacks_positions_room(positions, absent) {
         return Verdict::Refused(15, 0);
     }
-    let left = position_after(positions, account, series, side, quantity);
+    let left = position_after(side, quantity, p);
     if !scan::soundness::sound_position(left) {
         return Verdict::Refused(16, 0);
     }
     Verdict::Accepted
 }
 
-pub fn book(
+fn book(
     records: &mut [i64],
     positions: &mut [i64],
     id: i64,
@@ -156,11 +159,12 @@ pub fn book(
     side: i64,
     quantity: i64,
     price: i64,
+    found: Found,
+    p: Position,
 ) -> Reply
-    requires { ⌜ (soundRecords (now records) ≡ true) × (soundPositions (now positions) ≡ true) × (verdictOn (now records) (now positions) (Request.trade id account series side quantity price) ≡ Accepted) ⌝ }
+    requires { ⌜ (soundRecords (now records) ≡ true) × (soundPositions (now positions) ≡ true) × (verdictOn (now records) (now positions) (Request.trade id account series side quantity price) ≡ Accepted) × KnownPosition (now positions) account series found p ⌝ }
     ensures { λ r. ⌜ answered r (now (records .exit)) (now (positions .exit)) ≡ acceptedOn (now (records .entry)) (now (positions .entry)) (Request.trade id account series side quantity price) ⌝ }
 {
-    let p = positions::position_of(positions, account, series);
     let b = booking_of(side, quantity, p);
     let m = b.movement;
     let mut kind = ORIGINAL;
@@ -180,11 +184,10 @@ pub fn book(
     );
     records::insert_record(records, row);
     let left = requests::moved(p, m);
-    positions::put_position(positions, left);
+    positions::write_position(positions, found, left);
     if b.error {
-        Reply::ClosingError {
-            excess: quantity - b.closed,
-        }
+        let excess = quantity - b.closed;
+        Reply::ClosingError { excess }
     } else {
         Reply::Booked {
             rows: 1,
@@ -206,6 +209,8 @@ pub fn on_sound(
     requires { ⌜ (soundRecords (now records) ≡ true) × (soundPositions (now positions) ≡ true) ⌝ }
     ensures { λ r. ⌜ HandledSoundly (now (records .entry)) (now (positions .entry)) (Request.trade id account series side quantity price) (answered r (now (records .exit)) (now (positions .exit))) ⌝ }
 {
+    let found = positions::find_position(positions, account, series);
+    let p = positions::read_position(positions, found, account, series);
     match verdict(
         records,
         positions,
@@ -215,6 +220,8 @@ pub fn on_sound(
         side,
         quantity,
         price,
+        found,
+        p,
     ) {
         Verdict::Refused(number, place) => Reply::Refused(number, place),
         Verdict::Accepted => book(
@@ -226,6 +233,8 @@ pub fn on_sound(
             side,
             quantity,
             price,
+            found,
+            p,
         ),
     }
 }

@@ -4,12 +4,20 @@ use mathlib.Core.List.{List}
 use lib.IntN.{ℤ}
 use Rattle.rules.specs.Reply.{codeOf}
 use Rattle.rules.specs.Handle.{Answer, answered}
+use Rattle.rules.specs.Left.{Left, left}
 use Rattle.rules.specs.Tables.{tablesOf}
 use Rattle.rules.specs.declared.Reply.{Reply}
-use Rattle.velichundam.specs.HandedBack.{inNumbers, codeFrom, handedBack}
+use Rattle.velichundam.specs.HandedBack.{inNumbers, codeFrom, handedBack, inNumbersWith, handedBackWith}
 
-pub handed : {kind first second : ℤ} {reply : Reply} {records positions : List ℤ} {a : Answer}
-    → codeFrom kind first second ≡ codeOf reply → answered reply records positions ≡ a
-    → handedBack kind first second records positions ≡ inNumbers a
+pub handed : {kind first second third : ℤ} {reply : Reply} {records positions : List ℤ} {a : Answer}
+    → codeFrom kind first second third ≡ codeOf reply → answered reply records positions ≡ a
+    → handedBack kind first second third records positions ≡ inNumbers a
 handed {records = records} {positions = positions} code answer =
     ap (λ k. record { code = k; tables = tablesOf records positions }) code ∙ ap inNumbers answer
+
+-- With a lent output.
+pub handed-with : {kind first second third : ℤ} {reply : Reply} {output records positions : List ℤ} {l : Left}
+    → codeFrom kind first second third ≡ codeOf reply → left reply output records positions ≡ l
+    → handedBackWith kind first second third output records positions ≡ inNumbersWith l
+handed-with {output = output} {records = records} {positions = positions} code leaves =
+    ap (λ k. record { code = k; output = output; tables = tablesOf records positions }) code ∙ ap inNumbersWith leaves

@@ -1,9 +1,10 @@
--- What a host gets back from a call: the answer as three numbers, and the cells of both lent tables.
+-- What a host gets back from a call: the answer as four numbers, the cells of both lent tables, and those of an output where one is lent.
 use mathlib.Core.List.{List}
 use lib.IntN.{ℤ}
 use Rattle.rules.specs.Reply.{Code, codeOf}
 use Rattle.rules.specs.Tables.{Tables, tablesOf}
 use Rattle.rules.specs.Handle.{Answer}
+use Rattle.rules.specs.Left.{Left}
 
 pub record HandedBack : Type 0 where
   pub code : Code
@@ -13,10 +14,23 @@ pub record HandedBack : Type 0 where
 abbrev pub inNumbers : Answer → HandedBack
 inNumbers a = record { code = codeOf (a .reply); tables = a .tables }
 
--- Three numbers as one code.
-abbrev pub codeFrom : (kind first second : ℤ) → Code
-codeFrom kind first second = record { kind = kind; first = first; second = second }
+-- Four numbers as one code.
+abbrev pub codeFrom : (kind first second third : ℤ) → Code
+codeFrom kind first second third = record { kind = kind; first = first; second = second; third = third }
 
--- What a call leaves: the three numbers that it returns, and the cells at its exit.
-abbrev pub handedBack : (kind first second : ℤ) → (records positions : List ℤ) → HandedBack
-handedBack kind first second records positions = record { code = codeFrom kind first second; tables = tablesOf records positions }
+-- What a call leaves: the four numbers that it returns, and the cells at its exit.
+abbrev pub handedBack : (kind first second third : ℤ) → (records positions : List ℤ) → HandedBack
+handedBack kind first second third records positions = record { code = codeFrom kind first second third; tables = tablesOf records positions }
+
+-- The same of a call that is lent an output.
+pub record HandedBackWith : Type 0 where
+  pub code : Code
+  pub output : List ℤ
+  pub tables : Tables
+
+abbrev pub inNumbersWith : Left → HandedBackWith
+inNumbersWith l = record { code = codeOf (l .reply); output = l .output; tables = l .tables }
+
+abbrev pub handedBackWith : (kind first second third : ℤ) → (output records positions : List ℤ) → HandedBackWith
+handedBackWith kind first second third output records positions =
+    record { code = codeFrom kind first second third; output = output; tables = tablesOf records positions }

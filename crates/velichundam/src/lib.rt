@@ -1,46 +1,65 @@
 // The C interface of the transaction book, and nothing else: include/velichundam.h says it to a host.
-// A slice is passed as a pointer and a length. Each promise is the promise of the call behind it: the three numbers that are returned, and the cells
+// A slice is passed as a pointer and a length. Each promise is the promise of the call behind it: the four numbers that are returned, and the cells
 // of both tables at the end, are those of `handle` on the cells at entry and this request, its answer coded by `codeOf`.
 use rules::Reply;
 ghost use mathlib.Core.Path.{_≡_};
 ghost use mathlib.Core.List.{[]};
 ghost use Rattle.rules.specs.Reply.{codeOf};
 ghost use Rattle.rules.specs.Request as Request;
+ghost use lib.ListN.{length};
+ghost use Rattle.rules.specs.Call as Call;
+ghost use Rattle.rules.specs.Call.{handleCall};
+ghost use Rattle.rules.specs.Left.{leftBy};
 ghost use Rattle.rules.specs.Handle.{handle};
 ghost use Rattle.rules.specs.Tables.{tablesOf};
-ghost use Rattle.velichundam.specs.HandedBack.{inNumbers, codeFrom, handedBack};
+ghost use Rattle.velichundam.specs.HandedBack.{inNumbers, codeFrom, handedBack, inNumbersWith, handedBackWith};
 
-// An answer as C reads it: which of the four it is, and what it carries.
+// An answer as C reads it: which it is, and what it carries.
 #[repr(C)]
 pub struct Coded {
     pub kind: i64,
     pub first: i64,
     pub second: i64,
+    pub third: i64,
 }
 
 fn code_of(r: Reply) -> Coded
-    ensures { λ c. ⌜ codeFrom (c .kind) (c .first) (c .second) ≡ codeOf r ⌝ }
+    ensures { λ c. ⌜ codeFrom (c .kind) (c .first) (c .second) (c .third) ≡ codeOf r ⌝ }
 {
     match r {
         Reply::Booked { rows, residual } => Coded {
             kind: 0,
             first: rows,
             second: residual,
+            third: 0,
         },
         Reply::ClosingError { excess } => Coded {
             kind: 1,
             first: excess,
             second: 0,
+            third: 0,
         },
         Reply::Lineage { price, links } => Coded {
             kind: 2,
             first: price,
             second: links,
+            third: 0,
         },
         Reply::Refused(number, place) => Coded {
             kind: 3,
             first: number,
             second: place,
+            third: 0,
+        },
+        Reply::Stopped {
+            booked,
+            number,
+            place,
+        } => Coded {
+            kind: 4,
+            first: booked,
+            second: number,
+            third: place,
         },
     }
 }
@@ -56,7 +75,7 @@ pub extern "C" fn velichundam_trade(
     quantity: i64,
     price: i64,
 ) -> Coded
-    ensures { λ c. ⌜ handedBack (c .kind) (c .first) (c .second) (now (records .exit)) (now (positions .exit)) ≡ inNumbers (handle (tablesOf (now (records .entry)) (now (positions .entry))) (Request.trade id account series side quantity price)) ⌝ }
+    ensures { λ c. ⌜ handedBack (c .kind) (c .first) (c .second) (c .third) (now (records .exit)) (now (positions .exit)) ≡ inNumbers (handle (tablesOf (now (records .entry)) (now (positions .entry))) (Request.trade id account series side quantity price)) ⌝ }
 {
     code_of(book::trade(
         records,
@@ -70,6 +89,19 @@ pub extern "C" fn velichundam_trade(
     ))
 }
 
+// The excesses are lent as an output: every cell of it is given too.
+#[no_mangle]
+pub extern "C" fn velichundam_trades(
+    records: &mut [i64],
+    positions: &mut [i64],
+    trades: &[i64],
+    excess: &mut [i64],
+) -> Coded
+    ensures { λ c. ⌜ handedBackWith (c .kind) (c .first) (c .second) (c .third) (now (excess .exit)) (now (records .exit)) (now (positions .exit)) ≡ inNumbersWith (leftBy (now (excess .entry)) (handleCall (tablesOf (now (records .entry)) (now (positions .entry))) (Call.trades (now (trades .entry)) (length (now (excess .entry)))))) ⌝ }
+{
+    code_of(book::trades(records, positions, trades, excess))
+}
+
 #[no_mangle]
 pub extern "C" fn velichundam_separate(
     records: &mut [i64],
@@ -80,7 +112,7 @@ pub extern "C" fn velichundam_separate(
     series: i64,
     parts: &[i64],
 ) -> Coded
-    ensures { λ c. ⌜ handedBack (c .kind) (c .first) (c .second) (now (records .exit)) (now (positions .exit)) ≡ inNumbers (handle (tablesOf (now (records .entry)) (now (positions .entry))) (Request.separate id suffix account series (now (parts .entry)))) ⌝ }
+    ensures { λ c. ⌜ handedBack (c .kind) (c .first) (c .second) (c .third) (now (records .exit)) (now (positions .exit)) ≡ inNumbers (handle (tablesOf (now (records .entry)) (now (positions .entry))) (Request.separate id suffix account series (now (parts .entry)))) ⌝ }
 {
     code_of(book::separate(records, positions, id, suffix, account, series, parts))
 }
@@ -95,7 +127,7 @@ pub extern "C" fn velichundam_transfer(
     to: i64,
     series: i64,
 ) -> Coded
-    ensures { λ c. ⌜ handedBack (c .kind) (c .first) (c .second) (now (records .exit)) (now (positions .exit)) ≡ inNumbers (handle (tablesOf (now (records .entry)) (now (positions .entry))) (Request.transfer id suffix from to series)) ⌝ }
+    ensures { λ c. ⌜ handedBack (c .kind) (c .first) (c .second) (c .third) (now (records .exit)) (now (positions .exit)) ≡ inNumbers (handle (tablesOf (now (records .entry)) (now (positions .entry))) (Request.transfer id suffix from to series)) ⌝ }
 {
     code_of(book::transfer(records, positions, id, suffix, from, to, series))
 }
@@ -109,7 +141,7 @@ pub extern "C" fn velichundam_merge(
     series: i64,
     pairs: &[i64],
 ) -> Coded
-    ensures { λ c. ⌜ handedBack (c .kind) (c .first) (c .second) (now (records .exit)) (now (positions .exit)) ≡ inNumbers (handle (tablesOf (now (records .entry)) (now (positions .entry))) (Request.merge id account series (now (pairs .entry)))) ⌝ }
+    ensures { λ c. ⌜ handedBack (c .kind) (c .first) (c .second) (c .third) (now (records .exit)) (now (positions .exit)) ≡ inNumbers (handle (tablesOf (now (records .entry)) (now (positions .entry))) (Request.merge id account series (now (pairs .entry)))) ⌝ }
 {
     code_of(book::merge(records, positions, id, account, series, pairs))
 }
@@ -117,7 +149,7 @@ pub extern "C" fn velichundam_merge(
 // The records table is lent to be read, so its cells stay as they were.
 #[no_mangle]
 pub extern "C" fn velichundam_lineage(records: &[i64], id: i64, suffix: i64) -> Coded
-    ensures { λ c. ⌜ codeFrom (c .kind) (c .first) (c .second) ≡ codeOf ((handle (tablesOf (now (records .entry)) []) (Request.lineage id suffix)) .reply) ⌝ }
+    ensures { λ c. ⌜ codeFrom (c .kind) (c .first) (c .second) (c .third) ≡ codeOf ((handle (tablesOf (now (records .entry)) []) (Request.lineage id suffix)) .reply) ⌝ }
 {
     code_of(book::lineage(records, id, suffix))
 }

@@ -16,7 +16,7 @@ use Rattle.rules.specs.Separation.{separationPlan}
 use Rattle.rules.specs.Transfer.{transferPlan}
 use Rattle.rules.specs.Merge.{mergePlan}
 use Rattle.rules.specs.Tables.{booksOf, soundRecords, soundPositions, tablesOf}
-use Rattle.rules.specs.Handle.{Answer, answer, handle, planOf, planTables, refusals, soundnessTests, answered}
+use Rattle.rules.specs.Handle.{Answer, answer, handle, planOf, planTables, refusals, soundnessTests, answered, answeredBy}
 use Rattle.rules.specs.declared.Reply.{Reply}
 use Rattle.rules.specs.declared.Reply.the-variants as Reply
 use Rattle.keys.proofs.Split.{clash}
@@ -25,7 +25,7 @@ use Rattle.verdict.specs.declared.Verdict.{Verdict}
 use Rattle.verdict.specs.declared.Verdict.the-variants as Verdict
 
 -- Tests that refuse do so before any others.
-refused-before : (tests others : List Test) (n p : ℤ) → verdictOf (firstRefusal tests) ≡ Verdict.Refused n p → verdictOf (firstRefusal (tests ++ others)) ≡ Verdict.Refused n p
+pub refused-before : (tests others : List Test) (n p : ℤ) → verdictOf (firstRefusal tests) ≡ Verdict.Refused n p → verdictOf (firstRefusal (tests ++ others)) ≡ Verdict.Refused n p
 unfolding firstRefusal verdictOf
 refused-before [] others n p h = let z : _≡_ {A = ℕ} 0 1 = cc in absurd (omega arith)
 refused-before (t ∷ tests) others n p h = go (t .applies) (refused-before tests others n p) h
@@ -47,7 +47,7 @@ both-hold false b n m h = let z : _≡_ {A = ℕ} 0 1 = cc in absurd (omega arit
 module _ (rs ps : List ℤ) where
   -- What a plan comes to where none of its refusals applies, and the answer to it.
   abbrev done : Plan → Answer
-  done plan = record { reply = planReply plan; tables = planTables plan (tablesOf rs ps) }
+  done plan = answeredBy (planReply plan) (planTables plan (tablesOf rs ps))
 
   abbrev answerTo : Plan → Answer
   answerTo plan = answer (firstRefusal (refusals (tablesOf rs ps) plan)) (tablesOf rs ps) (done plan)
@@ -70,7 +70,7 @@ module _ (rs ps : List ℤ) where
   plan-sound (question tests reply) h k = rw h
 
   -- The answer to the first refusal is the verdict's.
-  refused-as : (o : Option Test) (a : Answer) (n p : ℤ) → verdictOf o ≡ Verdict.Refused n p → answer o (tablesOf rs ps) a ≡ answered (Reply.Refused n p) rs ps
+  pub refused-as : (o : Option Test) (a : Answer) (n p : ℤ) → verdictOf o ≡ Verdict.Refused n p → answer o (tablesOf rs ps) a ≡ answered (Reply.Refused n p) rs ps
   unfolding verdictOf answer refusedBy
   refused-as none a n p h = let z : _≡_ {A = ℕ} 0 1 = cc in absurd (omega arith)
   refused-as (some t) a n p h =

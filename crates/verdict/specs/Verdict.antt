@@ -12,7 +12,7 @@ use Rattle.rules.specs.Books.{viewOf}
 use Rattle.rules.specs.Plan.{Plan, planTests, planReply}
 use Rattle.rules.specs.Layout.{rowsOf}
 use Rattle.rules.specs.Tables.{tablesOf, booksOf, positionsLayout, soundRecords, soundPositions}
-use Rattle.rules.specs.Handle.{Answer, planOf, planTables}
+use Rattle.rules.specs.Handle.{Answer, answeredBy, planOf, planTables}
 use Rattle.verdict.specs.declared.Verdict.{Verdict}
 use Rattle.verdict.specs.declared.Verdict.the-variants.{Accepted, Refused}
 
@@ -42,7 +42,7 @@ verdictOn records positions r = verdictOf (firstRefusal (planTests (booksOf (tab
 -- What an accepted request answers and leaves.
 unfoldable pub acceptedOn : List ℤ → List ℤ → Request → Answer
 acceptedOn records positions r =
-    record { reply = planReply (planFor records positions r); tables = planTables (planFor records positions r) (tablesOf records positions) }
+    answeredBy (planReply (planFor records positions r)) (planTables (planFor records positions r) (tablesOf records positions))
 
 -- 1 where the account and series have no row, else 0.
 unfoldable pub absentPosition : List ℤ → ℤ → ℤ → ℕ

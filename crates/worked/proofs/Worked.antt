@@ -5,6 +5,7 @@ use mathlib.Core.List.{map}
 use Rattle.rules.proofs.Computed.{Computed}
 use Rattle.worked.specs.Examples.{found, stated, examples}
 use Rattle.worked.specs.Others.{others}
+use Rattle.worked.specs.Batches as Batches
 
 -- P1 to P11.
 pub worked-examples : map found examples ≡ map stated examples
@@ -15,3 +16,8 @@ worked-examples = refl
 pub other-figures : map found others ≡ map stated others
 unfolding Computed
 other-figures = refl
+
+-- Batches of trades, with what each writes for the excesses.
+pub worked-batches : map Batches.found Batches.batches ≡ map Batches.stated Batches.batches
+unfolding Computed
+worked-batches = refl

@@ -2,11 +2,12 @@
 -- the tables at the end, cell for cell. A table has room for just the rows of its example, or one more; cells that hold no row hold -1, so that
 -- a cell touched past the last row would show.
 use Prim.Native.Nat.{ℕ}
-use mathlib.Core.List.{List, [], _∷_, _++_}
+use mathlib.Core.List.{List, [], _∷_, _++_, map}
 use lib.ListN.{replicate}
 use lib.IntN.{ℤ, pos, negℤ, _+ℤ_}
 use Rattle.rules.specs.Request.{Request, trade, separate, transfer, merge}
 use Rattle.rules.specs.Tables.{Tables, tablesOf}
+use Rattle.rules.specs.Call.{one}
 use Rattle.rules.specs.Run.{Run, run}
 use Rattle.rules.specs.declared.Reply.{Reply}
 use Rattle.rules.specs.declared.Reply.the-variants.{Booked, ClosingError, Refused}
@@ -19,7 +20,7 @@ pub record Example : Type 0 where
 
 -- What the rules make of a row of the table, and what the row says.
 abbrev pub found : Example → Run
-found e = run (e .start) (e .requests)
+found e = run (e .start) (map one (e .requests))
 
 abbrev pub stated : Example → Run
 stated e = record { replies = e .replies; tables = e .finish }

@@ -1,4 +1,4 @@
-// The five calls, each printed: its figures and its list, the answer, and both tables as it leaves them.
+// The calls, each printed: its figures and its list, the answer, and both tables as it leaves them.
 use super::show;
 
 pub fn trade(
@@ -23,6 +23,14 @@ pub fn trade(
         price,
     );
     show::reply(r);
+    show::tables(records, positions);
+}
+
+pub fn trades(records: &mut [i64], positions: &mut [i64], figures: &[i64], excess: &mut [i64]) {
+    show::request(b"batch", &[], figures);
+    let r = book::trades(&mut *records, &mut *positions, figures, &mut *excess);
+    show::reply(r);
+    show::excesses(excess);
     show::tables(records, positions);
 }
 

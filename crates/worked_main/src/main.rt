@@ -1,4 +1,4 @@
-// Document 01's "Figures to check by hand" and its clerk's slips, run through the proved calls: the examples of the crate `worked`, which proves them
+// Document 01's "Figures to check by hand" and its clerk's slips, and document 02's batches, run through the proved calls: the examples of the crate `worked`, which proves them
 // of the rules, with the same cells at the start and the same requests in the same order. Printed are the tables at the start, and after each request
 // its answer and both tables, the cells past the last row too. A cell that holds no row is -1 at the start.
 mod calls;
@@ -137,8 +137,68 @@ fn others() {
     shared_id();
 }
 
+// A batch of trades, with P1's position at the start.
+fn batch(name: &[u8], figures: &[i64], excess: &mut [i64]) {
+    let mut records = [-1; 40];
+    let mut positions = [1, 1, 1, 100, 120, 0, -1, -1, -1, -1, -1];
+    records[0] = 0;
+    show::start(name, &records, &positions);
+    calls::trades(&mut records, &mut positions, figures, excess);
+}
+
+// Document 02, K1.
+fn batches() {
+    let mut one = [-1; 1];
+    let mut two = [-1; 2];
+    let mut five = [-1; 5];
+    let first_two = [7, 1, 1, 3, 150, 5, 8, 2, 1, 2, 10, 6];
+    batch(b"A batch, all booked", &first_two, &mut two);
+    batch(
+        b"A batch that stops in the middle",
+        &[
+            7,
+            1,
+            1,
+            3,
+            150,
+            5,
+            8,
+            2,
+            1,
+            2,
+            10,
+            6,
+            7,
+            1,
+            1,
+            1,
+            1,
+            5,
+            9,
+            1,
+            1,
+            1,
+            1,
+            5,
+        ],
+        &mut five,
+    );
+    batch(
+        b"A batch whose first trade is refused",
+        &[7, 1, 1, 3, 0, 5],
+        &mut one,
+    );
+    batch(
+        b"A batch with too few cells for its excesses",
+        &first_two,
+        &mut one,
+    );
+    batch(b"A batch of no trade", &[], &mut one);
+}
+
 fn main() {
     show::legend();
     proved();
     others();
+    batches();
 }

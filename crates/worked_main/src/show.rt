@@ -9,6 +9,7 @@ ghost use lib.ListN.{length, getD};
 // What the figures of a request and the cells of a row are.
 pub fn legend() {
     printing::line(b"trade: id, account, series, side code, quantity, price");
+    printing::line(b"batch: the figures of its trades");
     printing::line(b"separation: id, suffix, account, series; parts");
     printing::line(b"transfer: id, suffix, from, to, series");
     printing::line(b"merge: id, account, series; pairs of id and suffix");
@@ -70,7 +71,23 @@ pub fn reply(r: Reply) {
             printing::text(b"refused: number, place");
             two(number, place);
         }
+        Reply::Stopped {
+            booked,
+            number,
+            place,
+        } => {
+            printing::text(b"stopped: booked, number, place ");
+            printing::number(booked);
+            two(number, place);
+        }
     }
+}
+
+// Every cell lent for the excesses of a batch.
+pub fn excesses(cells: &[i64]) {
+    printing::text(b"excess:");
+    figures(cells);
+    printing::text(b"\n");
 }
 
 // So many rows of a width, after cell 0, as far as there are cells; answers the first cell past them.

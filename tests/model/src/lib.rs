@@ -1,38 +1,39 @@
-//! The transaction book once more, written from document 01 alone and in another style than the book itself: the rows of both tables are read into
+//! The transaction book once more, written from documents 01 and 02 alone and in another style than the book itself: the rows of both tables are read into
 //! sorted maps, a request works on a copy of the maps with numbers of 128 bits, and the rows are written back where no refusal applies. It is slow
 //! and says what it means; nothing of it is shared with the book.
 
+mod batch;
 mod books;
 mod requests;
 mod tables;
 
 pub use books::{Books, Position, Record};
-pub use requests::{Reply, Request};
+pub use requests::{Answer, Reply, Request};
 
 use requests::Refusal;
 
 /// Handles one request on the two lent tables: the answer, and the cells of both tables afterwards.
 ///
 /// A lineage question lends no positions table; whatever is passed for it is neither read nor written.
-pub fn handle(records: &mut [i64], positions: &mut [i64], request: &Request) -> Reply {
+pub fn handle(records: &mut [i64], positions: &mut [i64], request: &Request) -> Answer {
     match attempt(records, positions, request) {
-        Ok((reply, books)) => {
+        Ok((answer, books)) => {
             if let Some(books) = books {
                 tables::write_records(records, &books.records);
                 tables::write_positions(positions, &books.positions);
             }
-            reply
+            answer
         }
         // "A refused request changes nothing."
-        Err(Refusal { number, place }) => Reply::Refused { number, place: place as i64 },
+        Err(Refusal { number, place }) => Reply::Refused { number, place: place as i64 }.into(),
     }
 }
 
 /// The answer and, for a request that books, the books afterwards. Refusals 1 and 2 are tested here, the others by the request.
-fn attempt(records: &[i64], positions: &[i64], request: &Request) -> Result<(Reply, Option<Books>), Refusal> {
+fn attempt(records: &[i64], positions: &[i64], request: &Request) -> Result<(Answer, Option<Books>), Refusal> {
     let record_rows = tables::read_records(records).ok_or(Refusal::number(1))?;
     if let Request::Lineage { id, suffix } = *request {
-        return Ok((requests::lineage(&record_rows, id, suffix)?, None));
+        return Ok((requests::lineage(&record_rows, id, suffix)?.into(), None));
     }
     let position_rows = tables::read_positions(positions).ok_or(Refusal::number(2))?;
     let mut books = Books {
@@ -41,9 +42,11 @@ fn attempt(records: &[i64], positions: &[i64], request: &Request) -> Result<(Rep
         records_room: tables::records_room(records),
         positions_room: tables::positions_room(positions),
     };
-    let reply = requests::book(&mut books, request)?;
-    Ok((reply, Some(books)))
+    let answer = requests::book(&mut books, request)?;
+    Ok((answer, Some(books)))
 }
 
+#[cfg(test)]
+mod batch_examples;
 #[cfg(test)]
 mod worked_examples;

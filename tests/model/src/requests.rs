@@ -1,9 +1,11 @@
-//! Document 01, "Booking rules" and "Replies". Each request runs its tests in the order of the refusals' numbers and then books.
+//! Document 01, "Booking rules" and "Replies". Each request runs its tests in the order of the refusals' numbers and then books. A batch of trades
+//! (document 02, K1) is in `batch`.
 
+use crate::batch;
 use crate::books::{Books, Record, Records};
 use crate::tables::{is_sound_position, ACCOUNTS, IDS, PRICES, QUANTITIES, SERIES, SIDES, SUFFIXES};
 
-/// What is asked of the book, with any figures.
+/// What is asked of the book, with any figures. A batch has six figures for each trade, and the number of cells that are lent for the excesses.
 #[derive(Clone, Debug, PartialEq, Eq)]
 pub enum Request {
     Trade { id: i64, account: i64, series: i64, side: i64, quantity: i64, price: i64 },
@@ -11,6 +13,7 @@ pub enum Request {
     Transfer { id: i64, suffix: i64, from: i64, to: i64, series: i64 },
     Merge { id: i64, account: i64, series: i64, pairs: Vec<i64> },
     Lineage { id: i64, suffix: i64 },
+    Trades { figures: Vec<i64>, cells: usize },
 }
 
 #[derive(Clone, Copy, Debug, PartialEq, Eq)]
@@ -19,6 +22,20 @@ pub enum Reply {
     ClosingError { excess: i64 },
     Lineage { price: i64, links: i64 },
     Refused { number: i64, place: i64 },
+    Stopped { booked: i64, number: i64, place: i64 },
+}
+
+/// A reply, and what is written to the lent output, from its first cell on.
+#[derive(Clone, Debug, PartialEq, Eq)]
+pub struct Answer {
+    pub reply: Reply,
+    pub output: Vec<i64>,
+}
+
+impl From<Reply> for Answer {
+    fn from(reply: Reply) -> Answer {
+        Answer { reply, output: Vec::new() }
+    }
 }
 
 #[derive(Clone, Copy, Debug, PartialEq, Eq)]
@@ -34,7 +51,7 @@ impl Refusal {
 }
 
 /// Refused by that number unless it holds.
-fn ensure(holds: bool, number: i64) -> Result<(), Refusal> {
+pub fn ensure(holds: bool, number: i64) -> Result<(), Refusal> {
     if holds {
         Ok(())
     } else {
@@ -51,17 +68,19 @@ fn ensure_each<T>(list: &[T], number: i64, mut holds: impl FnMut(usize, &T) -> b
 }
 
 /// Tests 3 to 16 of a request that books, and its booking. The caller drops the books of a refused one.
-pub fn book(books: &mut Books, request: &Request) -> Result<Reply, Refusal> {
-    match request {
-        Request::Trade { id, account, series, side, quantity, price } => trade(books, *id, *account, *series, *side, *quantity, *price),
-        Request::Separate { id, suffix, account, series, parts } => separate(books, *id, *suffix, *account, *series, parts),
-        Request::Transfer { id, suffix, from, to, series } => transfer(books, *id, *suffix, *from, *to, *series),
-        Request::Merge { id, account, series, pairs } => merge(books, *id, *account, *series, pairs),
-        Request::Lineage { id, suffix } => lineage(&books.records, *id, *suffix),
-    }
+pub fn book(books: &mut Books, request: &Request) -> Result<Answer, Refusal> {
+    let reply = match request {
+        Request::Trade { id, account, series, side, quantity, price } => trade(books, *id, *account, *series, *side, *quantity, *price)?,
+        Request::Separate { id, suffix, account, series, parts } => separate(books, *id, *suffix, *account, *series, parts)?,
+        Request::Transfer { id, suffix, from, to, series } => transfer(books, *id, *suffix, *from, *to, *series)?,
+        Request::Merge { id, account, series, pairs } => merge(books, *id, *account, *series, pairs)?,
+        Request::Lineage { id, suffix } => lineage(&books.records, *id, *suffix)?,
+        Request::Trades { figures, cells } => return batch::trades(books, figures, *cells),
+    };
+    Ok(reply.into())
 }
 
-fn trade(books: &mut Books, id: i64, account: i64, series: i64, side: i64, quantity: i64, price: i64) -> Result<Reply, Refusal> {
+pub fn trade(books: &mut Books, id: i64, account: i64, series: i64, side: i64, quantity: i64, price: i64) -> Result<Reply, Refusal> {
     let figures = IDS.contains(&id)
         && ACCOUNTS.contains(&account)
         && SERIES.contains(&series)

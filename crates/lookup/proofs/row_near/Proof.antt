@@ -20,10 +20,10 @@ use Rattle.lookup.proofs.row_near.Statement.{statement}
 use Rattle.lookup.proofs.row_near.Tie as tie
 
 abbrev Inv-loop : tie.InvT-loop
-Inv-loop cells header width count major minor low₀ left₀ low left = (low ≤ rowPlace header width (keyOf (toZ w64 major) (toZ w64 minor)) count cells) × (low + left ≤ count)
+Inv-loop cells header width count major minor least low₀ left₀ low left = (low ≤ rowPlace header width (keyOf (toZ w64 major) (toZ w64 minor)) count cells) × (low + left ≤ count)
 
 abbrev μ-loop : tie.MeasureT-loop
-μ-loop cells header width count major minor low₀ left₀ low left = left
+μ-loop cells header width count major minor least low₀ left₀ low left = left
 
 -- The key sought, read from its bits.
 abbrev sought : tie.Start Inv-loop μ-loop → Key
@@ -32,13 +32,13 @@ sought s = keyOf (toZ w64 (ofZ w64 (s .args .major))) (toZ w64 (ofZ w64 (s .args
 -- The row in the middle, which is one of the rows left.
 module _ (c : tie.In-loop Inv-loop μ-loop) where
   abbrev start : tie.Start Inv-loop μ-loop
-  start = c .before .before
+  start = c .before .before .before
 
   abbrev middle : ℕ
   middle = c .before .loop .low + c .before .loop .left / 2
 
   halved : (1 ≤ c .before .loop .left / 2) × (c .before .loop .left / 2 < c .before .loop .left)
-  halved = omega arith
+  halved = omega (arith, c .before .before .rows-to-walk .ensures, c .loop-test .taken)
 
   one-of : middle < start .args .count
   one-of = omega (arith, halved)
@@ -113,7 +113,7 @@ loop-again c =
 
 returns : tie.Need-returns Inv-loop μ-loop
 returns c =
-    let s : tie.Start Inv-loop μ-loop = c .before .before in
+    let s : tie.Start Inv-loop μ-loop = c .before .before .before in
     let near : c .before .loop .low ≤ rowPlace (s .args .header) (s .args .width) (sought s) (s .args .count) (s .args .cells .now) = c .before .loop .inv .0 in
     simp (toZ-ofZ (s .fits .major), toZ-ofZ (s .fits .minor)) at near
 
@@ -123,6 +123,7 @@ row-near-spec =
     (tie.spec
     Inv-loop
     μ-loop
+    (λ c κs. tt)
     loop-holds
     add-at
     mul-at

@@ -2,22 +2,28 @@
 -- Assumes nothing.
 use mathlib.Core.Path.{_≡_, sym, _∙_, ap, subst}
 use mathlib.Core.Bool.{Bool, true}
-use mathlib.Core.List.{List}
+use mathlib.Core.List.{List, [], _∷_}
 use mathlib.Core.Logic.{⊎-elim}
 use borrow.Author.Needs.{needs}
+use Prim.Native.Nat.{_+_, _≤_}
 use lib.IntN.{ℤ, _-ℤ_}
+use lib.ListN.{length}
 use mir.Facts.{toZ-ofZ}
 use mir.Syntax.{w64}
 use mir.Val.{SFits, toZ, ofZ}
 use Rattle.rules.specs.Figures.{validQuantity}
+use Rattle.rules.specs.Keyed.{Key, absentFrom}
 use Rattle.rules.specs.Rows.{recordKey, positionKey, newRecord, moved, soundPosition}
-use Rattle.rules.specs.Tables.{recordsLayout, positionsLayout}
+use Rattle.rules.specs.Layout.{roomOf, rowsOf}
+use Rattle.rules.specs.Tables.{recordsLayout, positionsLayout, soundPositions}
 use Rattle.rules.specs.Trade.{tradeKind}
 use Rattle.rules.specs.Handle.{answered}
 use Rattle.rules.specs.declared.Record.{Record}
 use Rattle.rules.specs.declared.Position.{Position}
 use Rattle.rules.specs.declared.Movement.{Movement}
 use Rattle.rules.specs.declared.Reply.the-variants.{ClosingError}
+use Rattle.lookup.specs.Lookup.{foundIn}
+use Rattle.lookup.specs.declared.Found.{Found}
 use Rattle.scan.proofs.ReadBack.{read-back}
 use Rattle.verdict.proofs.Puts.{putOne}
 use Rattle.verdict.proofs.Ready.{InsertReady, PutReady}
@@ -26,9 +32,14 @@ use Rattle.verdict.proofs.SoundReads.{position-read-sound}
 use Rattle.verdict.proofs.Trade.{tradeClosed, tradeLong, tradeShort, tradeError, tradeMovement, tradePosition, tradeRow}
 use Rattle.verdict.proofs.TradeReady.{trade-quantity, trade-insert, trade-put, trade-returns-error, trade-returns-plain}
 use Rattle.trade.specs.Booking.{bookingOf}
-use Rattle.trade.proofs.TradeBooked.{opened-fits, booking-moves, closed-is, movement-is, error-is, moved-is}
+use Rattle.trade.proofs.TradeBooked.{opened-fits, booking-moves, closed-is, movement-is, error-is, moved-is, left-key}
 use Rattle.trade.proofs.book.Statement.{statement}
 use Rattle.trade.proofs.book.Tie as tie
+
+-- What `write_position` asks.
+abbrev WriteReady : List ℤ → Found → Position → Type 0
+WriteReady cells found p = (soundPositions cells ≡ true) × (soundPosition p ≡ true) × (length (rowsOf positionsLayout cells) + absentFrom positionKey (rowsOf positionsLayout cells) (p ∷ []) ≤ roomOf positionsLayout cells)
+    × (found ≡ foundIn positionsLayout (positionKey p) cells)
 
 -- What the function is given, and what the rules make of it.
 module _ (s : tie.Start) where
@@ -50,6 +61,13 @@ module _ (s : tie.Start) where
   abbrev leftOf : Position
   leftOf = tradePosition ps (s .args .account) (s .args .series) (s .args .side) (s .args .quantity)
 
+  -- The position, as it was read.
+  read : s .args .p ≡ positionRead ps (s .args .account) (s .args .series)
+  read = s .pre .3 .read-is
+
+  read-sound : soundPosition (s .args .p) ≡ true
+  read-sound = ap soundPosition read ∙ position-read-sound ps (s .pre .1) (s .args .account) (s .args .series)
+
   quantity-valid : validQuantity (s .args .quantity) ≡ true
   quantity-valid =
       trade-quantity rs ps (s .args .id) (s .args .account) (s .args .series) (s .args .side) (s .args .quantity) (s .args .price) (s .pre .0) (s .pre .1) (s .pre .2)
@@ -58,40 +76,35 @@ module _ (s : tie.Start) where
   insertable =
       trade-insert rs ps (s .args .id) (s .args .account) (s .args .series) (s .args .side) (s .args .quantity) (s .args .price) (s .pre .0) (s .pre .1) (s .pre .2)
 
-  puttable : PutReady ps leftOf
-  puttable =
-      trade-put rs ps (s .args .id) (s .args .account) (s .args .series) (s .args .side) (s .args .quantity) (s .args .price) (s .pre .0) (s .pre .1) (s .pre .2)
-
--- The position that was read.
-module _ (c : tie.After-position-of) where
-  abbrev start : tie.Start
-  start = c .before .before
-
-  read : c .position-of .result ≡ positionRead (ps start) (start .args .account) (start .args .series)
-  read = simp (toZ-ofZ (start .fits .account), toZ-ofZ (start .fits .series)) at (c .position-of .ensures)
-
-  read-sound : soundPosition (c .position-of .result) ≡ true
-  read-sound = ap soundPosition read ∙ position-read-sound (ps start) (start .pre .1) (start .args .account) (start .args .series)
+  writable : WriteReady ps (s .args .found) leftOf
+  writable =
+      let ready : PutReady ps leftOf =
+      trade-put rs ps (s .args .id) (s .args .account) (s .args .series) (s .args .side) (s .args .quantity) (s .args .price) (s .pre .0) (s .pre .1) (s .pre .2) in (
+        ready .0,
+        ready .1,
+        ready .2,
+        s .pre .3 .found-is ∙ ap (λ (k : Key). foundIn positionsLayout k ps) (sym (left-key ps (s .args .account) (s .args .series) (s .args .side) (s .args .quantity))),
+      )
 
 -- What the trade closes and books.
 module _ (c : tie.After-booking-of) where
   abbrev s : tie.Start
-  s = start (c .before)
+  s = c .before
 
-  booked : c .booking-of .result ≡ bookingOf (s .args .side) (s .args .quantity) (c .before .position-of .result)
+  booked : c .booking-of .result ≡ bookingOf (s .args .side) (s .args .quantity) (s .args .p)
   booked = simp (toZ-ofZ (s .fits .side), toZ-ofZ (s .fits .quantity)) at (c .booking-of .ensures)
 
   closed : c .booking-of .result .closed ≡ closedOf s
-  closed = closed-is (ps s) (s .args .account) (s .args .series) (s .args .side) (s .args .quantity) (c .before .position-of .result) (c .booking-of .result) (read (c .before)) booked
+  closed = closed-is (ps s) (s .args .account) (s .args .series) (s .args .side) (s .args .quantity) (s .args .p) (c .booking-of .result) (read s) booked
 
   movement : c .booking-of .result .movement ≡ tradeMovement (ps s) (s .args .account) (s .args .series) (s .args .side) (s .args .quantity)
-  movement = movement-is (ps s) (s .args .account) (s .args .series) (s .args .side) (s .args .quantity) (c .before .position-of .result) (c .booking-of .result) (read (c .before)) booked
+  movement = movement-is (ps s) (s .args .account) (s .args .series) (s .args .side) (s .args .quantity) (s .args .p) (c .booking-of .result) (read s) booked
 
   error : c .booking-of .result .error ≡ errorOf s
-  error = error-is (ps s) (s .args .account) (s .args .series) (s .args .side) (s .args .quantity) (c .before .position-of .result) (c .booking-of .result) (read (c .before)) booked
+  error = error-is (ps s) (s .args .account) (s .args .series) (s .args .side) (s .args .quantity) (s .args .p) (c .booking-of .result) (read s) booked
 
-  left : moved (c .before .position-of .result) (c .booking-of .result .movement) ≡ leftOf s
-  left = moved-is (ps s) (s .args .account) (s .args .series) (s .args .side) (s .args .quantity) (c .before .position-of .result) (c .booking-of .result) (read (c .before)) booked
+  left : moved (s .args .p) (c .booking-of .result .movement) ≡ leftOf s
+  left = moved-is (ps s) (s .args .account) (s .args .series) (s .args .side) (s .args .quantity) (s .args .p) (c .booking-of .result) (read s) booked
 
 -- The row that is made.
 module _ (c : tie.After-new-record) where
@@ -142,12 +155,12 @@ module _ (c : tie.After-moved) where
   leaves : c .moved .result ≡ leftOf (s e)
   leaves = c .moved .ensures ∙ left e
 
-put : (c : tie.After-put-position) → c .put-position .last .0 ≡ putOne positionsLayout positionKey (ps (s (e (c .before .before)))) (leftOf (s (e (c .before .before))))
-put c = c .put-position .ensures .0 ∙ ap (putOne positionsLayout positionKey (ps (s (e (c .before .before))))) (leaves (c .before .before))
+put : (c : tie.After-write-position) → c .write-position .last .0 ≡ putOne positionsLayout positionKey (ps (s (e (c .before .before)))) (leftOf (s (e (c .before .before))))
+put c = c .write-position .ensures .0 ∙ ap (putOne positionsLayout positionKey (ps (s (e (c .before .before))))) (leaves (c .before .before))
 
 -- The excess of a closing error.
 module _ (c : tie.After-struct-told3) where
-  abbrev p : tie.After-put-position
+  abbrev p : tie.After-write-position
   p = c .before .before .before .before
 
   abbrev f : tie.After-booking-of
@@ -164,11 +177,8 @@ module _ (c : tie.After-struct-told3) where
       = read-back (f .booking-of .result .closed) (c .struct-told3 .given .0 .1) ∙ closed f in
       λ i. toZ-ofZ (s f .fits .quantity) i -ℤ closed-back i
 
-position-of-requires : tie.Need-position-of-requires
-position-of-requires c κs = search needs
-
 booking-of-requires : tie.Need-booking-of-requires
-booking-of-requires c κs = simp (toZ-ofZ (start c .fits .quantity)) (quantity-valid (start c), read-sound c)
+booking-of-requires c κs = simp (toZ-ofZ (c .fits .quantity)) (quantity-valid c, read-sound c)
 
 new-record-requires : tie.Need-new-record-requires
 new-record-requires c κs = search needs
@@ -181,13 +191,15 @@ insert-record-requires c κs =
 moved-requires : tie.Need-moved-requires
 moved-requires c κs =
     let b : tie.After-booking-of = d (c .before) in
-    booking-moves (s b .args .side) (s b .args .quantity) (b .before .position-of .result) (quantity-valid (s b)) (read-sound (b .before)) (b .booking-of .result) (booked b)
+    booking-moves (s b .args .side) (s b .args .quantity) (s b .args .p) (quantity-valid (s b)) (read-sound (s b)) (b .booking-of .result) (booked b)
 
-put-position-requires : tie.Need-put-position-requires
-put-position-requires c κs = subst (λ (q : Position). PutReady (ps (s (e (c .before)))) q) (sym (leaves (c .before))) (puttable (s (e (c .before))))
+write-position-requires : tie.Need-write-position-requires
+write-position-requires c κs =
+    let s : tie.Start = s (e (c .before)) in
+    subst (λ (q : Position). WriteReady (ps s) (s .args .found) q) (sym (leaves (c .before))) (writable s)
 
-sub-t24 : tie.Need-sub-t24
-sub-t24 c = subst (SFits w64) (sym (excess c)) (excess-fits c)
+sub-excess : tie.Need-sub-excess
+sub-excess c = subst (SFits w64) (sym (excess c)) (excess-fits c)
 
 same-length : tie.Need-same-length
 same-length c = search needs
@@ -201,9 +213,9 @@ returns c =
     let excess-back : toZ w64 (ofZ w64 (toZ w64 (ofZ w64 (s .args .quantity)) -ℤ toZ w64 (ofZ w64 (f c .booking-of .result .closed)))) ≡ s .args .quantity -ℤ closedOf s
     = ap (λ (z : ℤ). toZ w64 (ofZ w64 z)) (excess c) ∙ toZ-ofZ (excess-fits c) in
     let i : tie.After-insert-record = p c .before .before .before .before in
-    ap (λ (z : ℤ). answered (ClosingError z) (i .insert-record .last .0) (p c .put-position .last .0)) excess-back
+    ap (λ (z : ℤ). answered (ClosingError z) (i .insert-record .last .0) (p c .write-position .last .0)) excess-back
     ∙ trade-returns-error (rs s) (ps s) (s .args .id) (s .args .account) (s .args .series) (s .args .side) (s .args .quantity) (s .args .price)
-    (i .insert-record .last .0) (p c .put-position .last .0) (inserted i) (put (p c)) (sym (error (f c)) ∙ c .before .before .if2 .taken)
+    (i .insert-record .last .0) (p c .write-position .last .0) (inserted i) (put (p c)) (sym (error (f c)) ∙ c .before .before .if2 .taken)
 
 same-length-3 : tie.Need-same-length-3
 same-length-3 c = search needs
@@ -213,23 +225,22 @@ same-length-4 c = search needs
 
 returns-2 : tie.Need-returns-2
 returns-2 c =
-    let p : tie.After-put-position = c .before .before in
+    let p : tie.After-write-position = c .before .before in
     let s : tie.Start = s (e (p .before .before)) in
     let i : tie.After-insert-record = p .before .before .before .before in
     trade-returns-plain (rs s) (ps s) (s .args .id) (s .args .account) (s .args .series) (s .args .side) (s .args .quantity) (s .args .price)
-    (i .insert-record .last .0) (p .put-position .last .0) (inserted i) (put p) (sym (error (e (p .before .before))) ∙ c .if2 .left)
+    (i .insert-record .last .0) (p .write-position .last .0) (inserted i) (put p) (sym (error (e (p .before .before))) ∙ c .if2 .left)
 
 pub book-spec : {M : Type 1} → statement M
 book-spec =
     tie.close
     (tie.spec
-    position-of-requires
     booking-of-requires
     new-record-requires
     insert-record-requires
     moved-requires
-    put-position-requires
-    sub-t24
+    write-position-requires
+    sub-excess
     same-length
     same-length-2
     returns

@@ -19,7 +19,9 @@ use Rattle.lookup.proofs.TableLookup.{suffix-greatest, suffix-nothing}
 use Rattle.verdict.specs.Verdict.{absentPosition}
 use Rattle.verdict.proofs.Remaining.{_past_, stops, ends}
 use Rattle.verdict.proofs.Room.{absent-at-most-one}
+use Rattle.verdict.proofs.SoundReads.{position-read-sound}
 use Rattle.verdict.proofs.Trade.{tradePosition, TradeFrom, trade-tests}
+use Rattle.requests.proofs.AbsentRow.{absent-is}
 use Rattle.trade.proofs.TradeBooked.{after-is, figures-quantity}
 use Rattle.trade.proofs.verdict.Statement.{statement}
 use Rattle.trade.proofs.verdict.Tie as tie
@@ -104,16 +106,18 @@ module _ (c : tie.Else2) where
   at-15 : From start15 15
   at-15 = at-14 (c .before .before) past sym (c .before .lacks-records-room .ensures) ∙ c .if2 .left
 
-absent : (c : tie.After-absent-position) → let a = start15 (c .before) .args in c .absent-position .result ≡ absentPosition (a .positions .now) (a .account) (a .series)
-absent c = simp (toZ-ofZ (start15 (c .before) .fits .account), toZ-ofZ (start15 (c .before) .fits .series)) at (c .absent-position .ensures)
+absent : (c : tie.After-absent-row) → let a = start15 (c .before) .args in c .absent-row .result ≡ absentPosition (a .positions .now) (a .account) (a .series)
+absent c =
+    let s : tie.Start = start15 (c .before) in
+    c .absent-row .ensures ∙ absent-is (s .args .positions .now) (s .args .account) (s .args .series) (s .args .found) (s .pre .2 .found-is)
 
 answer-15 : (c : tie.After-lacks-positions-room) → let a = start15 (c .before .before) .args in
     c .lacks-positions-room .result
     ≡ ltb (roomOf positionsLayout (a .positions .now)) (length (rowsOf positionsLayout (a .positions .now)) + absentPosition (a .positions .now) (a .account) (a .series))
 answer-15 c = simp (absent (c .before)) at (c .lacks-positions-room .ensures)
 
-absent-position-requires : tie.Need-absent-position-requires
-absent-position-requires c κs = search needs
+absent-row-requires : tie.Need-absent-row-requires
+absent-row-requires c κs = search needs
 
 lacks-positions-room-requires : tie.Need-lacks-positions-room-requires
 lacks-positions-room-requires c κs =
@@ -137,17 +141,17 @@ answer-16 : (c : tie.After-sound-position) → let a = start16 (c .before .befor
 answer-16 c =
     let s : tie.Start = start16 (c .before .before) in
     let left : c .before .position-after .result ≡ tradePosition (s .args .positions .now) (s .args .account) (s .args .series) (s .args .side) (s .args .quantity)
-    = (simp (toZ-ofZ (s .fits .account), toZ-ofZ (s .fits .series), toZ-ofZ (s .fits .side), toZ-ofZ (s .fits .quantity)) at (c .before .position-after .ensures))
-    ∙ after-is (s .args .positions .now) (s .args .account) (s .args .series) (s .args .side) (s .args .quantity) in
+    = (simp (toZ-ofZ (s .fits .side), toZ-ofZ (s .fits .quantity)) at (c .before .position-after .ensures))
+    ∙ after-is (s .args .positions .now) (s .args .account) (s .args .series) (s .args .side) (s .args .quantity) (s .args .p) (s .pre .2 .read-is) in
     c .sound-position .ensures ∙ ap soundPosition left
 
 position-after-requires : tie.Need-position-after-requires
 position-after-requires c κs =
     let s : tie.Start = start16 c in
     simp (toZ-ofZ (s .fits .quantity)) (
-      s .pre .1,
       figures-quantity (s .args .id) (s .args .account) (s .args .series) (s .args .side) (s .args .quantity) (s .args .price)
           (figures (c .before .before .before .before .before .before .before .before)),
+      ap soundPosition (s .pre .2 .read-is) ∙ position-read-sound (s .args .positions .now) (s .pre .1) (s .args .account) (s .args .series),
     )
 
 sound-position-requires : tie.Need-sound-position-requires
@@ -164,5 +168,5 @@ verdict-spec =
     tie.close
     (tie.spec
     figures-valid-requires returns greatest-suffix-requires enum-told enum-told-2 returns-2 lacks-records-room-requires
-    returns-3 absent-position-requires lacks-positions-room-requires returns-4 position-after-requires
+    returns-3 absent-row-requires lacks-positions-room-requires returns-4 position-after-requires
     sound-position-requires returns-5 returns-6)

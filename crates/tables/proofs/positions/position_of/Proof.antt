@@ -1,77 +1,13 @@
--- `tables::positions::position_of` meets its contract: the row that the lookup answers is read, and an absent one reads as zeros. Assumes nothing.
-use native.Mathlib.Omega.{arith}
-use native.Mathlib.Nat.{mul-le-mul-right}
-use Prim.Native.Nat.{suc, _+_, _*_, _≤_, _<_}
-use mathlib.Core.Path.{_≡_, sym, _∙_}
-use lib.ListN.{length}
+-- `tables::positions::position_of` meets its contract: looked up, then read. Assumes nothing.
 use mir.Facts.{toZ-ofZ}
 use borrow.Author.Needs.{needs}
-use Rattle.rules.specs.Rows.{zeroPosition}
-use Rattle.rules.specs.Layout.{startOf, rowsOf}
-use Rattle.rules.specs.Tables.{positionsLayout}
-use Rattle.cells.proofs.SoundCells.{positions-known}
-use Rattle.lookup.specs.Lookup.{positionFound}
-use Rattle.lookup.specs.declared.Found.the-variants.{Row}
-use Rattle.lookup.proofs.TableLookup.{position-found, position-read, position-zeros}
 use Rattle.tables.proofs.positions.position_of.Statement.{statement}
 use Rattle.tables.proofs.positions.position_of.Tie as tie
 
-answer : (c : tie.After-find-position) → c .find-position .result ≡ positionFound (c .before .args .cells .now) (c .before .args .account) (c .before .args .series)
-answer c = simp (toZ-ofZ (c .before .fits .account), toZ-ofZ (c .before .fits .series)) at (c .find-position .ensures)
-
--- The row that the lookup answered.
-module _ (c : tie.After-row) where
-  abbrev s : tie.Start
-  s = c .before .before .before
-
-  found : positionFound (s .args .cells .now) (s .args .account) (s .args .series) ≡ Row (c .row .given .0 .0)
-  found = sym (answer (c .before .before)) ∙ c .row .given .1
-
-  within : startOf positionsLayout (suc (c .row .given .0 .0)) ≤ length (s .args .cells .now)
-  within =
-      let below : c .row .given .0 .0 < length (rowsOf positionsLayout (s .args .cells .now))
-      = position-found (s .args .cells .now) (s .args .account) (s .args .series) (c .row .given .0 .0) found .0 in
-      omega (arith, positions-known (s .args .cells .now) (s .pre) .rows-within, mul-le-mul-right (positionsLayout .width) below)
-
-find-position-requires : tie.Need-find-position-requires
-find-position-requires c κs = search needs
-
-enum-known-row : tie.Need-enum-known-row
-enum-known-row c = search needs
-
-mul-position-at : tie.Need-mul-position-at
-mul-position-at c = omega (arith, within (c .before))
-
-add-position-at : tie.Need-add-position-at
-add-position-at c = omega (arith, within (c .before))
-
-position-at-requires : tie.Need-position-at-requires
-position-at-requires c κs = omega (arith, within (c .before))
-
-enum-told : tie.Need-enum-told
-enum-told c = search needs
-
 returns : tie.Need-returns
 returns c =
-    let s : tie.Start = c .before .before .before .before .before in
-    c .position-at .ensures ∙ sym (position-read (s .args .cells .now) (s .args .account) (s .args .series) (c .before .before .row .given .0 .0) (found (c .before .before)))
-
-returns-2 : tie.Need-returns-2
-unfolding zeroPosition
-returns-2 c =
-    let s : tie.Start = c .before .before .before in
-    simp (toZ-ofZ (s .fits .account), toZ-ofZ (s .fits .series))
-    (sym (position-zeros (s .args .cells .now) (s .args .account) (s .args .series) (sym (answer (c .before .before)) ∙ c .enum-told .given .1)))
+    let s : tie.Start = c .before .before in
+    simp (toZ-ofZ (s .fits .account), toZ-ofZ (s .fits .series)) at (c .read-position .ensures)
 
 pub position-of-spec : {M : Type 1} → statement M
-position-of-spec =
-    tie.close
-    (tie.spec
-    find-position-requires
-    enum-known-row
-    mul-position-at
-    add-position-at
-    position-at-requires
-    enum-told
-    returns
-    returns-2)
+position-of-spec = tie.close (tie.spec (λ c κs. search needs) (λ c κs. (c .before .pre, c .find-position .ensures)) returns)

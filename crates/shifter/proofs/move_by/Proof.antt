@@ -1,19 +1,17 @@
--- `shifter::move_up_3` meets its contract. The loop's invariant: the cells from `k` on stand three records higher; the measure is `k`. Assumes nothing.
+-- `shifter::move_by` meets its contract. The loop's invariant: the cells from `k` on stand `by` higher; the measure is `k`. Assumes nothing.
 use borrow.Author.Needs.{needs}
-use Prim.Native.Nat.{_*_}
-use Rattle.rules.specs.Tables.{recordsLayout}
 use Rattle.shifter.proofs.Moved.{Moving, starts, moves, all-up}
-use Rattle.shifter.proofs.move_up_3.Statement.{statement}
-use Rattle.shifter.proofs.move_up_3.Tie as tie
+use Rattle.shifter.proofs.move_by.Statement.{statement}
+use Rattle.shifter.proofs.move_by.Tie as tie
 
 abbrev Inv-loop : tie.InvT-loop
-Inv-loop tail₀ used k₀ tail k = Moving tail₀ used (3 * recordsLayout .width) tail k
+Inv-loop tail₀ used by k₀ tail k = Moving tail₀ used by tail k
 
 abbrev μ-loop : tie.MeasureT-loop
-μ-loop tail₀ used k₀ tail k = k
+μ-loop tail₀ used by k₀ tail k = k
 
-pub move-up-3-spec : {M : Type 1} → statement M
-move-up-3-spec =
+pub move-by-spec : {M : Type 1} → statement M
+move-by-spec =
     tie.close
     (tie.spec
     Inv-loop

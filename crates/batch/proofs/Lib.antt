@@ -1,0 +1,2 @@
+pub mod BookedSoFar
+pub mod Handled
