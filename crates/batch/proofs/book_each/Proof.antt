@@ -2,7 +2,7 @@
 -- The measure is the number of trades left. Assumes nothing.
 use Prim.Native.Nat.{ℕ, _+_, _-_, _*_, _^_, _≤_, _<_}
 use native.Mathlib.Omega.{arith}
-use mathlib.Core.Path.{_≡_, subst}
+use mathlib.Core.Path.{_≡_, _∙_, ap, subst}
 use mathlib.Core.List.{List}
 use borrow.Author.Needs.{needs}
 use lib.IntN.{ℤ, pos}
@@ -11,7 +11,9 @@ use mir.Facts.{toZ-ofZ, toZ-pos}
 use mir.Syntax.{w64}
 use mir.Val.{toZ}
 use Rattle.rules.specs.Tables.{Tables, tablesOf}
+use Rattle.rules.specs.Left.{left}
 use Rattle.rules.specs.Batch.{tradeAt, tradeCount}
+use Rattle.rules.specs.declared.Reply.the-variants as Reply
 use Rattle.scan.proofs.ReadBack.{read-back}
 use Rattle.batch.specs.BookedSoundly.{BookedSoundly}
 use Rattle.batch.specs.declared.Outcome.{Outcome}
@@ -113,8 +115,8 @@ returns-2 c =
     let l : tie.At-loop Inv-loop μ-loop = c .before in
     let s : tie.Start Inv-loop μ-loop = l .before in
     let small : tradeCount (list s) < 2 ^ 63 = omega (arith, fits s .0) in
-    simp (toZ-pos w64 small)
-    (all-booked (start s) (list s) (s .args .excess .now) (l .loop .records) (l .loop .positions) (l .loop .excess) (l .loop .i) (l .loop .inv) (c .loop-test .left) (l .loop .inv .within))
+    ap (λ (rows : ℤ). left (Reply.Booked rows (pos 0)) (l .loop .excess) (l .loop .records) (l .loop .positions)) (toZ-pos w64 small)
+    ∙ all-booked (start s) (list s) (s .args .excess .now) (l .loop .records) (l .loop .positions) (l .loop .excess) (l .loop .i) (l .loop .inv) (c .loop-test .left) (l .loop .inv .within)
 
 pub book-each-spec : {M : Type 1} → statement M
 book-each-spec =
