@@ -2,11 +2,10 @@
 -- With n rows. Assumes nothing.
 use Prim.Native.Nat.{ℕ, suc, _+_, _-_, _*_, _≤_, _<_}
 use native.Mathlib.Nat.{mul-le-mul-right, add-mul}
-use native.Mathlib.Numerals.{add-one}
 use native.Mathlib.Omega.{arith}
 use mathlib.Core.Path.{_≡_, sym, ap, _∙_}
 use mathlib.Core.Bool.{true}
-use mathlib.Core.List.{List, [], _∷_, _++_, append-assoc, append-nil}
+use mathlib.Core.List.{List, _∷_, _++_, append-assoc}
 use lib.IntN.{ℤ, pos}
 use lib.ListN.{length, take, drop, take-append-drop, length-append, length-drop}
 use lib.Seq.{drop-drop, length-take-le}
@@ -14,7 +13,7 @@ use Rattle.rules.specs.Layout.{Layout, countOf, afterCount, decode, encode, sta
 use Rattle.cells.specs.Lawful.{Lawful}
 use Rattle.cells.proofs.Parts.{length-replaced}
 use Rattle.cells.proofs.Decode.{length-decode, take-decode, drop-decode}
-use Rattle.cells.proofs.Encode.{encode-nil, encode-cons, encode-append, encode-decode}
+use Rattle.cells.proofs.Encode.{encode-cons, encode-append, encode-decode}
 use Rattle.cells.proofs.Count.{header-then, rowsOf-decode, sound-count, sound-rows-cells}
 use Rattle.cells.proofs.Write.{write-cells}
 
@@ -68,20 +67,6 @@ module _ {Row : Type 0} (l : Layout Row) (lawful : Lawful l) (cells : List ℤ) 
       ∙ ap (λ (c : List ℤ). pos m ∷ (afterCount (l .header) cells ++ (c ++ rest))) coded
       ∙ ap (λ (c : List ℤ). pos m ∷ (afterCount (l .header) cells ++ c)) regroup
 
-  -- One row.
-  pub insert-cells : (k : ℕ) (new : Row) → k ≤ n
-      → write l cells (take k (decode (l .get) (l .width) n (l .header) cells) ++ (new ∷ drop k (decode (l .get) (l .width) n (l .header) cells)))
-      ≡ pos (suc n) ∷ (afterCount (l .header) cells ++ (take (k * l .width) (drop (l .header) cells)
-      ++ (l .put new ++ (take ((n - k) * l .width) (drop (startOf l k) cells) ++ drop (startOf l (suc n)) cells))))
-  insert-cells k new h =
-      let before : List ℤ = take (k * l .width) (drop (l .header) cells) in
-      let moved : List ℤ = take ((n - k) * l .width) (drop (startOf l k) cells) in
-      let one : encode (l .put) (new ∷ []) ≡ l .put new =
-      encode-cons (l .put) new [] ∙ ap (λ (c : List ℤ). l .put new ++ c) (encode-nil (l .put)) ∙ append-nil (l .put new) in
-      insert-run-cells k (new ∷ []) h
-      ∙ ap (λ (j : ℕ). pos j ∷ (afterCount (l .header) cells ++ (before ++ (encode (l .put) (new ∷ []) ++ (moved ++ drop (startOf l j) cells))))) (add-one n)
-      ∙ ap (λ (c : List ℤ). pos (suc n) ∷ (afterCount (l .header) cells ++ (before ++ (c ++ (moved ++ drop (startOf l (suc n)) cells))))) one
-
   -- A row in place of row k: all other cells stay.
   pub replace-cells : (k : ℕ) (new : Row) → countOf cells ≡ pos n → k < n
       → write l cells (take k (decode (l .get) (l .width) n (l .header) cells) ++ (new ∷ drop (suc k) (decode (l .get) (l .width) n (l .header) cells)))
@@ -125,14 +110,6 @@ module _ {Row : Type 0} (l : Layout Row) (lawful : Lawful l) (cells : List ℤ) 
   insert-rows k news h =
       ap (λ (rows : List Row). write l cells (take k rows ++ (news ++ drop k rows))) (rowsOf-decode l cells)
       ∙ insert-run-cells l lawful cells (length (rowsOf l cells)) (sound-rows-cells l lawful cells sound) k news h
-
-  pub insert-row : (k : ℕ) (new : Row) → k ≤ length (rowsOf l cells)
-      → write l cells (take k (rowsOf l cells) ++ (new ∷ drop k (rowsOf l cells)))
-      ≡ pos (suc (length (rowsOf l cells))) ∷ (afterCount (l .header) cells ++ (take (k * l .width) (drop (l .header) cells)
-      ++ (l .put new ++ (take ((length (rowsOf l cells) - k) * l .width) (drop (startOf l k) cells) ++ drop (startOf l (suc (length (rowsOf l cells)))) cells))))
-  insert-row k new h =
-      ap (λ (rows : List Row). write l cells (take k rows ++ (new ∷ drop k rows))) (rowsOf-decode l cells)
-      ∙ insert-cells l lawful cells (length (rowsOf l cells)) (sound-rows-cells l lawful cells sound) k new h
 
   pub replace-row : (k : ℕ) (new : Row) → k < length (rowsOf l cells)
       → write l cells (take k (rowsOf l cells) ++ (new ∷ drop (suc k) (rowsOf l cells)))

@@ -99,3 +99,16 @@ module _ {Row : Type 0} (key : Row → Key) where
       go again (upper a s b) =
           ap (λ (l : List Row). length l) (upsert-upper key new r rest b s)
           ∙ ap suc (again (sym (find-there key (key new) r rest (same-sym (key r) (key new) ∙ s)) ∙ f))
+
+  -- A row that takes the place of the one with its key leaves every key where it stood.
+  pub upsert-keys : (new x : Row) (t : List Row) → rising key t ≡ true → find key (key new) t ≡ some x → map key (upsert key new t) ≡ map key t
+  upsert-keys new x [] h f = none-some (find-nil key (key new)) f
+  upsert-keys new x (r ∷ rest) h f = go (upsert-keys new x rest (rising-tail r rest h)) (way (key new) (key r))
+    where
+      go : (find key (key new) rest ≡ some x → map key (upsert key new rest) ≡ map key rest) → Way (key new) (key r) →
+          map key (upsert key new (r ∷ rest)) ≡ map key (r ∷ rest)
+      go again (lower b _ _) = none-some (find-low (key new) (r ∷ rest) (belowAll-intro (key new) r rest b (belowAll-lower (key new) (key r) rest b (rising-head r rest h)))) f
+      go again (level e s _ _) = ap (map key) (upsert-level key new r rest s) ∙ ap (λ (k : Key). k ∷ map key rest) e
+      go again (upper a s b) =
+          ap (map key) (upsert-upper key new r rest b s)
+          ∙ ap (λ (keys : List Key). key r ∷ keys) (again (sym (find-there key (key new) r rest (same-sym (key r) (key new) ∙ s)) ∙ f))

@@ -1,5 +1,5 @@
 // Lineage: tests 1, 3 and 5, and the way from parent to parent. It reads the records table alone, and never writes.
-use lookup::Found;
+use lookup::Sought;
 use rules::Reply;
 use tables::records;
 ghost use mathlib.Core.Path.{_≡_};
@@ -22,7 +22,7 @@ fn origin(records: &[i64], id: i64, suffix: i64) -> Traced
     requires { ⌜ (soundRecords (now records) ≡ true) × (validSuffix suffix ≡ true) ⌝ }
     ensures { λ r. ⌜ r ≡ originFound (now (records .entry)) id suffix ⌝ }
 {
-    let Found::Row(row) = records::find_record(records, id, suffix) else {
+    let Sought::Present(row, greatest, next) = records::look_up(records, id, suffix) else {
         return Traced::Missing;
     };
     let r = records::read_record(records, row);

@@ -3,22 +3,22 @@ use Prim.Native.Nat.{ℕ, _+_}
 use mathlib.Core.Path.{_≡_, refl}
 use mathlib.Core.Bool.{true, false}
 use mathlib.Core.List.{List, [], _∷_}
+use mathlib.Core.Option.{none, some}
 use Rattle.rules.specs.Keyed.{Key, below, same}
 use Rattle.keys.proofs.Split.{cond-true, cond-false}
-use Rattle.lookup.specs.Lookup.{foundFrom, placeFrom}
-use Rattle.lookup.specs.declared.Found.the-variants.{Row, Absent}
+use Rattle.lookup.specs.Lookup.{rowFrom, placeFrom}
 
-pub foundFrom-nil : (row : ℕ) (k : Key) → foundFrom row k [] ≡ Absent
-unfolding foundFrom
-foundFrom-nil row k = refl
+pub rowFrom-nil : (row : ℕ) (k : Key) → rowFrom row k [] ≡ none
+unfolding rowFrom
+rowFrom-nil row k = refl
 
-pub foundFrom-here : (row : ℕ) (k e : Key) (rest : List Key) → same e k ≡ true → foundFrom row k (e ∷ rest) ≡ Row row
-unfolding foundFrom
-foundFrom-here row k e rest h = cond-true (Row row) (foundFrom (row + 1) k rest) h
+pub rowFrom-here : (row : ℕ) (k e : Key) (rest : List Key) → same e k ≡ true → rowFrom row k (e ∷ rest) ≡ some row
+unfolding rowFrom
+rowFrom-here row k e rest h = cond-true (some row) (rowFrom (row + 1) k rest) h
 
-pub foundFrom-there : (row : ℕ) (k e : Key) (rest : List Key) → same e k ≡ false → foundFrom row k (e ∷ rest) ≡ foundFrom (row + 1) k rest
-unfolding foundFrom
-foundFrom-there row k e rest h = cond-false (Row row) (foundFrom (row + 1) k rest) h
+pub rowFrom-there : (row : ℕ) (k e : Key) (rest : List Key) → same e k ≡ false → rowFrom row k (e ∷ rest) ≡ rowFrom (row + 1) k rest
+unfolding rowFrom
+rowFrom-there row k e rest h = cond-false (some row) (rowFrom (row + 1) k rest) h
 
 pub placeFrom-nil : (row : ℕ) (k : Key) → placeFrom row k [] ≡ row
 unfolding placeFrom

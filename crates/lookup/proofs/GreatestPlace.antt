@@ -19,8 +19,7 @@ use Rattle.keys.proofs.Equal.{ltZ-irrefl, ltZ-trans, not-ltZ-of-leZ}
 use Rattle.keys.proofs.KeyOrder.{below-cases, below-major}
 use Rattle.keys.proofs.Lookup.{find-key}
 use Rattle.keys.proofs.Greatest.{greatest-found, found-greatest, greatest-bounds}
-use Rattle.lookup.specs.Lookup.{foundFrom, placeFrom}
-use Rattle.lookup.specs.declared.Found.the-variants.{Row}
+use Rattle.lookup.specs.Lookup.{rowFrom, placeFrom}
 use Rattle.lookup.proofs.RowFound.{find-found}
 use Rattle.lookup.proofs.RisingKeys.{earlier-below, place-in, before-place, at-place, find-there}
 
@@ -33,7 +32,7 @@ module _ (keys : List Key) (rises : rising (λ e. e) keys ≡ true) (m top : ℤ
   place = placeFrom 0 last keys
 
   -- From the place on the first figure is greater.
-  greater-at : place < length keys → ltZ m (getD keys place last .major) ≡ true
+  pub greater-at : place < length keys → ltZ m (getD keys place last .major) ≡ true
   greater-at h = go (below-cases last (getD keys place last) (at-place last keys last h))
     where
       go : (ltZ m (getD keys place last .major) ≡ true) ⊎ ((m ≡ getD keys place last .major) × (ltZ top (getD keys place last .minor) ≡ true))
@@ -81,7 +80,7 @@ module _ (keys : List Key) (rises : rising (λ e. e) keys ≡ true) (m top : ℤ
   greatest-place : (g : ℤ) → greatest (λ e. e) m keys ≡ some g → (i : ℕ) × (place ≡ suc i) × (getD keys i last ≡ keyOf m g)
   greatest-place g h =
       let x : (x : Key) × (find (λ e. e) (keyOf m g) keys ≡ some x) = greatest-found (λ e. e) m g keys h in
-      let w : (i : ℕ) × (foundFrom 0 (keyOf m g) (map (λ e. e) keys) ≡ Row i) × (i < length keys) × ((other : Key) → getD keys i other ≡ x .0)
+      let w : (i : ℕ) × (rowFrom 0 (keyOf m g) (map (λ e. e) keys) ≡ some i) × (i < length keys) × ((other : Key) → getD keys i other ≡ x .0)
       = find-found (λ e. e) (keyOf m g) keys (x .0) (x .1) in
       let e : getD keys (w .0) last ≡ keyOf m g = w .3 last ∙ find-key (λ e. e) (keyOf m g) keys (x .0) (x .1) in
       let past : w .0 < place = of-figure (w .0) (w .2) (ap (λ (k : Key). k .major) e) in

@@ -6,4 +6,7 @@ pub mod RisingKeys
 pub mod GreatestPlace
 pub mod Halving
 pub mod RowBefore
+pub mod LookedUp
 pub mod TableLookup
+pub mod TableSought
+pub mod KeysKept

@@ -14,9 +14,8 @@ use Rattle.keys.proofs.Split.{split, clash}
 use Rattle.keys.proofs.KeyOrder.{same-refl, below-irrefl, below-trans, below-not-same}
 use Rattle.keys.proofs.Clauses.{belowAll}
 use Rattle.keys.proofs.Rising.{belowAll-head, belowAll-tail, rising-tail, rising-head}
-use Rattle.lookup.specs.Lookup.{foundFrom, placeFrom}
-use Rattle.lookup.specs.declared.Found.the-variants.{Row}
-use Rattle.lookup.proofs.Clauses.{foundFrom-here, foundFrom-there, placeFrom-nil, placeFrom-here, placeFrom-there}
+use Rattle.lookup.specs.Lookup.{rowFrom, placeFrom}
+use Rattle.lookup.proofs.Clauses.{rowFrom-here, rowFrom-there, placeFrom-nil, placeFrom-here, placeFrom-there}
 use Rattle.lookup.proofs.RowFound.{next, found-next, found-find, found-key}
 use Rattle.lookup.proofs.RowPlaced.{place-next, place-within}
 
@@ -104,26 +103,26 @@ module _ (keys : List Key) (rises : rising (λ e. e) keys ≡ true) (k : Key) (i
 -- ---- the row with a key
 
 -- Each key is found where it stands.
-pub found-there : (keys : List Key) (i : ℕ) (other : Key) → rising (λ e. e) keys ≡ true → i < length keys → foundFrom 0 (getD keys i other) keys ≡ Row i
+pub found-there : (keys : List Key) (i : ℕ) (other : Key) → rising (λ e. e) keys ≡ true → i < length keys → rowFrom 0 (getD keys i other) keys ≡ some i
 unfolding next
 found-there [] i other rises h = absurd (omega arith)
-found-there (e ∷ rest) zero other rises h = foundFrom-here 0 e e rest (same-refl e)
+found-there (e ∷ rest) zero other rises h = rowFrom-here 0 e e rest (same-refl e)
 found-there (e ∷ rest) (suc i) other rises h =
     let apart : same e (getD rest i other) ≡ false = below-not-same e (getD rest i other) (earlier-below (e ∷ rest) 0 (suc i) other rises (omega arith) h) in
-    foundFrom-there 0 (getD rest i other) e rest apart
+    rowFrom-there 0 (getD rest i other) e rest apart
     ∙ found-next 0 (getD rest i other) rest
     ∙ ap next (found-there rest i other (rising-tail (λ e. e) e rest rises) (omega arith))
 
 pub find-there : (keys : List Key) (i : ℕ) (other : Key) → rising (λ e. e) keys ≡ true → i < length keys
     → find (λ e. e) (getD keys i other) keys ≡ some (getD keys i other)
 find-there keys i other rises h =
-    found-find (λ e. e) (getD keys i other) keys i (ap (foundFrom 0 (getD keys i other)) (map-id keys) ∙ found-there keys i other rises h) .1 other
+    found-find (λ e. e) (getD keys i other) keys i (ap (rowFrom 0 (getD keys i other)) (map-id keys) ∙ found-there keys i other rises h) .1 other
 
 -- The row answered is the one before the place.
-pub found-place : (keys : List Key) (k : Key) (i : ℕ) → rising (λ e. e) keys ≡ true → foundFrom 0 k keys ≡ Row i
+pub found-place : (keys : List Key) (k : Key) (i : ℕ) → rising (λ e. e) keys ≡ true → rowFrom 0 k keys ≡ some i
     → (placeFrom 0 k keys ≡ suc i) × (i < length keys) × (getD keys i k ≡ k)
 found-place keys k i rises h =
-    let f : foundFrom 0 k (map (λ e. e) keys) ≡ Row i = ap (foundFrom 0 k) (map-id keys) ∙ h in
+    let f : rowFrom 0 k (map (λ e. e) keys) ≡ some i = ap (rowFrom 0 k) (map-id keys) ∙ h in
     let b : i < length keys = found-find (λ e. e) k keys i f .0 in
     let e : getD keys i k ≡ k = found-key (λ e. e) k keys i k f in
     (just-before keys rises k i k b e, b, e)

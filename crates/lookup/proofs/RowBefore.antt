@@ -1,10 +1,12 @@
 -- Where keys rise, what a search looks for can only stand in the row before a place: the row with a key before the key's place, and the greatest second
 -- figure of a first figure before the place of the last key with that first figure. By the laws of the place, read from the cells. Assumes nothing.
-use Prim.Native.Nat.{ℕ, suc, _+_, _*_, _<_}
+use Prim.Native.Nat.{ℕ, suc, _+_, _*_, _≤_, _<_}
 use mathlib.Core.Path.{_≡_, refl, sym, ap, _∙_}
 use mathlib.Core.Bool.{true, false}
 use mathlib.Core.List.{List}
-use mathlib.Core.Option.{some}
+use mathlib.Core.Option.{Option, none, some}
+use mathlib.Core.Logic.{_⊎_, inl, inr}
+use native.Mathlib.Nat.{eq-or-lt-of-le}
 use native.Mathlib.Omega.{arith}
 use lib.IntN.{ℤ, pos}
 use lib.ListN.{length, getD}
@@ -16,14 +18,11 @@ use Rattle.rules.specs.Keyed.{Key, same, greatest}
 use Rattle.rules.specs.Rows.{keyOf}
 use Rattle.rules.specs.Layout.{decode}
 use Rattle.keys.proofs.Split.{clash}
-use Rattle.keys.proofs.KeyOrder.{same-eq, eq-same}
-use Rattle.lookup.specs.Lookup.{keyAt, foundFrom, rowFound, rowPlace, rowGreatest, keysRise}
-use Rattle.lookup.specs.declared.Found.{Found}
-use Rattle.lookup.specs.declared.Found.the-variants.{Row, Absent}
-use Rattle.lookup.specs.declared.Greatest.the-variants.{Suffix, Nothing}
-use Rattle.lookup.proofs.RowFound.{some-suffix, none-nothing}
-use Rattle.lookup.proofs.RisingKeys.{found-there, found-place}
-use Rattle.lookup.proofs.GreatestPlace.{greatest-there, no-greatest}
+use Rattle.keys.proofs.KeyOrder.{same-eq, eq-same, below-major}
+use Rattle.lookup.specs.Lookup.{keyAt, rowFrom, foundOr, rowFound, rowPlace, keysRise}
+use Rattle.lookup.specs.declared.Found.the-variants as Found
+use Rattle.lookup.proofs.RisingKeys.{found-there, found-place, above-from-place}
+use Rattle.lookup.proofs.GreatestPlace.{greater-at, greatest-there, no-greatest}
 use Rattle.lookup.proofs.Halving.{keys-count, row-key, place-at-most}
 
 -- The greatest figure that a cell can have, and so the last key of a first figure.
@@ -40,26 +39,41 @@ module _ (cells : List ℤ) (header width count : ℕ) (rises : keysRise header 
   -- ---- the row with a key
 
   module _ (k : Key) where
-    pub found-before : (row : ℕ) → rowPlace header width k count cells ≡ suc row → same (keyAt cells (header + row * width)) k ≡ true → rowFound header width k count cells ≡ Row row
-    found-before row p s =
-        let e : getD keys row k ≡ k = row-key cells header width count row k (omega (arith, place-at-most cells header width count k)) ∙ same-eq (keyAt cells (header + row * width)) k s in
-        ap (λ (x : Key). foundFrom 0 x keys) (sym e) ∙ found-there keys row k rises (omega (arith, place-at-most cells header width count k, keys-count cells header width count))
+    -- A row that has the key is the row with the key.
+    pub row-at : (row : ℕ) → row < count → same (keyAt cells (header + row * width)) k ≡ true → rowFrom 0 k keys ≡ some row
+    row-at row h s =
+        let e : getD keys row k ≡ k = row-key cells header width count row k h ∙ same-eq (keyAt cells (header + row * width)) k s in
+        ap (λ (x : Key). rowFrom 0 x keys) (sym e) ∙ found-there keys row k rises (omega (arith, keys-count cells header width count))
 
-    -- Any row answered would stand before the place and have the key.
-    none-answered : ((row : ℕ) → rowPlace header width k count cells ≡ suc row → same (keyAt cells (header + row * width)) k ≡ true → ⊥) → rowFound header width k count cells ≡ Absent
-    none-answered not = go (rowFound header width k count cells) refl
+    -- The row with the key has it, and stands before the place.
+    pub row-of : (row : ℕ) → rowFrom 0 k keys ≡ some row
+        → (rowPlace header width k count cells ≡ suc row) × (row < count) × (same (keyAt cells (header + row * width)) k ≡ true)
+    row-of row e =
+        let w : (rowPlace header width k count cells ≡ suc row) × (row < length keys) × (getD keys row k ≡ k) = found-place keys k row rises e in
+        let b : row < count = omega (arith, w .1, keys-count cells header width count) in
+        (w .0, b, eq-same (keyAt cells (header + row * width)) k (sym (row-key cells header width count row k b) ∙ w .2))
+
+    pub no-row : ((row : ℕ) → rowPlace header width k count cells ≡ suc row → same (keyAt cells (header + row * width)) k ≡ true → ⊥) → rowFrom 0 k keys ≡ none
+    no-row not = go (rowFrom 0 k keys) refl
       where
-        go : (f : Found) → rowFound header width k count cells ≡ f → rowFound header width k count cells ≡ Absent
-        go Absent e = e
-        go (Row i) e =
-            let w : (rowPlace header width k count cells ≡ suc i) × (i < length keys) × (getD keys i k ≡ k) = found-place keys k i rises e in
-            absurd (not i (w .0) (eq-same (keyAt cells (header + i * width)) k (sym (row-key cells header width count i k (omega (arith, w .1, keys-count cells header width count))) ∙ w .2)))
+        go : (o : Option ℕ) → rowFrom 0 k keys ≡ o → rowFrom 0 k keys ≡ none
+        go none e = e
+        go (some i) e = absurd (not i (row-of i e .0) (row-of i e .2))
 
-    pub absent-before : (row : ℕ) → rowPlace header width k count cells ≡ suc row → same (keyAt cells (header + row * width)) k ≡ false → rowFound header width k count cells ≡ Absent
-    absent-before row p s = none-answered (λ i q t. let e : i ≡ row = omega arith in clash (ap (λ (n : ℕ). same (keyAt cells (header + n * width)) k) (sym e) ∙ t) s)
+    pub found-at : (row : ℕ) → row < count → same (keyAt cells (header + row * width)) k ≡ true → rowFound header width k count cells ≡ Found.Row row
+    unfolding foundOr
+    found-at row h s = ap (λ (o : Option ℕ). foundOr o (rowPlace header width k count cells)) (row-at row h s)
 
-    pub absent-first : rowPlace header width k count cells ≡ 0 → rowFound header width k count cells ≡ Absent
-    absent-first p = none-answered (λ i q t. omega arith)
+    absent : rowFrom 0 k keys ≡ none → rowFound header width k count cells ≡ Found.Absent (rowPlace header width k count cells)
+    unfolding foundOr
+    absent e = ap (λ (o : Option ℕ). foundOr o (rowPlace header width k count cells)) e
+
+    pub absent-before : (row : ℕ) → rowPlace header width k count cells ≡ suc row → same (keyAt cells (header + row * width)) k ≡ false
+        → rowFound header width k count cells ≡ Found.Absent (rowPlace header width k count cells)
+    absent-before row p s = absent (no-row (λ i q t. let e : i ≡ row = omega arith in clash (ap (λ (n : ℕ). same (keyAt cells (header + n * width)) k) (sym e) ∙ t) s))
+
+    pub absent-first : rowPlace header width k count cells ≡ 0 → rowFound header width k count cells ≡ Found.Absent (rowPlace header width k count cells)
+    absent-first p = absent (no-row (λ i q t. omega arith))
 
   -- ---- the greatest second figure
 
@@ -82,16 +96,24 @@ module _ (cells : List ℤ) (header width count : ℕ) (rises : keysRise header 
     key-before row p = row-key cells header width count row (lastKey m) (omega (arith, place-at-most cells header width count (lastKey m)))
 
     pub suffix-before : (row : ℕ) → place ≡ suc row → getD cells (header + row * width) (pos 0) ≡ m
-        → rowGreatest header width m count cells ≡ Suffix (getD cells (header + row * width + 1) (pos 0))
+        → greatest (λ e. e) m keys ≡ some (getD cells (header + row * width + 1) (pos 0))
     suffix-before row p e =
-        some-suffix (greatest (λ e. e) m keys) (getD cells (header + row * width + 1) (pos 0))
-        (greatest-there keys rises m topFigure bound row p (ap (λ (k : Key). k .major) (key-before row p) ∙ e) ∙ ap (λ (k : Key). some (k .minor)) (key-before row p))
+        greatest-there keys rises m topFigure bound row p (ap (λ (k : Key). k .major) (key-before row p) ∙ e) ∙ ap (λ (k : Key). some (k .minor)) (key-before row p)
 
-    pub nothing-before : (row : ℕ) → place ≡ suc row → (getD cells (header + row * width) (pos 0) ≡ m → ⊥) → rowGreatest header width m count cells ≡ Nothing
+    pub nothing-before : (row : ℕ) → place ≡ suc row → (getD cells (header + row * width) (pos 0) ≡ m → ⊥) → greatest (λ e. e) m keys ≡ none
     nothing-before row p n =
-        none-nothing (greatest (λ e. e) m keys)
-        (no-greatest keys rises m topFigure bound
-        (λ i q e. let s : row ≡ i = omega arith in n (ap (λ (j : ℕ). getD cells (header + j * width) (pos 0)) s ∙ sym (ap (λ (k : Key). k .major) (key-before i q)) ∙ e)))
+        no-greatest keys rises m topFigure bound
+        (λ i q e. let s : row ≡ i = omega arith in n (ap (λ (j : ℕ). getD cells (header + j * width) (pos 0)) s ∙ sym (ap (λ (k : Key). k .major) (key-before i q)) ∙ e))
 
-    pub nothing-first : place ≡ 0 → rowGreatest header width m count cells ≡ Nothing
-    nothing-first p = none-nothing (greatest (λ e. e) m keys) (no-greatest keys rises m topFigure bound (λ i q e. omega arith))
+    pub nothing-first : place ≡ 0 → greatest (λ e. e) m keys ≡ none
+    nothing-first p = no-greatest keys rises m topFigure bound (λ i q e. omega arith)
+
+    -- Every key of the first figure belongs at this place or before it: from there on the first figure is greater.
+    pub place-to-end : (s : ℤ) → rowPlace header width (keyOf m s) count cells ≤ place
+    place-to-end s = go (eq-or-lt-of-le (place-at-most cells header width count (lastKey m)))
+      where
+        go : (place ≡ count) ⊎ (place < count) → rowPlace header width (keyOf m s) count cells ≤ place
+        go (inl h) = omega (arith, place-at-most cells header width count (keyOf m s))
+        go (inr h) =
+            above-from-place (keyOf m s) keys place (lastKey m)
+            (below-major (keyOf m s) (getD keys place (lastKey m)) (greater-at keys rises m topFigure bound (omega (arith, keys-count cells header width count))))

@@ -14,9 +14,8 @@ use Rattle.keys.proofs.KeyOrder.{same-sym, below-asym, Way, lower, level, upper
 use Rattle.keys.proofs.Clauses.{find-here, find-there, upsert-nil, upsert-lower, upsert-level, upsert-upper}
 use Rattle.keys.proofs.Lookup.{find-key, find-all}
 use Rattle.keys.proofs.Rising.{rising-tail, rising-head}
-use Rattle.lookup.specs.Lookup.{foundFrom, placeFrom}
-use Rattle.lookup.specs.declared.Found.the-variants.{Row}
-use Rattle.lookup.proofs.Clauses.{foundFrom-nil, placeFrom-nil, placeFrom-here, placeFrom-there}
+use Rattle.lookup.specs.Lookup.{rowFrom, placeFrom}
+use Rattle.lookup.proofs.Clauses.{rowFrom-nil, placeFrom-nil, placeFrom-here, placeFrom-there}
 use Rattle.lookup.proofs.RowFound.{next-row-is, found-same, found-other, found-find}
 
 pub place-next : (row : ℕ) (k : Key) (keys : List Key) → placeFrom (row + 1) k keys ≡ suc (placeFrom row k keys)
@@ -66,21 +65,21 @@ module _ {A : Type 0} (key : A → Key) where
           ∙ ap (λ (p : ℕ). take p (r ∷ rest) ++ (new ∷ drop p (r ∷ rest))) (sym (place-upper (key new) r rest b))
 
   -- A row whose key is there takes the place of the row with its key.
-  pub upsert-replaced : (new : A) (rows : List A) (i : ℕ) → rising key rows ≡ true → foundFrom 0 (key new) (map key rows) ≡ Row i
+  pub upsert-replaced : (new : A) (rows : List A) (i : ℕ) → rising key rows ≡ true → rowFrom 0 (key new) (map key rows) ≡ some i
       → upsert key new rows ≡ take i rows ++ (new ∷ drop (suc i) rows)
-  upsert-replaced new [] i h f = let z : _≡_ {A = ℕ} 0 1 = cc (foundFrom-nil 0 (key new)) in absurd (omega arith)
+  upsert-replaced new [] i h f = let z : _≡_ {A = ℕ} 0 1 = cc (rowFrom-nil 0 (key new)) in absurd (omega arith)
   upsert-replaced new (r ∷ rest) i h f = go (λ j. upsert-replaced new rest j (rising-tail key r rest h)) (split (same (key r) (key new)))
     where
-      go : ((j : ℕ) → foundFrom 0 (key new) (map key rest) ≡ Row j → upsert key new rest ≡ take j rest ++ (new ∷ drop (suc j) rest))
+      go : ((j : ℕ) → rowFrom 0 (key new) (map key rest) ≡ some j → upsert key new rest ≡ take j rest ++ (new ∷ drop (suc j) rest))
           → (same (key r) (key new) ≡ true) ⊎ (same (key r) (key new) ≡ false)
           → upsert key new (r ∷ rest) ≡ take i (r ∷ rest) ++ (new ∷ drop (suc i) (r ∷ rest))
       go ih (inl s) =
-          let z : Row 0 ≡ Row i = sym (found-same key (key new) r rest s) ∙ f in
+          let z : some 0 ≡ some i = sym (found-same key (key new) r rest s) ∙ f in
           let e : 0 ≡ i = cc in
           upsert-level key new r rest (same-sym (key new) (key r) ∙ s) ∙ ap (λ (n : ℕ). take n (r ∷ rest) ++ (new ∷ drop (suc n) (r ∷ rest))) e
       go ih (inr s) =
-          let w : (j : ℕ) × (i ≡ suc j) × (foundFrom 0 (key new) (map key rest) ≡ Row j)
-          = next-row-is (foundFrom 0 (key new) (map key rest)) i (sym (found-other key (key new) r rest s) ∙ f) in
+          let w : (j : ℕ) × (i ≡ suc j) × (rowFrom 0 (key new) (map key rest) ≡ some j)
+          = next-row-is (rowFrom 0 (key new) (map key rest)) i (sym (found-other key (key new) r rest s) ∙ f) in
           let x : find key (key new) rest ≡ some (getD rest (w .0) new) = found-find key (key new) rest (w .0) (w .2) .1 new in
           let a : below (key r) (key new) ≡ true
           = subst (λ (k : Key). below (key r) k ≡ true) (find-key key (key new) rest (getD rest (w .0) new) x)

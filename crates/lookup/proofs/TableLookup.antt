@@ -5,7 +5,7 @@ use mathlib.Core.Path.{_≡_, refl, sym, ap, ap₂, _∙_}
 use native.Mathlib.Omega.{arith}
 use mathlib.Core.Bool.{Bool, true}
 use mathlib.Core.List.{List, _∷_, _++_, map}
-use mathlib.Core.Option.{none, some}
+use mathlib.Core.Option.{Option, none, some}
 use lib.IntN.{ℤ, natAbs}
 use lib.ListN.{length, getD, take, drop}
 use Rattle.rules.specs.Keyed.{Key, rising, find, greatest, upsert}
@@ -16,11 +16,9 @@ use Rattle.rules.specs.declared.Record.{Record}
 use Rattle.rules.specs.declared.Position.{Position}
 use Rattle.cells.specs.SoundTable.{SoundTable}
 use Rattle.cells.proofs.Decode.{length-decode, getD-decode}
-use Rattle.lookup.specs.Lookup.{keyAt, foundFrom, greatestFound, keysRise, Searchable, foundIn, placeIn, greatestIn, recordFound, positionFound, suffixGreatest}
-use Rattle.lookup.specs.declared.Found.{Found}
-use Rattle.lookup.specs.declared.Found.the-variants.{Row, Absent}
-use Rattle.lookup.specs.declared.Greatest.the-variants.{Suffix, Nothing}
-use Rattle.lookup.proofs.RowFound.{found-find, found-key, absent-find, find-absent, find-found, greatest-map, suffix-some, nothing-none, some-suffix, none-nothing}
+use Rattle.lookup.specs.Lookup.{keyAt, rowFrom, foundOr, keysRise, Searchable, foundIn, placeIn, positionFound}
+use Rattle.lookup.specs.declared.Found.the-variants as Found
+use Rattle.lookup.proofs.RowFound.{row-told, absent-told, found-find, found-key, absent-find, find-absent, find-found}
 use Rattle.lookup.proofs.RowPlaced.{place-within, upsert-placed, upsert-replaced}
 use Rattle.lookup.proofs.RisingKeys.{rising-map}
 
@@ -68,13 +66,13 @@ module _ {A : Type 0} (l : Layout A) (key : A → Key) (lawful : KeyFirst l key)
       ap (λ (rows : List A). getD rows i other) rows-decode
       ∙ getD-decode (l .get) (l .width) (natAbs (countOf cells)) (l .header) cells i other (rw table-length at h)
 
-  as-found : (k : Key) (f : Found) → foundIn l k cells ≡ f → foundFrom 0 k (map key (rowsOf l cells)) ≡ f
-  as-found k f h = ap (foundFrom 0 k) (sym table-keys) ∙ h
+  -- The row with a key, of the rows' keys.
+  pub as-row : (k : Key) (o : Option ℕ) → rowFrom 0 k (decode keyAt (l .width) (natAbs (countOf cells)) (l .header) cells) ≡ o → rowFrom 0 k (map key (rowsOf l cells)) ≡ o
+  as-row k o h = ap (rowFrom 0 k) (sym table-keys) ∙ h
 
-  pub table-found : (k : Key) (i : ℕ) → foundIn l k cells ≡ Row i
+  pub row-told-of : (k : Key) (i : ℕ) → rowFrom 0 k (map key (rowsOf l cells)) ≡ some i
       → (i < length (rowsOf l cells)) × (find key k (rowsOf l cells) ≡ some (rowAt l cells i)) × (key (rowAt l cells i) ≡ k)
-  table-found k i h =
-      let f : foundFrom 0 k (map key (rowsOf l cells)) ≡ Row i = as-found k (Row i) h in
+  row-told-of k i f =
       let b : i < length (rowsOf l cells) = found-find key k (rowsOf l cells) i f .0 in
       let e : getD (rowsOf l cells) i (rowAt l cells i) ≡ rowAt l cells i = table-row i (rowAt l cells i) b in (
         b,
@@ -82,18 +80,29 @@ module _ {A : Type 0} (l : Layout A) (key : A → Key) (lawful : KeyFirst l key)
         sym (ap key e) ∙ found-key key k (rowsOf l cells) i (rowAt l cells i) f,
       )
 
-  pub table-absent : (k : Key) → foundIn l k cells ≡ Absent → find key k (rowsOf l cells) ≡ none
-  table-absent k h = absent-find key k (rowsOf l cells) (as-found k Absent h)
+  found-row : (k : Key) (i : ℕ) → foundIn l k cells ≡ Found.Row i → rowFrom 0 k (map key (rowsOf l cells)) ≡ some i
+  found-row k i h = as-row k (some i) (row-told _ (placeIn l k cells) i h)
 
-  pub absent-table : (k : Key) → find key k (rowsOf l cells) ≡ none → foundIn l k cells ≡ Absent
-  absent-table k h = ap (foundFrom 0 k) table-keys ∙ find-absent key k (rowsOf l cells) h
+  pub table-found : (k : Key) (i : ℕ) → foundIn l k cells ≡ Found.Row i
+      → (i < length (rowsOf l cells)) × (find key k (rowsOf l cells) ≡ some (rowAt l cells i)) × (key (rowAt l cells i) ≡ k)
+  table-found k i h = row-told-of k i (found-row k i h)
+
+  pub table-absent : (k : Key) (place : ℕ) → foundIn l k cells ≡ Found.Absent place → (find key k (rowsOf l cells) ≡ none) × (place ≡ placeIn l k cells)
+  table-absent k place h =
+      let w : (rowFrom 0 k (decode keyAt (l .width) (natAbs (countOf cells)) (l .header) cells) ≡ none) × (placeIn l k cells ≡ place) = absent-told _ (placeIn l k cells) place h in
+      (absent-find key k (rowsOf l cells) (as-row k none (w .0)), sym (w .1))
+
+  pub absent-table : (k : Key) → find key k (rowsOf l cells) ≡ none → foundIn l k cells ≡ Found.Absent (placeIn l k cells)
+  unfolding foundOr
+  absent-table k h = ap (λ (o : Option ℕ). foundOr o (placeIn l k cells)) (ap (rowFrom 0 k) table-keys ∙ find-absent key k (rowsOf l cells) h)
 
   pub found-table : (k : Key) (x : A) → find key k (rowsOf l cells) ≡ some x
-      → (i : ℕ) × (foundIn l k cells ≡ Row i) × (i < length (rowsOf l cells)) × (rowAt l cells i ≡ x)
+      → (i : ℕ) × (foundIn l k cells ≡ Found.Row i) × (i < length (rowsOf l cells)) × (rowAt l cells i ≡ x)
+  unfolding foundOr
   found-table k x h =
-      let w : (i : ℕ) × (foundFrom 0 k (map key (rowsOf l cells)) ≡ Row i) × (i < length (rowsOf l cells)) × ((other : A) → getD (rowsOf l cells) i other ≡ x)
+      let w : (i : ℕ) × (rowFrom 0 k (map key (rowsOf l cells)) ≡ some i) × (i < length (rowsOf l cells)) × ((other : A) → getD (rowsOf l cells) i other ≡ x)
       = find-found key k (rowsOf l cells) x h in
-      (w .0, ap (foundFrom 0 k) table-keys ∙ w .1, w .2, sym (table-row (w .0) x (w .2)) ∙ w .3 x)
+      (w .0, ap (λ (o : Option ℕ). foundOr o (placeIn l k cells)) (ap (rowFrom 0 k) table-keys ∙ w .1), w .2, sym (table-row (w .0) x (w .2)) ∙ w .3 x)
 
   -- A new row at its place, and a row in place of the one with its key.
   pub table-place : (k : Key) → placeIn l k cells ≤ length (rowsOf l cells)
@@ -105,13 +114,9 @@ module _ {A : Type 0} (l : Layout A) (key : A → Key) (lawful : KeyFirst l key)
       ++ (new ∷ drop (placeIn l (key new) cells) (rowsOf l cells))
   table-inserted new h = rw table-keys (upsert-placed key new (rowsOf l cells) h)
 
-  pub table-replaced : (new : A) (i : ℕ) → rising key (rowsOf l cells) ≡ true → foundIn l (key new) cells ≡ Row i
+  pub table-replaced : (new : A) (i : ℕ) → rising key (rowsOf l cells) ≡ true → foundIn l (key new) cells ≡ Found.Row i
       → upsert key new (rowsOf l cells) ≡ take i (rowsOf l cells) ++ (new ∷ drop (suc i) (rowsOf l cells))
-  table-replaced new i r h = upsert-replaced key new (rowsOf l cells) i r (as-found (key new) (Row i) h)
-
-  -- The greatest second figure.
-  pub table-greatest : (m : ℤ) → greatestIn l m cells ≡ greatestFound (greatest key m (rowsOf l cells))
-  table-greatest m = ap (λ (keys : List Key). greatestFound (greatest (λ k. k) m keys)) table-keys ∙ ap greatestFound (greatest-map key m (rowsOf l cells))
+  table-replaced new i r h = upsert-replaced key new (rowsOf l cells) i r (found-row (key new) i h)
 
 -- ---- the two tables
 
@@ -121,62 +126,31 @@ records-first = record { key-within = omega arith; key-first = λ cells at. refl
 pub positions-first : KeyFirst positionsLayout positionKey
 positions-first = record { key-within = omega arith; key-first = λ cells at. refl }
 
-module _ (cells : List ℤ) (id : ℤ) where
-  pub record-found : (suffix : ℤ) (row : ℕ) → recordFound cells id suffix ≡ Row row
-      → (row < length (rowsOf recordsLayout cells))
-      × (find recordKey (keyOf id suffix) (rowsOf recordsLayout cells) ≡ some (rowAt recordsLayout cells row))
-      × (recordKey (rowAt recordsLayout cells row) ≡ keyOf id suffix)
-  record-found suffix row h = table-found recordsLayout recordKey records-first cells (keyOf id suffix) row h
-
-  pub record-absent : (suffix : ℤ) → recordFound cells id suffix ≡ Absent → find recordKey (keyOf id suffix) (rowsOf recordsLayout cells) ≡ none
-  record-absent suffix h = table-absent recordsLayout recordKey records-first cells (keyOf id suffix) h
-
-  pub found-record : (suffix : ℤ) (r : Record) → find recordKey (keyOf id suffix) (rowsOf recordsLayout cells) ≡ some r
-      → (row : ℕ) × (recordFound cells id suffix ≡ Row row) × (row < length (rowsOf recordsLayout cells)) × (rowAt recordsLayout cells row ≡ r)
-  found-record suffix r h = found-table recordsLayout recordKey records-first cells (keyOf id suffix) r h
-
-  pub absent-record : (suffix : ℤ) → find recordKey (keyOf id suffix) (rowsOf recordsLayout cells) ≡ none → recordFound cells id suffix ≡ Absent
-  absent-record suffix h = absent-table recordsLayout recordKey records-first cells (keyOf id suffix) h
-
-  pub suffix-is : suffixGreatest cells id ≡ greatestFound (greatest recordKey id (rowsOf recordsLayout cells))
-  suffix-is = table-greatest recordsLayout recordKey records-first cells id
-
-  pub suffix-greatest : (g : ℤ) → suffixGreatest cells id ≡ Suffix g → greatest recordKey id (rowsOf recordsLayout cells) ≡ some g
-  suffix-greatest g h = suffix-some (greatest recordKey id (rowsOf recordsLayout cells)) g (sym suffix-is ∙ h)
-
-  pub suffix-nothing : suffixGreatest cells id ≡ Nothing → greatest recordKey id (rowsOf recordsLayout cells) ≡ none
-  suffix-nothing h = nothing-none (greatest recordKey id (rowsOf recordsLayout cells)) (sym suffix-is ∙ h)
-
-  pub greatest-suffix : (g : ℤ) → greatest recordKey id (rowsOf recordsLayout cells) ≡ some g → suffixGreatest cells id ≡ Suffix g
-  greatest-suffix g h = suffix-is ∙ some-suffix (greatest recordKey id (rowsOf recordsLayout cells)) g h
-
-  pub nothing-suffix : greatest recordKey id (rowsOf recordsLayout cells) ≡ none → suffixGreatest cells id ≡ Nothing
-  nothing-suffix h = suffix-is ∙ none-nothing (greatest recordKey id (rowsOf recordsLayout cells)) h
-
 module _ (cells : List ℤ) (account series : ℤ) where
-  pub position-found : (row : ℕ) → positionFound cells account series ≡ Row row
+  pub position-found : (row : ℕ) → positionFound cells account series ≡ Found.Row row
       → (row < length (rowsOf positionsLayout cells))
       × (find positionKey (keyOf account series) (rowsOf positionsLayout cells) ≡ some (rowAt positionsLayout cells row))
       × (positionKey (rowAt positionsLayout cells row) ≡ keyOf account series)
   position-found row h = table-found positionsLayout positionKey positions-first cells (keyOf account series) row h
 
-  pub position-absent : positionFound cells account series ≡ Absent → find positionKey (keyOf account series) (rowsOf positionsLayout cells) ≡ none
-  position-absent h = table-absent positionsLayout positionKey positions-first cells (keyOf account series) h
+  pub position-absent : (place : ℕ) → positionFound cells account series ≡ Found.Absent place → find positionKey (keyOf account series) (rowsOf positionsLayout cells) ≡ none
+  position-absent place h = table-absent positionsLayout positionKey positions-first cells (keyOf account series) place h .0
 
   pub found-position : (p : Position) → find positionKey (keyOf account series) (rowsOf positionsLayout cells) ≡ some p
-      → (row : ℕ) × (positionFound cells account series ≡ Row row) × (row < length (rowsOf positionsLayout cells)) × (rowAt positionsLayout cells row ≡ p)
+      → (row : ℕ) × (positionFound cells account series ≡ Found.Row row) × (row < length (rowsOf positionsLayout cells)) × (rowAt positionsLayout cells row ≡ p)
   found-position p h = found-table positionsLayout positionKey positions-first cells (keyOf account series) p h
 
-  pub absent-position : find positionKey (keyOf account series) (rowsOf positionsLayout cells) ≡ none → positionFound cells account series ≡ Absent
+  pub absent-position : find positionKey (keyOf account series) (rowsOf positionsLayout cells) ≡ none
+      → positionFound cells account series ≡ Found.Absent (placeIn positionsLayout (keyOf account series) cells)
   absent-position h = absent-table positionsLayout positionKey positions-first cells (keyOf account series) h
 
   -- "an absent row reads as zeros"
-  pub position-read : (row : ℕ) → positionFound cells account series ≡ Row row
+  pub position-read : (row : ℕ) → positionFound cells account series ≡ Found.Row row
       → orZeros account series (find positionKey (keyOf account series) (rowsOf positionsLayout cells)) ≡ rowAt positionsLayout cells row
   unfolding orZeros
   position-read row h = ap (orZeros account series) (position-found row h .1)
 
-  pub position-zeros : positionFound cells account series ≡ Absent
+  pub position-zeros : (place : ℕ) → positionFound cells account series ≡ Found.Absent place
       → orZeros account series (find positionKey (keyOf account series) (rowsOf positionsLayout cells)) ≡ zeroPosition account series
   unfolding orZeros
-  position-zeros h = ap (orZeros account series) (position-absent h)
+  position-zeros place h = ap (orZeros account series) (position-absent place h)

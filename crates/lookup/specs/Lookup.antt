@@ -1,4 +1,5 @@
--- What a search finds in a lent table: the keys of its rows, the number of the row with a key, the place of a new row, the greatest suffix of an id.
+-- What a search finds in a lent table: the keys of its rows, the row with a key, the place where a key belongs, the greatest suffix of an id; and what the lookup says
+-- of a key, which is all of these.
 use Prim.Native.Nat.{ℕ, _+_, _*_, _≤_}
 use mathlib.Core.Path.{_≡_}
 use mathlib.Core.Bool.{Bool, true, cond}
@@ -8,40 +9,67 @@ use lib.IntN.{ℤ, pos, natAbs}
 use lib.ListN.{length, getD}
 use Rattle.rules.specs.Keyed.{Key, below, same, rising, greatest}
 use Rattle.rules.specs.Rows.{keyOf}
+use Rattle.rules.specs.NamedRecord.{nextSuffix}
 use Rattle.rules.specs.Layout.{Layout, decode, countOf}
 use Rattle.rules.specs.Tables.{recordsLayout, positionsLayout}
 use Rattle.lookup.specs.declared.Found.{Found}
-use Rattle.lookup.specs.declared.Found.the-variants.{Row, Absent}
+use Rattle.lookup.specs.declared.Found.the-variants as Found
 use Rattle.lookup.specs.declared.Greatest.{Greatest}
 use Rattle.lookup.specs.declared.Greatest.the-variants.{Suffix, Nothing}
+use Rattle.lookup.specs.declared.Sought.{Sought}
+use Rattle.lookup.specs.declared.Sought.the-variants as Sought
 
 -- A row's key is its first two cells, in both tables.
 abbrev pub keyAt : List ℤ → ℕ → Key
 keyAt cells at = keyOf (getD cells at (pos 0)) (getD cells (at + 1) (pos 0))
 
 -- The number of the first row with this key, counted from `row` on.
-unfoldable pub foundFrom : ℕ → Key → List Key → Found
-foundFrom row k [] = Absent
-foundFrom row k (e ∷ rest) = cond (same e k) (Row row) (foundFrom (row + 1) k rest)
+unfoldable pub rowFrom : ℕ → Key → List Key → Option ℕ
+rowFrom row k [] = none
+rowFrom row k (e ∷ rest) = cond (same e k) (some row) (rowFrom (row + 1) k rest)
 
--- How many rows stand before the first whose key is above this one, counted from `row` on.
+-- The row where a key belongs: how many rows stand before the first whose key is above this one, counted from `row` on.
 unfoldable pub placeFrom : ℕ → Key → List Key → ℕ
 placeFrom row k [] = row
 placeFrom row k (e ∷ rest) = cond (below k e) row (placeFrom (row + 1) k rest)
+
+-- The row with a key, or the row where it belongs.
+unfoldable pub foundOr : Option ℕ → ℕ → Found
+foundOr (some row) place = Found.Row row
+foundOr none place = Found.Absent place
+
+abbrev pub foundAmong : Key → List Key → Found
+foundAmong k keys = foundOr (rowFrom 0 k keys) (placeFrom 0 k keys)
 
 unfoldable pub greatestFound : Option ℤ → Greatest
 greatestFound none = Nothing
 greatestFound (some suffix) = Suffix suffix
 
+-- The greatest suffix of an id that has one; otherwise the value is of no account.
+unfoldable pub theGreatest : Option ℤ → ℤ
+theGreatest none = pos 0
+theGreatest (some suffix) = suffix
+
+-- "the lookup shall also say, when absent, the row where that key belongs, and always the greatest suffix the id has, or none" (document 02, K2). A key that is there has
+-- its row; the row where its id's next suffix belongs is said besides.
+unfoldable pub soughtAs : (row : Option ℕ) (place : ℕ) (greatest : Option ℤ) (next : ℕ) → Sought
+soughtAs (some row) place greatest next = Sought.Present row (theGreatest greatest) next
+soughtAs none place greatest next = Sought.Absent place (greatestFound greatest)
+
+abbrev pub soughtAmong : Key → List Key → Sought
+soughtAmong k keys =
+    let suffixes : Option ℤ = greatest (λ e. e) (k .major) keys in
+    soughtAs (rowFrom 0 k keys) (placeFrom 0 k keys) suffixes (placeFrom 0 (keyOf (k .major) (nextSuffix suffixes)) keys)
+
 -- The same, of a table with so many cells before its rows, of a width, and so many rows.
 abbrev pub rowFound : (header width : ℕ) → Key → (count : ℕ) → List ℤ → Found
-rowFound header width k count cells = foundFrom 0 k (decode keyAt width count header cells)
+rowFound header width k count cells = foundAmong k (decode keyAt width count header cells)
 
 abbrev pub rowPlace : (header width : ℕ) → Key → (count : ℕ) → List ℤ → ℕ
 rowPlace header width k count cells = placeFrom 0 k (decode keyAt width count header cells)
 
-abbrev pub rowGreatest : (header width : ℕ) → ℤ → (count : ℕ) → List ℤ → Greatest
-rowGreatest header width major count cells = greatestFound (greatest (λ k. k) major (decode keyAt width count header cells))
+abbrev pub rowSought : (header width : ℕ) → Key → (count : ℕ) → List ℤ → Sought
+rowSought header width k count cells = soughtAmong k (decode keyAt width count header cells)
 
 -- The rows' keys rise.
 abbrev pub keysRise : (header width count : ℕ) → List ℤ → Bool
@@ -61,15 +89,12 @@ module _ {A : Type 0} (l : Layout A) where
   abbrev pub placeIn : Key → List ℤ → ℕ
   placeIn k cells = rowPlace (l .header) (l .width) k (natAbs (countOf cells)) cells
 
-  abbrev pub greatestIn : ℤ → List ℤ → Greatest
-  greatestIn major cells = rowGreatest (l .header) (l .width) major (natAbs (countOf cells)) cells
+  abbrev pub soughtIn : Key → List ℤ → Sought
+  soughtIn k cells = rowSought (l .header) (l .width) k (natAbs (countOf cells)) cells
 
--- Of the records table and of the positions table.
-abbrev pub recordFound : List ℤ → ℤ → ℤ → Found
-recordFound cells id suffix = foundIn recordsLayout (keyOf id suffix) cells
+-- A record, and a position.
+abbrev pub recordSought : List ℤ → ℤ → ℤ → Sought
+recordSought cells id suffix = soughtIn recordsLayout (keyOf id suffix) cells
 
 abbrev pub positionFound : List ℤ → ℤ → ℤ → Found
 positionFound cells account series = foundIn positionsLayout (keyOf account series) cells
-
-abbrev pub suffixGreatest : List ℤ → ℤ → Greatest
-suffixGreatest cells id = greatestIn recordsLayout id cells

@@ -1,21 +1,28 @@
 // Lookup in a lent table whose keys rise, by halving: every table has a row's key in its first two cells, so one search serves all. `header` is the number of cells before the
 // first row, `width` that of a row.
 ghost use mathlib.Core.Path.{_≡_};
-ghost use Prim.Native.Nat.{_≤_};
+ghost use Prim.Native.Nat.{_≤_, _<_};
 ghost use Rattle.rules.specs.Rows.{keyOf};
 ghost use Rattle.rules.specs.Keyed.{below, same};
-ghost use Rattle.lookup.specs.Lookup.{Searchable, rowFound, rowPlace, rowGreatest};
+ghost use Rattle.lookup.specs.Lookup.{Searchable, rowFound, rowPlace, rowSought};
 
-// The number of the row with a key, from 0, or that there is none.
+// The row with a key, from 0; or that there is none, with the row where the key belongs.
 pub enum Found {
     Row(usize),
-    Absent,
+    Absent(usize),
 }
 
 // The greatest suffix of an id, or that it has no record.
 pub enum Greatest {
     Suffix(i64),
     Nothing,
+}
+
+// What the lookup says of a key (document 02, K2). Present: its row, the greatest suffix of its id, and the row where the id's next suffix belongs.
+// Absent: the row where the key belongs, and the greatest suffix of its id or that it has none.
+pub enum Sought {
+    Present(usize, i64, usize),
+    Absent(usize, Greatest),
 }
 
 // Whether the first key comes before the second.
@@ -116,23 +123,69 @@ pub fn find_row(
 {
     let place = place_of(cells, header, width, count, major, minor);
     if place == 0 {
-        return Found::Absent;
+        return Found::Absent(place);
     }
     let row = place - 1;
     let at = header + row * width;
     if key_same(cells[at], cells[at + 1], major, minor) {
         Found::Row(row)
     } else {
-        Found::Absent
+        Found::Absent(place)
     }
 }
 
-// The greatest second figure of the keys with that first figure.
-pub fn greatest_of(cells: &[i64], header: usize, width: usize, count: usize, major: i64) -> Greatest
-    requires { ⌜ Searchable header width count (now cells) ⌝ }
-    ensures { λ r. ⌜ r ≡ rowGreatest header width major count (now (cells .entry)) ⌝ }
+// The row that a second figure has where they rise one by one up to the greatest, in the last of `end` rows.
+fn row_by_distance(end: usize, greatest: i64, minor: i64) -> usize
+    requires { ⌜ 0 < end ⌝ }
+    ensures { λ r. ⌜ r < end ⌝ }
 {
-    let place = place_of(
+    if minor < 0 {
+        return end - 1;
+    }
+    if greatest < minor {
+        return end - 1;
+    }
+    let distance = greatest as usize - minor as usize;
+    if end <= distance {
+        return end - 1;
+    }
+    end - 1 - distance
+}
+
+// The row with a key among the first `end` rows. Tables that the book has made have an id's suffixes one by one, so the first look finds it; in others it is searched.
+fn find_by_distance(
+    cells: &[i64],
+    header: usize,
+    width: usize,
+    end: usize,
+    greatest: i64,
+    major: i64,
+    minor: i64,
+) -> Found
+    requires { ⌜ Searchable header width end (now cells) × (0 < end) ⌝ }
+    ensures { λ r. ⌜ r ≡ rowFound header width (keyOf major minor) end (now (cells .entry)) ⌝ }
+{
+    let row = row_by_distance(end, greatest, minor);
+    let at = header + row * width;
+    if key_same(cells[at], cells[at + 1], major, minor) {
+        return Found::Row(row);
+    }
+    find_row(cells, header, width, end, major, minor)
+}
+
+// The lookup. The rows of an id end where the greatest key that it can have belongs; the last of them has its greatest suffix, and the key is among those before.
+pub fn look_up(
+    cells: &[i64],
+    header: usize,
+    width: usize,
+    count: usize,
+    major: i64,
+    minor: i64,
+) -> Sought
+    requires { ⌜ Searchable header width count (now cells) ⌝ }
+    ensures { λ r. ⌜ r ≡ rowSought header width (keyOf major minor) count (now (cells .entry)) ⌝ }
+{
+    let end = place_of(
         cells,
         header,
         width,
@@ -140,17 +193,20 @@ pub fn greatest_of(cells: &[i64], header: usize, width: usize, count: usize, maj
         major,
         9_223_372_036_854_775_807,
     );
-    if place < count {
+    if end < count {
         // Read for its range alone: no second figure is above the greatest i64, so from here on the first figure is greater.
-        let second = cells[header + place * width + 1];
+        let second = cells[header + end * width + 1];
     }
-    if place == 0 {
-        return Greatest::Nothing;
+    if end == 0 {
+        return Sought::Absent(0, Greatest::Nothing);
     }
-    let at = header + (place - 1) * width;
-    if cells[at] == major {
-        Greatest::Suffix(cells[at + 1])
-    } else {
-        Greatest::Nothing
+    let last = header + (end - 1) * width;
+    let greatest = cells[last + 1];
+    if cells[last] != major {
+        return Sought::Absent(end, Greatest::Nothing);
+    }
+    match find_by_distance(cells, header, width, end, greatest, major, minor) {
+        Found::Row(row) => Sought::Present(row, greatest, end),
+        Found::Absent(place) => Sought::Absent(place, Greatest::Suffix(greatest)),
     }
 }

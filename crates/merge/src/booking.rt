@@ -1,6 +1,7 @@
 // The changes of an accepted merge.
 use super::sources;
-use lookup::Found;
+use lookup::Sought;
+use requests::Held;
 use rules::Movement;
 use rules::Record;
 use rules::Reply;
@@ -10,6 +11,7 @@ use tables::records;
 ghost use mathlib.Core.Path.{_≡_};
 ghost use mathlib.Core.Bool.{true, false};
 ghost use mathlib.Core.List.{[], map};
+ghost use mathlib.Core.Option.{none};
 ghost use Prim.Native.Nat.{_+_, _≤_, _<_};
 ghost use lib.IntN.{pos};
 ghost use lib.ListN.{length};
@@ -23,50 +25,38 @@ ghost use Rattle.rules.specs.Layout.{roomOf, rowsOf, write};
 ghost use Rattle.rules.specs.Tables.{recordsLayout, soundRecords, soundPositions};
 ghost use Rattle.rules.specs.Merge.{mergeInverses, pairsOf};
 ghost use Rattle.rules.specs.Handle.{answered};
+ghost use Rattle.requests.specs.KnownPosition.{KnownPosition};
 ghost use Rattle.verdict.specs.Verdict.{verdictOn, acceptedOn};
 ghost use Rattle.verdict.specs.declared.Verdict.the-variants.{Accepted};
-ghost use Rattle.merge_sources.specs.Sources.{sourcesIn, allFound, sourceRecords, recordNamed, inverseNamed};
+ghost use Rattle.merge_sources.specs.Sources.{sourcesIn, allFound, sourceRecords, inverseNamed};
 ghost use Rattle.merge_sources.specs.Pairs.{repeatsFrom};
 ghost use Rattle.merge_sources.specs.Located.{rowsKnown};
 
-// A source becomes status 1.
-fn adjust_source(records: &mut [i64], id: i64, suffix: i64)
-    requires { ⌜ (soundRecords (now records) ≡ true) × (isSome (find recordKey (keyOf id suffix) (rowsOf recordsLayout (now records))) ≡ true) × ((recordNamed (now records) (keyOf id suffix)) .status ≡ pos 0) ⌝ }
-    ensures { λ done. ⌜ (now (records .exit) ≡ write recordsLayout (now (records .entry)) (upsert recordKey (adjustedRecord (recordNamed (now (records .entry)) (keyOf id suffix))) (rowsOf recordsLayout (now (records .entry))))) × (soundRecords (now (records .exit)) ≡ true) ⌝ }
-{
-    let Found::Row(row) = records::find_record(records, id, suffix) else {
-        return;
-    };
-    records::adjust_record(records, row);
-}
-
-// Each source becomes status 1.
-fn adjust_sources(records: &mut [i64], pairs: &[i64])
-    requires { ⌜ (soundRecords (now records) ≡ true) × (allFound (now records) (now pairs) ≡ true) × (anyOf (map isNotAdjustable (sourceRecords (now records) (now pairs))) ≡ false) × (anyOf (repeatsFrom [] (pairsOf (now pairs))) ≡ false) ⌝ }
+// Each source becomes status 1, in the row that was kept.
+fn adjust_sources(records: &mut [i64], pairs: &[i64], rows: &[u16])
+    requires { ⌜ (soundRecords (now records) ≡ true) × (allFound (now records) (now pairs) ≡ true) × (anyOf (map isNotAdjustable (sourceRecords (now records) (now pairs))) ≡ false) × (anyOf (repeatsFrom [] (pairsOf (now pairs))) ≡ false) × rowsKnown (now records) (now pairs) (now rows) ⌝ }
     ensures { λ done. ⌜ (now (records .exit) ≡ write recordsLayout (now (records .entry)) (upsertAll recordKey (map adjustedRecord (sourceRecords (now (records .entry)) (now (pairs .entry)))) (rowsOf recordsLayout (now (records .entry))))) × (soundRecords (now (records .exit)) ≡ true) ⌝ }
 {
     let count = pairs.len() / 2;
     let mut i = 0;
     while i < count {
-        adjust_source(&mut *records, pairs[2 * i], pairs[2 * i + 1]);
+        let row = rows[i] as usize;
+        records::adjust_record(&mut *records, row);
         i += 1;
     }
 }
 
-// A source gets its inverse row, with its id's next suffix.
+// A source gets its inverse row, with its id's next suffix. The inverses before it have moved rows, so it is looked up anew: its row, the suffix and the place are one answer.
 fn insert_inverse(records: &mut [i64], id: i64, suffix: i64, into: i64)
     requires { ⌜ (soundRecords (now records) ≡ true) × (isSome (find recordKey (keyOf id suffix) (rowsOf recordsLayout (now records))) ≡ true) × (soundRecord (inverseNamed (now records) (keyOf id suffix) into) ≡ true) × (length (rowsOf recordsLayout (now records)) < roomOf recordsLayout (now records)) ⌝ }
     ensures { λ done. ⌜ (now (records .exit) ≡ write recordsLayout (now (records .entry)) (upsert recordKey (inverseNamed (now (records .entry)) (keyOf id suffix) into) (rowsOf recordsLayout (now (records .entry))))) × (soundRecords (now (records .exit)) ≡ true) ⌝ }
 {
-    let Found::Row(row) = records::find_record(records, id, suffix) else {
+    let Sought::Present(row, greatest, place) = records::look_up(records, id, suffix) else {
         return;
     };
-    let r = records::read_record(records, row);
-    let next = requests::next_suffix(records, id);
-    records::insert_record(
-        records,
-        requests::inverse_record(r, next, MERGE, 0, 0, into),
-    );
+    let named = requests::record_named(records, id, suffix, row, greatest, place);
+    let inverse = requests::inverse_record(named.record, named.next, MERGE, 0, 0, into);
+    records::insert_record(records, place, inverse);
 }
 
 // Each source gets its inverse row, in list order.
@@ -99,16 +89,30 @@ fn merged_row(first: Record, id: i64, quantity: i64, price: i64) -> Record
     )
 }
 
+// The merged row, where its key belongs now that the inverses are in.
+fn insert_merged(records: &mut [i64], merged: Record)
+    requires { ⌜ (soundRecords (now records) ≡ true) × (soundRecord merged ≡ true) × (find recordKey (recordKey merged) (rowsOf recordsLayout (now records)) ≡ none) × (length (rowsOf recordsLayout (now records)) < roomOf recordsLayout (now records)) ⌝ }
+    ensures { λ done. ⌜ (now (records .exit) ≡ write recordsLayout (now (records .entry)) (upsert recordKey merged (rowsOf recordsLayout (now (records .entry))))) × (soundRecords (now (records .exit)) ≡ true) ⌝ }
+{
+    let id = merged.id;
+    let suffix = merged.suffix;
+    let Sought::Absent(place, greatest) = records::look_up(records, id, suffix) else {
+        return;
+    };
+    records::insert_record(records, place, merged);
+}
+
 pub fn book(
     records: &mut [i64],
     positions: &mut [i64],
+    held: Held,
     id: i64,
     account: i64,
     series: i64,
     pairs: &[i64],
     rows: &[u16],
 ) -> Reply
-    requires { ⌜ (soundRecords (now records) ≡ true) × (soundPositions (now positions) ≡ true) × (verdictOn (now records) (now positions) (Request.merge id account series (now pairs)) ≡ Accepted) × rowsKnown (now records) (now pairs) (now rows) ⌝ }
+    requires { ⌜ (soundRecords (now records) ≡ true) × (soundPositions (now positions) ≡ true) × (verdictOn (now records) (now positions) (Request.merge id account series (now pairs)) ≡ Accepted) × rowsKnown (now records) (now pairs) (now rows) × KnownPosition (now positions) account series held ⌝ }
     ensures { λ r. ⌜ answered r (now (records .exit)) (now (positions .exit)) ≡ acceptedOn (now (records .entry)) (now (positions .entry)) (Request.merge id account series (now (pairs .entry))) ⌝ }
 {
     let first = sources::source_record(records, pairs, rows, 0);
@@ -117,17 +121,17 @@ pub fn book(
     let price = integers::average(value, quantity);
     let residual = integers::residual(figures::is_buy(first.side), value, quantity);
     let merged = merged_row(first, id, quantity, price);
-    let old = positions::position_of(positions, account, series);
     let m = Movement {
         long: 0,
         short: 0,
         cash: residual,
     };
-    let left = requests::moved(old, m);
-    adjust_sources(&mut *records, pairs);
+    let found = held.found;
+    let left = requests::moved(held.position, m);
+    adjust_sources(&mut *records, pairs, rows);
     insert_inverses(&mut *records, pairs, id);
-    records::insert_record(records, merged);
-    positions::put_position(positions, left);
+    insert_merged(records, merged);
+    positions::write_position(positions, found, left);
     let added = (pairs.len() / 2) as i64 + 1;
     Reply::Booked {
         rows: added,

@@ -1,12 +1,14 @@
 // The verdict on a merge, and the call that joins it with the booking.
 use super::booking;
 use super::sources;
+use lookup::Greatest;
+use lookup::Sought;
 use merge_sources::Place;
 use merge_sources::pairs;
+use requests::Held;
 use rules::Movement;
 use rules::Reply;
 use rules::codes::MOST_QUANTITY;
-use tables::positions;
 use tables::records;
 use verdict::Verdict;
 ghost use mathlib.Core.Path.{_≡_};
@@ -26,12 +28,13 @@ ghost use Rattle.rules.specs.Layout.{rowsOf};
 ghost use Rattle.rules.specs.Tables.{recordsLayout, soundRecords, soundPositions};
 ghost use Rattle.rules.specs.Handle.{answered};
 ghost use Rattle.rules.specs.Merge.{mergeFigures, pairsOf, closes, sideDiffers, firstOf};
+ghost use Rattle.requests.specs.KnownPosition.{KnownPosition};
 ghost use Rattle.verdict.specs.Verdict.{verdictOn};
 ghost use Rattle.verdict.specs.HandledSoundly.{HandledSoundly};
 ghost use Rattle.verdict.specs.declared.Verdict.the-variants.{Refused, Accepted};
 ghost use Rattle.merge_sources.specs.Sources.{allFound, sourceRecords};
 ghost use Rattle.merge_sources.specs.Pairs.{repeatsFrom};
-ghost use Rattle.merge_sources.specs.Located.{rowsKnown};
+ghost use Rattle.merge_sources.specs.Located.{rowsKnown, suffixesKnown};
 
 fn refused_at(number: i64, place: usize) -> Verdict
     requires { ⌜ place < 1000 ⌝ }
@@ -44,38 +47,55 @@ fn refused_at(number: i64, place: usize) -> Verdict
 pub fn verdict(
     records: &[i64],
     positions: &[i64],
+    held: Held,
     id: i64,
     account: i64,
     series: i64,
     pairs: &[i64],
     rows: &mut [u16],
+    suffixes: &mut [u16],
 ) -> Verdict
-    requires { ⌜ (soundRecords (now records) ≡ true) × (soundPositions (now positions) ≡ true) × (1000 ≤ length (now rows)) ⌝ }
+    requires { ⌜ (soundRecords (now records) ≡ true) × (soundPositions (now positions) ≡ true) × KnownPosition (now positions) account series held × (1000 ≤ length (now rows)) × (1000 ≤ length (now suffixes)) ⌝ }
     ensures { λ r. ⌜ (r ≡ verdictOn (now (records .entry)) (now (positions .entry)) (Request.merge id account series (now (pairs .entry)))) × (r ≡ Accepted → rowsKnown (now (records .entry)) (now (pairs .entry)) (now (rows .exit))) ⌝ }
 {
     if !pairs::figures_valid(id, account, series, pairs) {
         return Verdict::Refused(3, 0);
     }
-    let lookup::Greatest::Nothing = records::greatest_suffix(records, id) else {
+    let Sought::Absent(place, greatest) = records::look_up(records, id, 0) else {
         return Verdict::Refused(4, 0);
     };
-    if let Place::At(i) = sources::locate(records, pairs, &mut *rows) {
+    let Greatest::Nothing = greatest else {
+        return Verdict::Refused(4, 0);
+    };
+    if let Place::At(i) = sources::locate(records, pairs, &mut *rows, &mut *suffixes) {
         return refused_at(5, i);
     }
-    verdict_on_sources(records, positions, id, account, series, pairs, rows)
+    verdict_on_sources(
+        records,
+        positions,
+        held,
+        id,
+        account,
+        series,
+        pairs,
+        rows,
+        suffixes,
+    )
 }
 
 // Tests 6 to 10, of sources that have records; then those of their sums.
 fn verdict_on_sources(
     records: &[i64],
     positions: &[i64],
+    held: Held,
     id: i64,
     account: i64,
     series: i64,
     pairs: &[i64],
     rows: &[u16],
+    suffixes: &[u16],
 ) -> Verdict
-    requires { ⌜ (soundRecords (now records) ≡ true) × (soundPositions (now positions) ≡ true) × rowsKnown (now records) (now pairs) (now rows) ⌝ }
+    requires { ⌜ (soundRecords (now records) ≡ true) × (soundPositions (now positions) ≡ true) × KnownPosition (now positions) account series held × rowsKnown (now records) (now pairs) (now rows) × suffixesKnown (now records) (now pairs) (now suffixes) ⌝ }
     requires { ⌜ (mergeFigures id account series (now pairs) ≡ true) × (greatest recordKey id (rowsOf recordsLayout (now records)) ≡ none) × (allFound (now records) (now pairs) ≡ true) ⌝ }
     ensures { λ r. ⌜ r ≡ verdictOn (now (records .entry)) (now (positions .entry)) (Request.merge id account series (now (pairs .entry))) ⌝ }
 {
@@ -106,11 +126,13 @@ fn verdict_on_sources(
     verdict_on_sums(
         records,
         positions,
+        held,
         id,
         account,
         series,
         pairs,
         rows,
+        suffixes,
         figures::is_buy(first.side),
     )
 }
@@ -119,14 +141,16 @@ fn verdict_on_sources(
 fn verdict_on_sums(
     records: &[i64],
     positions: &[i64],
+    held: Held,
     id: i64,
     account: i64,
     series: i64,
     pairs: &[i64],
     rows: &[u16],
+    suffixes: &[u16],
     buy: bool,
 ) -> Verdict
-    requires { ⌜ (soundRecords (now records) ≡ true) × (soundPositions (now positions) ≡ true) × rowsKnown (now records) (now pairs) (now rows) ⌝ }
+    requires { ⌜ (soundRecords (now records) ≡ true) × (soundPositions (now positions) ≡ true) × KnownPosition (now positions) account series held × rowsKnown (now records) (now pairs) (now rows) × suffixesKnown (now records) (now pairs) (now suffixes) ⌝ }
     requires { ⌜ (mergeFigures id account series (now pairs) ≡ true) × (greatest recordKey id (rowsOf recordsLayout (now records)) ≡ none) × (allFound (now records) (now pairs) ≡ true) ⌝ }
     requires { ⌜ (anyOf (map (isElsewhere account series) (sourceRecords (now records) (now pairs))) ≡ false) × (anyOf (map isNotAdjustable (sourceRecords (now records) (now pairs))) ≡ false) × (anyOf (map closes (sourceRecords (now records) (now pairs))) ≡ false) ⌝ }
     requires { ⌜ (anyOf (repeatsFrom [] (pairsOf (now pairs))) ≡ false) × (anyOf (map (sideDiffers (firstOf (sourceRecords (now records) (now pairs)))) (sourceRecords (now records) (now pairs))) ≡ false) × (buy ≡ isBuy ((firstOf (sourceRecords (now records) (now pairs))) .side)) ⌝ }
@@ -136,25 +160,25 @@ fn verdict_on_sums(
     if MOST_QUANTITY < quantity {
         return Verdict::Refused(11, 0);
     }
-    if sources::suffix_above(records, pairs) {
+    if sources::suffix_above(records, pairs, suffixes) {
         return Verdict::Refused(13, 0);
     }
     if requests::lacks_records_room(records, pairs.len() / 2 + 1) {
         return Verdict::Refused(14, 0);
     }
-    let absent = requests::absent_position(positions, account, series);
+    let found = held.found;
+    let absent = requests::absent_row(found);
     if requests::lacks_positions_room(positions, absent) {
         return Verdict::Refused(15, 0);
     }
     let value = sources::sum_of_values(records, pairs, rows);
     let residual = integers::residual(buy, value, quantity);
-    let p = positions::position_of(positions, account, series);
     let m = Movement {
         long: 0,
         short: 0,
         cash: residual,
     };
-    if !scan::soundness::sound_position(requests::moved(p, m)) {
+    if !scan::soundness::sound_position(requests::moved(held.position, m)) {
         return Verdict::Refused(16, 0);
     }
     Verdict::Accepted
@@ -171,9 +195,30 @@ pub fn on_sound(
     requires { ⌜ (soundRecords (now records) ≡ true) × (soundPositions (now positions) ≡ true) ⌝ }
     ensures { λ r. ⌜ HandledSoundly (now (records .entry)) (now (positions .entry)) (Request.merge id account series (now (pairs .entry))) (answered r (now (records .exit)) (now (positions .exit))) ⌝ }
 {
+    let held = requests::position_held(positions, account, series);
     let mut rows: [u16; 1000] = [0; 1000];
-    match verdict(records, positions, id, account, series, pairs, &mut rows) {
+    let mut suffixes: [u16; 1000] = [0; 1000];
+    match verdict(
+        records,
+        positions,
+        held,
+        id,
+        account,
+        series,
+        pairs,
+        &mut rows,
+        &mut suffixes,
+    ) {
         Verdict::Refused(number, place) => Reply::Refused(number, place),
-        Verdict::Accepted => booking::book(records, positions, id, account, series, pairs, &rows),
+        Verdict::Accepted => booking::book(
+            records,
+            positions,
+            held,
+            id,
+            account,
+            series,
+            pairs,
+            &rows,
+        ),
     }
 }

@@ -1,5 +1,5 @@
 // The sources of a merge in the records table, which is sound.
-use lookup::Found;
+use lookup::Sought;
 use merge_sources::Place;
 use merge_sources::pairs;
 use rules::Record;
@@ -25,21 +25,26 @@ ghost use Rattle.rules.specs.Tables.{recordsLayout, soundRecords};
 ghost use Rattle.rules.specs.Merge.{isMissing, sumOfQuantities, sumOfValues, mergeInverses};
 ghost use Rattle.merge_sources.specs.Sources.{sourcesIn, placeOf, failsTest, allFound, sourceRecords};
 ghost use Rattle.merge_sources.specs.Pairs.{pairAt};
-ghost use Rattle.merge_sources.specs.Located.{rowsKnown};
+ghost use Rattle.merge_sources.specs.Located.{rowsKnown, suffixesKnown};
 ghost use Rattle.merge_sources.specs.declared.Place.the-variants.{Nowhere};
 
-// 5: the first source that has no record. Where there is none, the row of each is kept.
-pub fn locate(records: &[i64], pairs: &[i64], rows: &mut [u16]) -> Place
-    requires { ⌜ (soundRecords (now records) ≡ true) × (length (now pairs) ≤ 2 * length (now rows)) ⌝ }
-    ensures { λ r. ⌜ (r ≡ placeOf (map isMissing (sourcesIn (now (records .entry)) (now (pairs .entry))))) × (r ≡ Nowhere → rowsKnown (now (records .entry)) (now (pairs .entry)) (now (rows .exit))) ⌝ }
+// 5: the first source that has no record. Where there is none, the row of each is kept, and the greatest suffix of its id.
+pub fn locate(records: &[i64], pairs: &[i64], rows: &mut [u16], suffixes: &mut [u16]) -> Place
+    requires { ⌜ (soundRecords (now records) ≡ true) × (length (now pairs) ≤ 2 * length (now rows)) × (length (now pairs) ≤ 2 * length (now suffixes)) ⌝ }
+    ensures { λ r. ⌜ (r ≡ placeOf (map isMissing (sourcesIn (now (records .entry)) (now (pairs .entry))))) × (r ≡ Nowhere → rowsKnown (now (records .entry)) (now (pairs .entry)) (now (rows .exit)) × suffixesKnown (now (records .entry)) (now (pairs .entry)) (now (suffixes .exit))) ⌝ }
 {
     let count = pairs.len() / 2;
     let mut i = 0;
     while i < count {
-        let Found::Row(row) = records::find_record(records, pairs[2 * i], pairs[2 * i + 1]) else {
+        let Sought::Present(row, greatest, next) = records::look_up(
+            records,
+            pairs[2 * i],
+            pairs[2 * i + 1],
+        ) else {
             return Place::At(i);
         };
         rows[i] = row as u16;
+        suffixes[i] = greatest as u16;
         i += 1;
     }
     Place::Nowhere
@@ -135,16 +140,15 @@ pub fn sum_of_values(records: &[i64], pairs: &[i64], rows: &[u16]) -> i64
 }
 
 // 13: whether an inverse would need a suffix above 65,535.
-pub fn suffix_above(records: &[i64], pairs: &[i64]) -> bool
-    requires { ⌜ (soundRecords (now records) ≡ true) × (length (now pairs) ≤ 2000) ⌝ }
+pub fn suffix_above(records: &[i64], pairs: &[i64], suffixes: &[u16]) -> bool
+    requires { ⌜ (soundRecords (now records) ≡ true) × (length (now pairs) ≤ 2000) × suffixesKnown (now records) (now pairs) (now suffixes) ⌝ }
     ensures { λ r. ⌜ r ≡ anyOf (map suffixIsAbove (mergeInverses (pos 0) [] (sourcesIn (now (records .entry)) (now (pairs .entry))))) ⌝ }
 {
     let count = pairs.len() / 2;
     let mut i = 0;
     while i < count {
-        if GREATEST_SUFFIX
-            < requests::next_suffix(records, pairs[2 * i]) + pairs::times_earlier(pairs, i)
-        {
+        let next = suffixes[i] as i64 + 1;
+        if GREATEST_SUFFIX < next + pairs::times_earlier(pairs, i) {
             return true;
         }
         i += 1;

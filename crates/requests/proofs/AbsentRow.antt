@@ -16,4 +16,4 @@ use Rattle.requests.specs.AbsentRow.{absentRow}
 pub absent-is : (cells : List ℤ) (account series : ℤ) (found : Found) → found ≡ positionFound cells account series → absentRow found ≡ absentPosition cells account series
 unfolding absentRow absentPosition isSome
 absent-is cells account series (Row row) e = ap (λ (o : Option Position). cond (isSome o) 0 1) (sym (position-found cells account series row (sym e) .1))
-absent-is cells account series Absent e = ap (λ (o : Option Position). cond (isSome o) 0 1) (sym (position-absent cells account series (sym e)))
+absent-is cells account series (Absent place) e = ap (λ (o : Option Position). cond (isSome o) 0 1) (sym (position-absent cells account series place (sym e)))

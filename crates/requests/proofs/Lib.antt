@@ -1,3 +1,4 @@
 pub mod PositionRange
 pub mod OnSound
 pub mod AbsentRow
+pub mod Adjusting

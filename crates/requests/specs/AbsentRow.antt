@@ -5,4 +5,4 @@ use Rattle.lookup.specs.declared.Found.the-variants.{Row, Absent}
 
 unfoldable pub absentRow : Found → ℕ
 absentRow (Row row) = 0
-absentRow Absent = 1
+absentRow (Absent place) = 1

@@ -1,1 +1,4 @@
 pub mod AbsentRow
+pub mod KnownPosition
+pub mod KnownRecord
+pub mod AdjustReady

@@ -1,28 +1,79 @@
-// What several requests share: the room tests, a position's change, the next suffix of an id, a new row, and the rows that come out of a record.
+// What several requests share: what was looked up of a record and of a position, the room tests, a position's change, a new row, and the rows that come out of a record.
 use lookup::Found;
-use lookup::Greatest;
 use rules::Movement;
 use rules::Position;
 use rules::Record;
 use rules::codes::ADJUSTABLE;
 use rules::codes::INVERSE;
+use tables::new_rows;
 use tables::positions;
 use tables::records;
 ghost use mathlib.Core.Path.{_≡_};
 ghost use mathlib.Core.Bool.{true};
+ghost use mathlib.Core.List.{_∷_};
 ghost use Prim.Native.Nat.{_+_, _≤_};
 ghost use lib.Dec.{ltb};
 ghost use lib.ListN.{length};
 ghost use Rattle.rules.specs.Figures.{magnitudeAtMost};
-ghost use Rattle.rules.specs.Keyed.{greatest};
-ghost use Rattle.rules.specs.NamedRecord.{nextSuffix, isElsewhere};
+ghost use Rattle.rules.specs.NamedRecord.{isElsewhere};
+ghost use Rattle.rules.specs.Keyed.{upsertAll};
 ghost use Rattle.rules.specs.Rows as Rows;
 ghost use Rattle.rules.specs.Rows.{recordKey};
-ghost use Rattle.rules.specs.Layout.{roomOf, rowsOf};
+ghost use Rattle.rules.specs.Layout.{roomOf, rowsOf, write};
 ghost use Rattle.rules.specs.Tables.{recordsLayout, positionsLayout, soundRecords, soundPositions};
+ghost use Rattle.lookup.specs.Lookup.{recordSought};
+ghost use Rattle.lookup.specs.declared.Sought.the-variants.{Present};
+ghost use Rattle.tables.specs.NewRows.{newRows};
 ghost use Rattle.verdict.specs.MovedReady.{MovedReady};
-ghost use Rattle.verdict.specs.Verdict.{absentPosition};
 ghost use Rattle.requests.specs.AbsentRow.{absentRow};
+ghost use Rattle.requests.specs.AdjustReady.{AdjustReady};
+ghost use Rattle.requests.specs.KnownPosition.{KnownPosition};
+ghost use Rattle.requests.specs.KnownRecord.{KnownRecord};
+
+// A position as it was looked up: the row with its key or the place where it belongs, and its figures, zeros where it has no row.
+pub struct Held {
+    pub found: Found,
+    pub position: Position,
+}
+
+// A record that a request names, as it was looked up: its row, the next suffix of its id, and the place where that belongs.
+pub struct Named {
+    pub record: Record,
+    pub row: usize,
+    pub next: i64,
+    pub place: usize,
+}
+
+pub fn position_held(cells: &[i64], account: i64, series: i64) -> Held
+    requires { ⌜ soundPositions (now cells) ≡ true ⌝ }
+    ensures { λ r. ⌜ KnownPosition (now (cells .entry)) account series r ⌝ }
+{
+    let found = positions::find_position(cells, account, series);
+    let position = positions::read_position(cells, found, account, series);
+    Held { found, position }
+}
+
+// What the lookup said of a record that is there.
+pub fn record_named(
+    cells: &[i64],
+    id: i64,
+    suffix: i64,
+    row: usize,
+    greatest: i64,
+    place: usize,
+) -> Named
+    requires { ⌜ (soundRecords (now cells) ≡ true) × (recordSought (now cells) id suffix ≡ Present row greatest place) ⌝ }
+    ensures { λ r. ⌜ KnownRecord (now (cells .entry)) id suffix r ⌝ }
+{
+    let record = records::read_record(cells, row);
+    let next = greatest + 1;
+    Named {
+        record,
+        row,
+        next,
+        place,
+    }
+}
 
 // 14: row count plus new rows exceeds the records room.
 pub fn lacks_records_room(cells: &[i64], added: usize) -> bool
@@ -46,16 +97,8 @@ pub fn absent_row(found: Found) -> usize
 {
     match found {
         Found::Row(_) => 0,
-        Found::Absent => 1,
+        Found::Absent(_) => 1,
     }
-}
-
-// The same of an account and series.
-pub fn absent_position(cells: &[i64], account: i64, series: i64) -> usize
-    requires { ⌜ soundPositions (now cells) ≡ true ⌝ }
-    ensures { λ r. ⌜ r ≡ absentPosition (now (cells .entry)) account series ⌝ }
-{
-    absent_row(positions::find_position(cells, account, series))
 }
 
 // A position with its figures changed by signed amounts.
@@ -72,15 +115,23 @@ pub fn moved(p: Position, m: Movement) -> Position
     }
 }
 
-// One above the greatest suffix of an id.
-pub fn next_suffix(cells: &[i64], id: i64) -> i64
-    requires { ⌜ soundRecords (now cells) ≡ true ⌝ }
-    ensures { λ r. ⌜ r ≡ nextSuffix (greatest recordKey id (rowsOf recordsLayout (now (cells .entry)))) ⌝ }
+// The named record becomes status 1, and the rows that come out of it are inserted: its inverse, and one row a quantity, like the first.
+pub fn adjust_named(
+    records: &mut [i64],
+    id: i64,
+    suffix: i64,
+    named: Named,
+    inverse: Record,
+    first: Record,
+    quantities: &[i64],
+)
+    requires { ⌜ AdjustReady (now records) id suffix named inverse first (now quantities) ⌝ }
+    ensures { λ done. ⌜ now (records .exit) ≡ write recordsLayout (now (records .entry)) (upsertAll recordKey (Rows.adjustedRecord (named .record) ∷ newRows inverse first (now (quantities .entry))) (rowsOf recordsLayout (now (records .entry)))) ⌝ }
 {
-    match records::greatest_suffix(cells, id) {
-        Greatest::Suffix(suffix) => suffix + 1,
-        Greatest::Nothing => 0,
-    }
+    let row = named.row;
+    let place = named.place;
+    records::adjust_record(&mut *records, row);
+    new_rows::insert_rows(records, place, inverse, first, quantities);
 }
 
 // 6: its account or series isn't the one named.

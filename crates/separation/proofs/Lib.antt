@@ -1,3 +1,2 @@
 pub mod PartsLeft
-pub mod PartsWritten
-pub mod GapWritten
+pub mod PartRows

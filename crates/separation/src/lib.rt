@@ -1,6 +1,6 @@
-// Separation on sound tables: tests 3, 5 to 7, 11, 13 and 14, the booking, and the call that joins them. The position does not move.
-use lookup::Found;
-use rules::Record;
+// Separation on sound tables: tests 3, 5 to 7, 11, 13 and 14, the booking, and the call that joins them. The record is looked up once. The position does not move.
+use lookup::Sought;
+use requests::Named;
 use rules::Reply;
 use rules::codes::ADJUSTABLE;
 use rules::codes::GREATEST_SUFFIX;
@@ -10,18 +10,15 @@ use verdict::Verdict;
 ghost use mathlib.Core.Path.{_≡_};
 ghost use mathlib.Core.Bool.{true};
 ghost use mathlib.Core.List.{map};
-ghost use Prim.Native.Nat.{_+_, _*_, _≤_};
-ghost use lib.IntN.{pos};
+ghost use Prim.Native.Nat.{_≤_};
 ghost use lib.ListN.{length};
-ghost use lib.Signed.{_≤ℤ_};
 ghost use Rattle.rules.specs.Figures.{validQuantity};
 ghost use Rattle.rules.specs.Refusal.{allOf};
 ghost use Rattle.rules.specs.Request as Request;
-ghost use Rattle.rules.specs.Layout.{encode, startOf};
-ghost use Rattle.rules.specs.Tables.{recordCells, recordsLayout, soundRecords, soundPositions};
+ghost use Rattle.rules.specs.Tables.{soundRecords, soundPositions};
 ghost use Rattle.rules.specs.Handle.{answered};
-ghost use Rattle.rules.specs.Separation.{sumOf, separationFigures, partRecords};
-ghost use Rattle.shifter.specs.Insertion.{filled};
+ghost use Rattle.rules.specs.Separation.{sumOf, separationFigures};
+ghost use Rattle.requests.specs.KnownRecord.{KnownRecord};
 ghost use Rattle.verdict.specs.Verdict.{verdictOn, acceptedOn};
 ghost use Rattle.verdict.specs.HandledSoundly.{HandledSoundly};
 ghost use Rattle.verdict.specs.declared.Verdict.the-variants.{Accepted};
@@ -76,25 +73,21 @@ fn sum_of(parts: &[i64]) -> i64
     sum
 }
 
+// Tests 6, 7, 11, 13 and 14, of the record that was found.
 pub fn verdict(
     records: &[i64],
     positions: &[i64],
+    named: Named,
     id: i64,
     suffix: i64,
     account: i64,
     series: i64,
     parts: &[i64],
 ) -> Verdict
-    requires { ⌜ (soundRecords (now records) ≡ true) × (soundPositions (now positions) ≡ true) ⌝ }
+    requires { ⌜ (soundRecords (now records) ≡ true) × (soundPositions (now positions) ≡ true) × (separationFigures id suffix account series (now parts) ≡ true) × KnownRecord (now records) id suffix named ⌝ }
     ensures { λ r. ⌜ r ≡ verdictOn (now (records .entry)) (now (positions .entry)) (Request.separate id suffix account series (now (parts .entry))) ⌝ }
 {
-    if !figures_valid(id, suffix, account, series, parts) {
-        return Verdict::Refused(3, 0);
-    }
-    let Found::Row(row) = records::find_record(records, id, suffix) else {
-        return Verdict::Refused(5, 0);
-    };
-    let r = records::read_record(records, row);
+    let r = named.record;
     if requests::is_elsewhere(r, account, series) {
         return Verdict::Refused(6, 0);
     }
@@ -104,7 +97,7 @@ pub fn verdict(
     if sum_of(parts) != r.quantity {
         return Verdict::Refused(11, 0);
     }
-    let last = requests::next_suffix(records, id) + parts.len() as i64;
+    let last = named.next + parts.len() as i64;
     if GREATEST_SUFFIX < last {
         return Verdict::Refused(13, 0);
     }
@@ -114,51 +107,25 @@ pub fn verdict(
     Verdict::Accepted
 }
 
-// One adjustable row a part, in the order given, from row `place` on and with successive suffixes from `first` on.
-fn write_parts(records: &mut [i64], place: usize, r: Record, first: i64, parts: &[i64])
-    requires { ⌜ (startOf recordsLayout (place + length (now parts)) ≤ length (now records)) × (pos 0 ≤ℤ first) × (first ≤ℤ pos 65536) × (length (now parts) ≤ 65535) ⌝ }
-    ensures { λ done. ⌜ now (records .exit) ≡ filled (recordsLayout .header) (recordsLayout .width) (encode recordCells (partRecords r first (now (parts .entry)))) place (now (records .entry)) ⌝ }
-{
-    let mut suffix = first;
-    let account = r.account;
-    let mut at = 0;
-    while at < parts.len() {
-        let quantity = parts[at];
-        records::write_record(
-            &mut *records,
-            place + at,
-            requests::adjustable_record(r, suffix, SEPARATION, account, quantity, 0, 0),
-        );
-        suffix += 1;
-        at += 1;
-    }
-}
-
+// The record adjusted, its inverse, and one adjustable row a part in the order given.
 pub fn book(
     records: &mut [i64],
     positions: &[i64],
+    named: Named,
     id: i64,
     suffix: i64,
     account: i64,
     series: i64,
     parts: &[i64],
 ) -> Reply
-    requires { ⌜ (soundRecords (now records) ≡ true) × (soundPositions (now positions) ≡ true) × (verdictOn (now records) (now positions) (Request.separate id suffix account series (now parts)) ≡ Accepted) ⌝ }
+    requires { ⌜ (soundRecords (now records) ≡ true) × (soundPositions (now positions) ≡ true) × (verdictOn (now records) (now positions) (Request.separate id suffix account series (now parts)) ≡ Accepted) × KnownRecord (now records) id suffix named ⌝ }
     ensures { λ r. ⌜ answered r (now (records .exit)) (now (positions .entry)) ≡ acceptedOn (now (records .entry)) (now (positions .entry)) (Request.separate id suffix account series (now (parts .entry))) ⌝ }
 {
-    let Found::Row(row) = records::find_record(records, id, suffix) else {
-        return Reply::Refused(5, 0);
-    };
-    let r = records::read_record(records, row);
-    let next = requests::next_suffix(records, id);
-    records::adjust_record(&mut *records, row);
-    let place = records::open_rows(&mut *records, id, next, parts.len() + 1);
-    records::write_record(
-        &mut *records,
-        place,
-        requests::inverse_record(r, next, SEPARATION, 0, 0, 0),
-    );
-    write_parts(records, place + 1, r, next + 1, parts);
+    let r = named.record;
+    let next = named.next;
+    let inverse = requests::inverse_record(r, next, SEPARATION, 0, 0, 0);
+    let first = requests::adjustable_record(r, next + 1, SEPARATION, r.account, r.quantity, 0, 0);
+    requests::adjust_named(records, id, suffix, named, inverse, first, parts);
     let rows = parts.len() as i64 + 1;
     Reply::Booked { rows, residual: 0 }
 }
@@ -175,8 +142,33 @@ pub fn on_sound(
     requires { ⌜ (soundRecords (now records) ≡ true) × (soundPositions (now positions) ≡ true) ⌝ }
     ensures { λ r. ⌜ HandledSoundly (now (records .entry)) (now (positions .entry)) (Request.separate id suffix account series (now (parts .entry))) (answered r (now (records .exit)) (now (positions .exit))) ⌝ }
 {
-    match verdict(records, positions, id, suffix, account, series, parts) {
+    if !figures_valid(id, suffix, account, series, parts) {
+        return Reply::Refused(3, 0);
+    }
+    let Sought::Present(row, greatest, next) = records::look_up(records, id, suffix) else {
+        return Reply::Refused(5, 0);
+    };
+    let named = requests::record_named(records, id, suffix, row, greatest, next);
+    match verdict(
+        records,
+        positions,
+        named,
+        id,
+        suffix,
+        account,
+        series,
+        parts,
+    ) {
         Verdict::Refused(number, place) => Reply::Refused(number, place),
-        Verdict::Accepted => book(records, positions, id, suffix, account, series, parts),
+        Verdict::Accepted => book(
+            records,
+            positions,
+            named,
+            id,
+            suffix,
+            account,
+            series,
+            parts,
+        ),
     }
 }

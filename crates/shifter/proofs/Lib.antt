@@ -1,4 +1,4 @@
-pub mod GapFilled
+pub mod RowsFilled
 pub mod Moved
 pub mod Placed
 pub mod Written

@@ -1,25 +1,22 @@
 -- The part of a table from a row on is lent to the shifter and handed back: what the whole table is then. Assumes nothing.
 use mathlib.Core.Path.{_≡_, refl, sym, ap, _∙_}
 use mathlib.Core.List.{List, [], _∷_, _++_, append-nil, append-assoc}
-use Prim.Native.Nat.{ℕ, suc, _+_, _-_, _*_, _≤_, _<_}
+use Prim.Native.Nat.{ℕ, suc, _+_, _-_, _*_, _≤_}
 use native.Mathlib.Omega.{arith}
 use lib.IntN.{ℤ, pos}
 use lib.ListN.{length, take, drop, set, length-drop, drop-of-length-le}
 use mir.Facts.{toZ-pos}
 use mir.Syntax.{w64}
 use mir.Val.{toZ}
-use lib.Seq.{take-all, take-add, drop-at, drop-drop, length-take-le}
+use lib.Seq.{take-all, drop-at, drop-drop, length-take-le}
 use borrow.Rule.Slice.PartMut.{midOf, putMid}
 use Rattle.rules.specs.Layout.{afterCount}
 use Rattle.cells.proofs.Count.{header-then}
-use Rattle.shifter.specs.Insertion.{inserted, replaced, gapped}
+use Rattle.shifter.specs.Insertion.{inserted, replaced}
 
 -- A row of a table with `count` rows, and the cells before and after it, as numbers of cells.
 pub rows-split : (width count place : ℕ) → place ≤ count → count * width ≡ place * width + (count - place) * width
 rows-split width count place below = let e : count ≡ place + (count - place) = omega arith in omega (arith, ap (λ x. x * width) e)
-
-row-end : (header width count place : ℕ) → place ≤ count → header + place * width + ((count - place) * width + width) ≡ header + suc count * width
-row-end header width count place below = omega (arith, rows-split width count place below)
 
 module _ {A : Type 0} where
   -- Moved up by a row, then the row written over the first cells.
@@ -48,53 +45,28 @@ set-count header n cells rest count one some =
     ∙ ap (λ (c : List ℤ). count ∷ c) (append-assoc (afterCount header cells) (take n (drop header cells)) rest)
 
 -- The count as a cell.
-pub count-cell : {n : ℕ} (count : ℕ) → n ≡ suc count → count < 4096 → toZ w64 n ≡ pos (suc count)
-count-cell {n} count e below = toZ-pos w64 (omega arith) ∙ ap pos e
-
 pub raised-cell : (count added : ℕ) → count + added ≤ 4096 → toZ w64 (count + added) ≡ pos (count + added)
 raised-cell count added below = toZ-pos w64 (omega arith)
 
--- `shift_in` on the part from row `place` on, and the count set: the row is inserted.
-pub insertion : (header : ℕ) (cells row part : List ℤ) (count place : ℕ) (raised : ℤ) → raised ≡ pos (suc count) → 1 ≤ header → place ≤ count
-    → header + suc count * length row ≤ length cells
-    → part ≡ row ++ (take ((count - place) * length row) (midOf (header + place * length row) (length cells - (header + place * length row)) cells)
-    ++ drop ((count - place) * length row + length row) (midOf (header + place * length row) (length cells - (header + place * length row)) cells))
-    → set (putMid (header + place * length row) (length cells - (header + place * length row)) cells part) 0 raised ≡ inserted header row count place cells
+-- The part from row `place` on with its rows moved up and the new ones before them, and the count set: the rows are inserted.
+pub insertion : (header width : ℕ) (cells new part : List ℤ) (added count place : ℕ) (raised : ℤ) → raised ≡ pos (count + added) → 1 ≤ header → place ≤ count
+    → length new ≡ added * width → header + (count + added) * width ≤ length cells
+    → part ≡ new ++ (take ((count - place) * width) (midOf (header + place * width) (length cells - (header + place * width)) cells)
+    ++ drop ((count - place) * width + length new) (midOf (header + place * width) (length cells - (header + place * width)) cells))
+    → set (putMid (header + place * width) (length cells - (header + place * width)) cells part) 0 raised ≡ inserted header width new added count place cells
 unfolding inserted
-insertion header cells row part count place raised counted one below fits e =
-    let at : ℕ = header + place * length row in
+insertion header width cells new part added count place raised counted one below size fits e =
+    let at : ℕ = header + place * width in
+    let past : at + ((count - place) * width + length new) ≡ header + (count + added) * width = omega (arith, rows-split width count place below) in
     rw (
       counted,
       handed-back at cells part,
-      set-count header (place * length row) cells part (pos (suc count)) one (omega arith),
+      set-count header (place * width) cells part (pos (count + added)) one (omega arith),
       e,
       to-the-end at cells,
       drop-drop,
-      row-end header (length row) count place below,
+      past,
     ) refl
-
--- The cells up to a row and those of the rows after it that stay are the cells up to the last of these.
-stay : (header width place added : ℕ) (cells : List ℤ)
-    → take (place * width) (drop header cells) ++ take (added * width) (drop (header + place * width) cells) ≡ take ((place + added) * width) (drop header cells)
-stay header width place added cells =
-    let e : (place + added) * width ≡ place * width + added * width = omega arith in
-    rw (e, take-add (place * width) (added * width) (drop header cells), drop-drop) refl
-
--- `move_up` on the part from row `place` on, and the count set: there is a gap.
-pub gap : (header : ℕ) (cells part : List ℤ) (width count place added : ℕ) (raised : ℤ) → raised ≡ pos (count + added) → 1 ≤ header → place ≤ count
-    → header + (count + added) * width ≤ length cells
-    → part ≡ take (added * width) (midOf (header + place * width) (length cells - (header + place * width)) cells)
-    ++ (take ((count - place) * width) (midOf (header + place * width) (length cells - (header + place * width)) cells)
-    ++ drop ((count - place) * width + added * width) (midOf (header + place * width) (length cells - (header + place * width)) cells))
-    → set (putMid (header + place * width) (length cells - (header + place * width)) cells part) 0 raised ≡ gapped header width count place added cells
-unfolding gapped
-gap header cells part width count place added raised counted one below fits e =
-    let at : ℕ = header + place * width in
-    let past : at + ((count - place) * width + added * width) ≡ header + (count + added) * width = omega (arith, rows-split width count place below) in
-    let rest : List ℤ = take ((count - place) * width) (drop at cells) ++ drop (header + (count + added) * width) cells in
-    rw (counted, handed-back at cells part, set-count header (place * width) cells part (pos (count + added)) one (omega arith), e, to-the-end at cells, drop-drop, past)
-    (ap (λ (c : List ℤ). pos (count + added) ∷ (afterCount header cells ++ c))
-    (sym (append-assoc (take (place * width) (drop header cells)) (take (added * width) (drop at cells)) rest) ∙ ap (λ (c : List ℤ). c ++ rest) (stay header width place added cells)))
 
 -- `overwrite` on the part from row `place` on: the row is replaced.
 pub replacement : (header : ℕ) (cells row part : List ℤ) (place : ℕ) → header + suc place * length row ≤ length cells

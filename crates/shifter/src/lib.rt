@@ -1,11 +1,12 @@
-// The shifter: the part of a lent table from the insertion row on is lent to it. One for every table; the row's length is its width.
+// The shifter: the part of a lent table from the insertion row on is lent to it, and it moves the rows there up and writes the new one. One for every table; the row's
+// length is its width. Where a request adds several rows, its own shifter moves them all up at once by `move_up` and writes each by `replace_row`.
 use rules::layout::POSITION_WIDTH;
 use rules::layout::RECORD_WIDTH;
 ghost use mathlib.Core.Path.{_≡_};
 ghost use mathlib.Core.List.{_++_};
 ghost use Prim.Native.Nat.{suc, _+_, _-_, _*_, _≤_, _<_};
 ghost use lib.ListN.{length, take, drop};
-ghost use Rattle.shifter.specs.Insertion.{inserted, replaced, gapped, raised};
+ghost use Rattle.shifter.specs.Insertion.{inserted, replaced, raised};
 
 // The first `used` cells moved up by `by`.
 fn move_by(tail: &mut [i64], used: usize, by: usize)
@@ -27,7 +28,7 @@ const THREE_RECORDS: usize = 3 * RECORD_WIDTH;
 const FOUR_RECORDS: usize = 4 * RECORD_WIDTH;
 
 // The same: with the distance in the text, the compiler makes one block move of the loop.
-fn move_up(tail: &mut [i64], used: usize, by: usize)
+pub fn move_up(tail: &mut [i64], used: usize, by: usize)
     requires { ⌜ used + by ≤ length (now tail) ⌝ }
     ensures { λ r. ⌜ now (tail .exit) ≡ raised by used (now (tail .entry)) ⌝ }
 {
@@ -70,32 +71,13 @@ pub fn shift_in(tail: &mut [i64], used: usize, row: &[i64])
 // A row inserted as row `place` of a table with `count` rows, and the count raised. `header` is the number of cells before the first row.
 pub fn insert_row(cells: &mut [i64], header: usize, count: usize, place: usize, row: &[i64])
     requires { ⌜ (1 ≤ header) × (place ≤ count) × (header + suc count * length (now row) ≤ length (now cells)) × (count < 4096) ⌝ }
-    ensures { λ r. ⌜ now (cells .exit) ≡ inserted header (now (row .entry)) count place (now (cells .entry)) ⌝ }
+    ensures { λ r. ⌜ now (cells .exit) ≡ inserted header (length (now (row .entry))) (now (row .entry)) 1 count place (now (cells .entry)) ⌝ }
 {
     let width = row.len();
     let at = header + place * width;
     let used = (count - place) * width;
     shift_in(&mut cells[at..], used, row);
     cells[0] = (count + 1) as i64;
-}
-
-// Room for `added` rows before row `place` of a table with `count` rows, and the count raised. The cells of the gap are still to be written.
-pub fn open_gap(
-    cells: &mut [i64],
-    header: usize,
-    width: usize,
-    count: usize,
-    place: usize,
-    added: usize,
-)
-    requires { ⌜ (1 ≤ header) × (place ≤ count) × (header + (count + added) * width ≤ length (now cells)) × (count + added ≤ 4096) ⌝ }
-    ensures { λ r. ⌜ now (cells .exit) ≡ gapped header width count place added (now (cells .entry)) ⌝ }
-{
-    let at = header + place * width;
-    let used = (count - place) * width;
-    let by = added * width;
-    move_up(&mut cells[at..], used, by);
-    cells[0] = (count + added) as i64;
 }
 
 // The cells of row `place` written anew.

@@ -4,4 +4,5 @@ pub mod RowFits
 pub mod RowPut
 pub mod RowStatus
 pub mod RowThere
+pub mod RowsWritten
 pub mod StatusSet

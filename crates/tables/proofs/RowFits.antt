@@ -6,23 +6,17 @@ use mathlib.Core.Path.{_≡_, sym, ap, subst, _∙_}
 use mathlib.Core.Bool.{Bool}
 use mathlib.Core.List.{List, [], _∷_}
 use mathlib.Core.Option.{none}
-use lib.IntN.{ℤ, natAbs}
+use lib.IntN.{ℤ}
 use lib.ListN.{length}
 use Rattle.rules.specs.Keyed.{Key, find, absentFrom}
-use Rattle.rules.specs.Layout.{Layout, countOf, roomOf, rowsOf}
+use Rattle.rules.specs.Layout.{Layout, roomOf, rowsOf}
 use Rattle.cells.specs.Lawful.{Lawful}
 use Rattle.cells.specs.SoundTable.{SoundTable}
-use Rattle.cells.proofs.Count.{length-rowsOf, room-most, fits-cells}
+use Rattle.cells.proofs.Count.{room-most, fits-cells}
 use Rattle.keys.proofs.Clauses.{absentFrom-nil, absentFrom-new}
-use Rattle.lookup.specs.Lookup.{rowFound, rowPlace}
-use Rattle.lookup.specs.declared.Found.the-variants.{Row, Absent}
-use Rattle.lookup.proofs.TableLookup.{KeyFirst, table-found, table-absent, table-place}
-
--- A lookup over the counted rows that answers no row: the rules find none.
-pub absent-row : {A : Type 0} (l : Layout A) (key : A → Key) (first : KeyFirst l key) (cells : List ℤ) (k : Key) (n : ℕ) → n ≡ length (rowsOf l cells)
-    → Absent ≡ rowFound (l .header) (l .width) k n cells → find key k (rowsOf l cells) ≡ none
-absent-row l key first cells k n count f =
-    table-absent l key first cells k (ap (λ (m : ℕ). rowFound (l .header) (l .width) k m cells) (sym (count ∙ length-rowsOf l cells)) ∙ sym f)
+use Rattle.lookup.specs.Lookup.{foundIn, placeIn}
+use Rattle.lookup.specs.declared.Found.the-variants.{Row}
+use Rattle.lookup.proofs.TableLookup.{KeyFirst, table-found, table-place}
 
 -- Room for the rows and an absent one.
 pub room-for-one : {A : Type 0} (key : A → Key) (new : A) (rows : List A) {room : ℕ} → find key (key new) rows ≡ none
@@ -32,16 +26,12 @@ room-for-one key new rows absent fits = omega (arith, absentFrom-new key rows ne
 module _ {A : Type 0} (l : Layout A) (lawful : Lawful l) (key : A → Key) (first : KeyFirst l key) (soundRow : A → Bool)
     (cells : List ℤ) (table : SoundTable l key soundRow cells) (n : ℕ) (count : n ≡ length (rowsOf l cells)) (k : Key)
     (row : List ℤ) (new : A) (cells-of : row ≡ l .put new) where
-  counted : n ≡ natAbs (countOf cells)
-  counted = count ∙ length-rowsOf l cells
-
   wide : l .width ≡ length row
   wide = sym (ap length cells-of ∙ lawful .put-length new)
 
-  pub insertion-fits : l .most ≤ 4096 → length (rowsOf l cells) < roomOf l cells → (place : ℕ) → place ≡ rowPlace (l .header) (l .width) k n cells
+  pub insertion-fits : l .most ≤ 4096 → length (rowsOf l cells) < roomOf l cells → (place : ℕ) → place ≡ placeIn l k cells
       → (1 ≤ l .header) × (place ≤ n) × (l .header + suc n * length row ≤ length cells) × (n < 4096)
   insertion-fits small room place at =
-      let placed : place ≡ rowPlace (l .header) (l .width) k (natAbs (countOf cells)) cells = at ∙ ap (λ (m : ℕ). rowPlace (l .header) (l .width) k m cells) counted in
       let more : suc n ≤ roomOf l cells = omega arith in (
         lawful .counted,
         omega (arith, table-place l key first cells k),
@@ -49,8 +39,7 @@ module _ {A : Type 0} (l : Layout A) (lawful : Lawful l) (key : A → Key) (firs
         omega (arith, room-most l cells),
       )
 
-  pub replacement-fits : (at : ℕ) → Row at ≡ rowFound (l .header) (l .width) k n cells → l .header + suc at * length row ≤ length cells
+  pub replacement-fits : (at : ℕ) → Row at ≡ foundIn l k cells → l .header + suc at * length row ≤ length cells
   replacement-fits at f =
-      let below : at < length (rowsOf l cells)
-      = table-found l key first cells k at (ap (λ (m : ℕ). rowFound (l .header) (l .width) k m cells) (sym counted) ∙ sym f) .0 in
+      let below : at < length (rowsOf l cells) = table-found l key first cells k at (sym f) .0 in
       subst (λ (w : ℕ). l .header + suc at * w ≤ length cells) wide (omega (arith, table .rows-within, mul-le-mul-right (l .width) below))

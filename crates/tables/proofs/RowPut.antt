@@ -6,18 +6,17 @@ use mathlib.Core.Path.{_≡_, sym, ap, _∙_}
 use mathlib.Core.Bool.{Bool, true}
 use mathlib.Core.List.{List}
 use mathlib.Core.Option.{none, some}
-use lib.IntN.{ℤ, natAbs}
+use lib.IntN.{ℤ}
 use lib.ListN.{length}
 use Rattle.rules.specs.Keyed.{Key, find, upsert}
-use Rattle.rules.specs.Layout.{Layout, countOf, rowAt, roomOf, rowsOf, write}
+use Rattle.rules.specs.Layout.{Layout, rowAt, roomOf, rowsOf, write}
 use Rattle.rules.specs.Tables.{soundTable}
 use Rattle.cells.specs.Lawful.{Lawful}
 use Rattle.cells.specs.SoundTable.{SoundTable}
-use Rattle.cells.proofs.Count.{length-rowsOf}
 use Rattle.cells.proofs.Sound.{sound-write}
 use Rattle.keys.proofs.Lookup.{all-upsert}
 use Rattle.keys.proofs.Rising.{upsert-rises, upsert-adds, upsert-replaces}
-use Rattle.lookup.specs.Lookup.{rowFound, rowPlace}
+use Rattle.lookup.specs.Lookup.{foundIn, placeIn}
 use Rattle.lookup.specs.declared.Found.the-variants.{Row}
 use Rattle.lookup.proofs.TableLookup.{KeyFirst, table-found, table-place, table-inserted, table-replaced}
 use Rattle.shifter.specs.Insertion.{inserted, replaced}
@@ -26,9 +25,6 @@ use Rattle.shifter.proofs.Written.{inserted-written, replaced-written}
 module _ {A : Type 0} (l : Layout A) (lawful : Lawful l) (key : A → Key) (first : KeyFirst l key) (soundRow : A → Bool)
     (cells : List ℤ) (table : SoundTable l key soundRow cells) (new : A) (sound : soundRow new ≡ true) (n : ℕ) (count : n ≡ length (rowsOf l cells))
     (row : List ℤ) (cells-of : row ≡ l .put new) (out : List ℤ) where
-  counted : n ≡ natAbs (countOf cells)
-  counted = count ∙ length-rowsOf l cells
-
   put-sound : out ≡ write l cells (upsert key new (rowsOf l cells)) → length (upsert key new (rowsOf l cells)) ≤ roomOf l cells → soundTable l key soundRow out ≡ true
   put-sound e fits =
       rw e
@@ -37,34 +33,29 @@ module _ {A : Type 0} (l : Layout A) (lawful : Lawful l) (key : A → Key) (firs
       (all-upsert key soundRow new (rowsOf l cells) sound (table .rows-sound)))
 
   pub put-inserted : find key (key new) (rowsOf l cells) ≡ none → length (rowsOf l cells) < roomOf l cells
-      → (place : ℕ) → place ≡ rowPlace (l .header) (l .width) (key new) n cells → out ≡ inserted (l .header) row n place cells
+      → (place : ℕ) → place ≡ placeIn l (key new) cells → out ≡ inserted (l .header) (length row) row 1 n place cells
       → (out ≡ write l cells (upsert key new (rowsOf l cells))) × (soundTable l key soundRow out ≡ true)
   put-inserted absent room place at e = (written, put-sound written (omega (arith, upsert-adds key new (rowsOf l cells) absent)))
     where
-      p : ℕ
-      p = rowPlace (l .header) (l .width) (key new) (natAbs (countOf cells)) cells
-
-      placed : place ≡ p
-      placed = at ∙ ap (λ (m : ℕ). rowPlace (l .header) (l .width) (key new) m cells) counted
+      wide : length row ≡ l .width
+      wide = ap length cells-of ∙ lawful .put-length new
 
       written : out ≡ write l cells (upsert key new (rowsOf l cells))
       written =
           e
-          ∙ ap (λ (c : List ℤ). inserted (l .header) c n place cells) cells-of
-          ∙ ap (λ (m : ℕ). inserted (l .header) (l .put new) m place cells) count
-          ∙ ap (λ (m : ℕ). inserted (l .header) (l .put new) (length (rowsOf l cells)) m cells) placed
-          ∙ inserted-written l lawful cells (table .count-sound) p new (table-place l key first cells (key new))
+          ∙ ap (λ (w : ℕ). inserted (l .header) w row 1 n place cells) wide
+          ∙ ap (λ (c : List ℤ). inserted (l .header) (l .width) c 1 n place cells) cells-of
+          ∙ ap (λ (m : ℕ). inserted (l .header) (l .width) (l .put new) 1 m place cells) count
+          ∙ ap (λ (m : ℕ). inserted (l .header) (l .width) (l .put new) 1 (length (rowsOf l cells)) m cells) at
+          ∙ inserted-written l lawful cells (table .count-sound) (placeIn l (key new) cells) new (table-place l key first cells (key new))
           ∙ ap (write l cells) (sym (table-inserted l key first cells new absent))
 
-  pub put-replaced : (at : ℕ) → Row at ≡ rowFound (l .header) (l .width) (key new) n cells → out ≡ replaced (l .header) row at cells
+  pub put-replaced : (at : ℕ) → Row at ≡ foundIn l (key new) cells → out ≡ replaced (l .header) row at cells
       → (out ≡ write l cells (upsert key new (rowsOf l cells))) × (soundTable l key soundRow out ≡ true)
   put-replaced at f e = (written, put-sound written (omega (arith, same-count, table .rows-fit)))
     where
-      there : rowFound (l .header) (l .width) (key new) (natAbs (countOf cells)) cells ≡ Row at
-      there = ap (λ (m : ℕ). rowFound (l .header) (l .width) (key new) m cells) (sym counted) ∙ sym f
-
       known : (at < length (rowsOf l cells)) × (find key (key new) (rowsOf l cells) ≡ some (rowAt l cells at)) × (key (rowAt l cells at) ≡ key new)
-      known = table-found l key first cells (key new) at there
+      known = table-found l key first cells (key new) at (sym f)
 
       same-count : length (upsert key new (rowsOf l cells)) ≡ length (rowsOf l cells)
       same-count = upsert-replaces key new (rowAt l cells at) (rowsOf l cells) (table .rows-rise) (known .1)
@@ -74,4 +65,4 @@ module _ {A : Type 0} (l : Layout A) (lawful : Lawful l) (key : A → Key) (firs
           e
           ∙ ap (λ (c : List ℤ). replaced (l .header) c at cells) cells-of
           ∙ replaced-written l lawful cells (table .count-sound) at new (known .0)
-          ∙ ap (write l cells) (sym (table-replaced l key first cells new at (table .rows-rise) there))
+          ∙ ap (write l cells) (sym (table-replaced l key first cells new at (table .rows-rise) (sym f)))

@@ -18,7 +18,7 @@ use Rattle.cells.specs.SoundTable.{SoundRecords}
 use Rattle.cells.proofs.Count.{length-rowsOf}
 use Rattle.cells.proofs.RowCells.{records-lawful}
 use Rattle.keys.proofs.Lookup.{find-all}
-use Rattle.lookup.specs.Lookup.{rowFound}
+use Rattle.lookup.specs.Lookup.{foundIn}
 use Rattle.lookup.specs.declared.Found.the-variants.{Row}
 use Rattle.lookup.proofs.TableLookup.{records-first, table-found}
 use Rattle.soundness.proofs.SoundRecord.{record-sound}
@@ -28,7 +28,7 @@ use Rattle.tables.proofs.RowThere.{row-there}
 use Rattle.tables.proofs.StatusSet.{status-set}
 
 module _ (cells : List ℤ) (table : SoundRecords cells) (row : ℕ) (within : row < length (rowsOf recordsLayout cells)) where
-  there : rowFound (recordsLayout .header) (recordsLayout .width) (recordKey (rowAt recordsLayout cells row)) (natAbs (countOf cells)) cells ≡ Row row
+  there : foundIn recordsLayout (recordKey (rowAt recordsLayout cells row)) cells ≡ Row row
   there = row-there recordsLayout recordKey records-first cells row (table .rows-rise) within
 
   row-sound : soundRecord (rowAt recordsLayout cells row) ≡ true

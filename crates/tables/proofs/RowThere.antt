@@ -3,11 +3,12 @@ use Prim.Native.Nat.{ℕ, zero, suc, _+_, _*_, _<_}
 use mathlib.Core.Path.{_≡_, refl, sym, ap, _∙_}
 use mathlib.Core.Bool.{true}
 use mathlib.Core.List.{List, [], _∷_, map}
+use mathlib.Core.Option.{Option, some}
 use lib.IntN.{ℤ, natAbs}
 use lib.ListN.{length, getD, length-map}
 use Rattle.rules.specs.Keyed.{Key, rising}
-use Rattle.rules.specs.Layout.{Layout, countOf, rowAt, rowsOf}
-use Rattle.lookup.specs.Lookup.{foundFrom, rowFound}
+use Rattle.rules.specs.Layout.{Layout, countOf, decode, rowAt, rowsOf}
+use Rattle.lookup.specs.Lookup.{keyAt, rowFrom, foundOr, foundIn, placeIn}
 use Rattle.lookup.specs.declared.Found.the-variants.{Row}
 use Rattle.lookup.proofs.RisingKeys.{rising-map, found-there}
 use Rattle.lookup.proofs.TableLookup.{KeyFirst, table-keys, table-row}
@@ -18,16 +19,19 @@ key-of-row key (r ∷ rest) zero other = refl
 key-of-row key (r ∷ rest) (suc i) other = key-of-row key rest i other
 
 rising-found : {A : Type 0} (key : A → Key) (rows : List A) (i : ℕ) (other : A) → rising key rows ≡ true → i < length rows
-    → foundFrom 0 (key (getD rows i other)) (map key rows) ≡ Row i
+    → rowFrom 0 (key (getD rows i other)) (map key rows) ≡ some i
 rising-found key rows i other rises h =
-    ap (λ (k : Key). foundFrom 0 k (map key rows)) (sym (key-of-row key rows i other))
+    ap (λ (k : Key). rowFrom 0 k (map key rows)) (sym (key-of-row key rows i other))
     ∙ found-there (map key rows) i (key other) (rising-map key rows ∙ rises) (rw (length-map rows key) h)
 
 module _ {A : Type 0} (l : Layout A) (key : A → Key) (first : KeyFirst l key) (cells : List ℤ) where
   pub row-there : (i : ℕ) → rising key (rowsOf l cells) ≡ true → i < length (rowsOf l cells)
-      → rowFound (l .header) (l .width) (key (rowAt l cells i)) (natAbs (countOf cells)) cells ≡ Row i
+      → foundIn l (key (rowAt l cells i)) cells ≡ Row i
+  unfolding foundOr
   row-there i rises h =
       let here : A = rowAt l cells i in
-      ap (foundFrom 0 (key here)) (table-keys l key first cells)
-      ∙ ap (λ (r : A). foundFrom 0 (key r) (map key (rowsOf l cells))) (sym (table-row l key first cells i here h))
-      ∙ rising-found key (rowsOf l cells) i here rises h
+      let row : rowFrom 0 (key here) (decode keyAt (l .width) (natAbs (countOf cells)) (l .header) cells) ≡ some i =
+      ap (rowFrom 0 (key here)) (table-keys l key first cells)
+      ∙ ap (λ (r : A). rowFrom 0 (key r) (map key (rowsOf l cells))) (sym (table-row l key first cells i here h))
+      ∙ rising-found key (rowsOf l cells) i here rises h in
+      ap (λ (o : Option ℕ). foundOr o (placeIn l (key here) cells)) row

@@ -55,7 +55,7 @@ pub fn read_position(cells: &[i64], found: Found, account: i64, series: i64) -> 
 {
     match found {
         Found::Row(row) => rows::position_at(cells, POSITIONS_HEADER + row * POSITION_WIDTH),
-        Found::Absent => Position {
+        Found::Absent(_) => Position {
             account,
             series,
             long: 0,
@@ -65,45 +65,15 @@ pub fn read_position(cells: &[i64], found: Found, account: i64, series: i64) -> 
     }
 }
 
-pub fn position_of(cells: &[i64], account: i64, series: i64) -> Position
-    requires { ⌜ soundPositions (now cells) ≡ true ⌝ }
-    ensures { λ r. ⌜ r ≡ orZeros account series (find positionKey (keyOf account series) (rowsOf positionsLayout (now (cells .entry)))) ⌝ }
-{
-    let found = find_position(cells, account, series);
-    read_position(cells, found, account, series)
-}
-
-// The row of its key written anew, or made where it belongs, by what the lookup found.
+// The row of its key written anew, or made at the place where it belongs, by what the lookup found.
 pub fn write_position(cells: &mut [i64], found: Found, p: Position)
     requires { ⌜ (soundPositions (now cells) ≡ true) × (soundPosition p ≡ true) × (length (rowsOf positionsLayout (now cells)) + absentFrom positionKey (rowsOf positionsLayout (now cells)) (p ∷ []) ≤ roomOf positionsLayout (now cells)) × (found ≡ positionFound (now cells) (p .account) (p .series)) ⌝ }
     ensures { λ done. ⌜ (now (cells .exit) ≡ write positionsLayout (now (cells .entry)) (upsert positionKey p (rowsOf positionsLayout (now (cells .entry))))) × (soundPositions (now (cells .exit)) ≡ true) ⌝ }
 {
-    let account = p.account;
-    let series = p.series;
     let n = count(cells);
     let row = rows::position_cells(p);
     match found {
         Found::Row(at) => shifter::replace_row(cells, POSITIONS_HEADER, at, &row),
-        Found::Absent => {
-            let place = lookup::place_of(
-                cells,
-                POSITIONS_HEADER,
-                POSITION_WIDTH,
-                n,
-                account,
-                series,
-            );
-            shifter::insert_row(cells, POSITIONS_HEADER, n, place, &row);
-        }
+        Found::Absent(place) => shifter::insert_row(cells, POSITIONS_HEADER, n, place, &row),
     }
-}
-
-pub fn put_position(cells: &mut [i64], p: Position)
-    requires { ⌜ (soundPositions (now cells) ≡ true) × (soundPosition p ≡ true) × (length (rowsOf positionsLayout (now cells)) + absentFrom positionKey (rowsOf positionsLayout (now cells)) (p ∷ []) ≤ roomOf positionsLayout (now cells)) ⌝ }
-    ensures { λ done. ⌜ (now (cells .exit) ≡ write positionsLayout (now (cells .entry)) (upsert positionKey p (rowsOf positionsLayout (now (cells .entry))))) × (soundPositions (now (cells .exit)) ≡ true) ⌝ }
-{
-    let account = p.account;
-    let series = p.series;
-    let found = find_position(cells, account, series);
-    write_position(cells, found, p);
 }

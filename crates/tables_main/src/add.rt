@@ -1,5 +1,6 @@
 // Rows added and changed where the tables and the row allow it: each answers whether it was.
 use lookup::Found;
+use lookup::Sought;
 use rules::Position;
 use rules::Record;
 use scan::soundness as scanned;
@@ -49,13 +50,13 @@ pub fn record(cells: &mut [i64], id: i64, suffix: i64, price: i64) -> bool {
     if !scanned::sound_record(r) {
         return false;
     }
-    let Found::Absent = records::find_record(cells, r.id, r.suffix) else {
+    let Sought::Absent(place, greatest) = records::look_up(cells, r.id, r.suffix) else {
         return false;
     };
     if records::room(cells) <= records::count(cells) {
         return false;
     }
-    records::insert_record(cells, r);
+    records::insert_record(cells, place, r);
     true
 }
 
@@ -79,7 +80,7 @@ pub fn adjust(cells: &mut [i64], id: i64, suffix: i64) -> bool {
     if !scanned::records_sound(cells) {
         return false;
     }
-    let Found::Row(row) = records::find_record(cells, id, suffix) else {
+    let Sought::Present(row, greatest, next) = records::look_up(cells, id, suffix) else {
         return false;
     };
     let r = records::read_record(cells, row);
@@ -113,14 +114,12 @@ pub fn position(
     }
     let n = positions::count(cells);
     let room = positions::room(cells);
-    match positions::find_position(cells, account, series) {
-        Found::Row(_) => positions::put_position(cells, p),
-        Found::Absent => {
-            if room <= n {
-                return false;
-            }
-            positions::put_position(cells, p);
+    let found = positions::find_position(cells, account, series);
+    if let Found::Absent(_) = found {
+        if room <= n {
+            return false;
         }
     }
+    positions::write_position(cells, found, p);
     true
 }

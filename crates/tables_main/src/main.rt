@@ -2,23 +2,33 @@
 mod add;
 mod damage;
 
-use lookup::Found;
 use lookup::Greatest;
+use lookup::Sought;
 use tables::records;
 
-// What the lookups say of a sound records table.
+fn tell_greatest(greatest: Greatest) {
+    match greatest {
+        Greatest::Suffix(s) => printing::value(b"greatest suffix ", s),
+        Greatest::Nothing => printing::line(b"no record of that id"),
+    }
+}
+
+// What the lookup says of a key in a sound records table.
 fn ask(cells: &[i64], id: i64, suffix: i64) {
     if !scan::soundness::records_sound(cells) {
         printing::line(b"not sound");
         return;
     }
-    match records::find_record(cells, id, suffix) {
-        Found::Row(row) => printing::value(b"row ", row as i64),
-        Found::Absent => printing::line(b"absent"),
-    }
-    match records::greatest_suffix(cells, id) {
-        Greatest::Suffix(s) => printing::value(b"greatest suffix ", s),
-        Greatest::Nothing => printing::line(b"no record of that id"),
+    match records::look_up(cells, id, suffix) {
+        Sought::Present(row, greatest, next) => {
+            printing::value(b"row ", row as i64);
+            printing::value(b"greatest suffix ", greatest);
+            printing::value(b"the next suffix belongs at row ", next as i64);
+        }
+        Sought::Absent(place, greatest) => {
+            printing::value(b"absent, belongs at row ", place as i64);
+            tell_greatest(greatest);
+        }
     }
 }
 

@@ -1,5 +1,7 @@
-// Trade on sound tables: tests 3, 4 and 14 to 16, the booking, and the call that joins them. Its position is looked up once, for the tests and for the booking.
-use lookup::Found;
+// Trade on sound tables: tests 3, 4 and 14 to 16, the booking, and the call that joins them. Its id and its position are looked up once, for the tests and for the booking.
+use lookup::Greatest;
+use lookup::Sought;
+use requests::Held;
 use rules::Movement;
 use rules::Position;
 use rules::Reply;
@@ -10,18 +12,23 @@ use tables::records;
 use verdict::Verdict;
 ghost use mathlib.Core.Path.{_≡_};
 ghost use mathlib.Core.Bool.{true};
+ghost use mathlib.Core.Option.{none};
+ghost use lib.IntN.{pos};
 ghost use Rattle.rules.specs.Figures.{validQuantity};
-ghost use Rattle.rules.specs.Rows.{soundPosition};
+ghost use Rattle.rules.specs.Keyed.{greatest};
+ghost use Rattle.rules.specs.Rows.{keyOf, recordKey, soundPosition};
+ghost use Rattle.rules.specs.Layout.{rowsOf};
 ghost use Rattle.rules.specs.Request as Request;
-ghost use Rattle.rules.specs.Tables.{soundRecords, soundPositions};
+ghost use Rattle.rules.specs.Tables.{recordsLayout, soundRecords, soundPositions};
 ghost use Rattle.rules.specs.Handle.{answered};
 ghost use Rattle.rules.specs.Trade as Trade;
 ghost use Rattle.rules.specs.Trade.{tradeFigures};
+ghost use Rattle.lookup.specs.Lookup.{placeIn};
+ghost use Rattle.requests.specs.KnownPosition.{KnownPosition};
 ghost use Rattle.verdict.specs.Verdict.{verdictOn, acceptedOn};
 ghost use Rattle.verdict.specs.HandledSoundly.{HandledSoundly};
 ghost use Rattle.verdict.specs.declared.Verdict.the-variants.{Accepted};
 ghost use Rattle.trade.specs.Booking.{bookingOf, positionAfter};
-ghost use Rattle.trade.specs.KnownPosition.{KnownPosition};
 
 // What a trade closes and books.
 pub struct Booking {
@@ -115,56 +122,54 @@ fn position_after(side: i64, quantity: i64, p: Position) -> Position
     requests::moved(p, b.movement)
 }
 
+// Tests 14 to 16, of a new id.
 fn verdict(
     records: &[i64],
     positions: &[i64],
+    held: Held,
     id: i64,
     account: i64,
     series: i64,
     side: i64,
     quantity: i64,
     price: i64,
-    found: Found,
-    p: Position,
 ) -> Verdict
-    requires { ⌜ (soundRecords (now records) ≡ true) × (soundPositions (now positions) ≡ true) × KnownPosition (now positions) account series found p ⌝ }
+    requires { ⌜ (soundRecords (now records) ≡ true) × (soundPositions (now positions) ≡ true) × (tradeFigures id account series side quantity price ≡ true) × (greatest recordKey id (rowsOf recordsLayout (now records)) ≡ none) × KnownPosition (now positions) account series held ⌝ }
     ensures { λ r. ⌜ r ≡ verdictOn (now (records .entry)) (now (positions .entry)) (Request.trade id account series side quantity price) ⌝ }
 {
-    if !figures_valid(id, account, series, side, quantity, price) {
-        return Verdict::Refused(3, 0);
-    }
-    let lookup::Greatest::Nothing = records::greatest_suffix(records, id) else {
-        return Verdict::Refused(4, 0);
-    };
     if requests::lacks_records_room(records, 1) {
         return Verdict::Refused(14, 0);
     }
+    let found = held.found;
     let absent = requests::absent_row(found);
     if requests::lacks_positions_room(positions, absent) {
         return Verdict::Refused(15, 0);
     }
-    let left = position_after(side, quantity, p);
+    let left = position_after(side, quantity, held.position);
     if !scan::soundness::sound_position(left) {
         return Verdict::Refused(16, 0);
     }
     Verdict::Accepted
 }
 
+// The record goes to the place that the lookup said.
 fn book(
     records: &mut [i64],
     positions: &mut [i64],
+    place: usize,
+    held: Held,
     id: i64,
     account: i64,
     series: i64,
     side: i64,
     quantity: i64,
     price: i64,
-    found: Found,
-    p: Position,
 ) -> Reply
-    requires { ⌜ (soundRecords (now records) ≡ true) × (soundPositions (now positions) ≡ true) × (verdictOn (now records) (now positions) (Request.trade id account series side quantity price) ≡ Accepted) × KnownPosition (now positions) account series found p ⌝ }
+    requires { ⌜ (soundRecords (now records) ≡ true) × (soundPositions (now positions) ≡ true) × (verdictOn (now records) (now positions) (Request.trade id account series side quantity price) ≡ Accepted) × KnownPosition (now positions) account series held × (place ≡ placeIn recordsLayout (keyOf id (pos 0)) (now records)) ⌝ }
     ensures { λ r. ⌜ answered r (now (records .exit)) (now (positions .exit)) ≡ acceptedOn (now (records .entry)) (now (positions .entry)) (Request.trade id account series side quantity price) ⌝ }
 {
+    let found = held.found;
+    let p = held.position;
     let b = booking_of(side, quantity, p);
     let m = b.movement;
     let mut kind = ORIGINAL;
@@ -182,7 +187,7 @@ fn book(
         m.long,
         m.short,
     );
-    records::insert_record(records, row);
+    records::insert_record(records, place, row);
     let left = requests::moved(p, m);
     positions::write_position(positions, found, left);
     if b.error {
@@ -209,32 +214,39 @@ pub fn on_sound(
     requires { ⌜ (soundRecords (now records) ≡ true) × (soundPositions (now positions) ≡ true) ⌝ }
     ensures { λ r. ⌜ HandledSoundly (now (records .entry)) (now (positions .entry)) (Request.trade id account series side quantity price) (answered r (now (records .exit)) (now (positions .exit))) ⌝ }
 {
-    let found = positions::find_position(positions, account, series);
-    let p = positions::read_position(positions, found, account, series);
+    if !figures_valid(id, account, series, side, quantity, price) {
+        return Reply::Refused(3, 0);
+    }
+    let Sought::Absent(place, greatest) = records::look_up(records, id, 0) else {
+        return Reply::Refused(4, 0);
+    };
+    let Greatest::Nothing = greatest else {
+        return Reply::Refused(4, 0);
+    };
+    let held = requests::position_held(positions, account, series);
     match verdict(
         records,
         positions,
+        held,
         id,
         account,
         series,
         side,
         quantity,
         price,
-        found,
-        p,
     ) {
-        Verdict::Refused(number, place) => Reply::Refused(number, place),
+        Verdict::Refused(number, at) => Reply::Refused(number, at),
         Verdict::Accepted => book(
             records,
             positions,
+            place,
+            held,
             id,
             account,
             series,
             side,
             quantity,
             price,
-            found,
-            p,
         ),
     }
 }

@@ -1,3 +1,2 @@
 pub mod Negated
 pub mod BySide
-pub mod TwoRows

@@ -1,5 +1,7 @@
-// Account transfer on sound tables: tests 3, 5 to 8 and 12 to 16, the booking, and the call that joins them.
-use lookup::Found;
+// Account transfer on sound tables: tests 3, 5 to 8 and 12 to 16, the booking, and the call that joins them. The record and both positions are looked up once.
+use lookup::Sought;
+use requests::Held;
+use requests::Named;
 use rules::Movement;
 use rules::Position;
 use rules::Record;
@@ -12,17 +14,16 @@ use tables::records;
 use verdict::Verdict;
 ghost use mathlib.Core.Path.{_≡_};
 ghost use mathlib.Core.Bool.{true, false};
-ghost use mathlib.Core.Option.{some};
 ghost use lib.IntN.{pos, negℤ};
 ghost use Rattle.rules.specs.Figures.{magnitudeAtMost, isToClose};
-ghost use Rattle.rules.specs.Keyed.{find};
-ghost use Rattle.rules.specs.Rows.{keyOf, recordKey, soundPosition, moved, inverseRecord, adjustableRecord};
+ghost use Rattle.rules.specs.Rows.{soundPosition, moved, inverseRecord, adjustableRecord};
 ghost use Rattle.rules.specs.NamedRecord.{isElsewhere, isNotAdjustable};
-ghost use Rattle.rules.specs.Layout.{rowsOf};
 ghost use Rattle.rules.specs.Request as Request;
-ghost use Rattle.rules.specs.Tables.{recordsLayout, soundRecords, soundPositions};
+ghost use Rattle.rules.specs.Tables.{soundRecords, soundPositions};
 ghost use Rattle.rules.specs.Handle.{answered};
 ghost use Rattle.rules.specs.Transfer.{transferFigures, inLong, inShort, inSide, holdsTooLittle};
+ghost use Rattle.requests.specs.KnownPosition.{KnownPosition};
+ghost use Rattle.requests.specs.KnownRecord.{KnownRecord};
 ghost use Rattle.verdict.specs.Verdict.{verdictOn, acceptedOn};
 ghost use Rattle.verdict.specs.HandledSoundly.{HandledSoundly};
 ghost use Rattle.verdict.specs.declared.Verdict.the-variants.{Accepted};
@@ -116,9 +117,13 @@ pub fn arrived_row(r: Record, suffix: i64, to: i64, kind: i64) -> Record
     requests::adjustable_record(r, suffix, kind, to, r.quantity, m.long, m.short)
 }
 
+// Tests 6 to 8, of the record that was found; then those of the positions.
 pub fn verdict(
     records: &[i64],
     positions: &[i64],
+    named: Named,
+    old: Held,
+    new: Held,
     id: i64,
     suffix: i64,
     from: i64,
@@ -126,15 +131,10 @@ pub fn verdict(
     series: i64,
 ) -> Verdict
     requires { ⌜ (soundRecords (now records) ≡ true) × (soundPositions (now positions) ≡ true) ⌝ }
+    requires { ⌜ (transferFigures id suffix from to series ≡ true) × KnownRecord (now records) id suffix named × KnownPosition (now positions) from series old × KnownPosition (now positions) to series new ⌝ }
     ensures { λ r. ⌜ r ≡ verdictOn (now (records .entry)) (now (positions .entry)) (Request.transfer id suffix from to series) ⌝ }
 {
-    if !figures_valid(id, suffix, from, to, series) {
-        return Verdict::Refused(3, 0);
-    }
-    let Found::Row(row) = records::find_record(records, id, suffix) else {
-        return Verdict::Refused(5, 0);
-    };
-    let r = records::read_record(records, row);
+    let r = named.record;
     if requests::is_elsewhere(r, from, series) {
         return Verdict::Refused(6, 0);
     }
@@ -144,14 +144,27 @@ pub fn verdict(
     if figures::is_to_close(r.side) {
         return Verdict::Refused(8, 0);
     }
-    verdict_on_record(records, positions, r, id, suffix, from, to, series)
+    verdict_on_positions(
+        records,
+        positions,
+        named,
+        old,
+        new,
+        id,
+        suffix,
+        from,
+        to,
+        series,
+    )
 }
 
 // Tests 12 to 16, of a record that passes 5 to 8.
-fn verdict_on_record(
+fn verdict_on_positions(
     records: &[i64],
     positions: &[i64],
-    r: Record,
+    named: Named,
+    old: Held,
+    new: Held,
     id: i64,
     suffix: i64,
     from: i64,
@@ -159,37 +172,42 @@ fn verdict_on_record(
     series: i64,
 ) -> Verdict
     requires { ⌜ (soundRecords (now records) ≡ true) × (soundPositions (now positions) ≡ true) ⌝ }
-    requires { ⌜ (transferFigures id suffix from to series ≡ true) × (find recordKey (keyOf id suffix) (rowsOf recordsLayout (now records)) ≡ some r) × (isElsewhere from series r ≡ false) × (isNotAdjustable r ≡ false) × (isToClose (r .side) ≡ false) ⌝ }
+    requires { ⌜ (transferFigures id suffix from to series ≡ true) × KnownRecord (now records) id suffix named × KnownPosition (now positions) from series old × KnownPosition (now positions) to series new ⌝ }
+    requires { ⌜ (isElsewhere from series (named .record) ≡ false) × (isNotAdjustable (named .record) ≡ false) × (isToClose (named .record .side) ≡ false) ⌝ }
     ensures { λ v. ⌜ v ≡ verdictOn (now (records .entry)) (now (positions .entry)) (Request.transfer id suffix from to series) ⌝ }
 {
-    let old = positions::position_of(positions, from, series);
-    if holds_too_little(r, old) {
+    let r = named.record;
+    if holds_too_little(r, old.position) {
         return Verdict::Refused(12, 0);
     }
-    if GREATEST_SUFFIX < requests::next_suffix(records, id) + 1 {
+    if GREATEST_SUFFIX < named.next + 1 {
         return Verdict::Refused(13, 0);
     }
     if requests::lacks_records_room(records, 2) {
         return Verdict::Refused(14, 0);
     }
-    let absent = requests::absent_position(positions, from, series)
-        + requests::absent_position(positions, to, series);
+    let old_found = old.found;
+    let new_found = new.found;
+    let absent = requests::absent_row(old_found) + requests::absent_row(new_found);
     if requests::lacks_positions_room(positions, absent) {
         return Verdict::Refused(15, 0);
     }
-    let new = positions::position_of(positions, to, series);
-    if !scan::soundness::sound_position(taken_from(old, r)) {
+    if !scan::soundness::sound_position(taken_from(old.position, r)) {
         return Verdict::Refused(16, 0);
     }
-    if !scan::soundness::sound_position(given_to(new, r)) {
+    if !scan::soundness::sound_position(given_to(new.position, r)) {
         return Verdict::Refused(16, 0);
     }
     Verdict::Accepted
 }
 
+// The old account's row is there, since it holds the quantity: writing it moves no row, and what was found of the new account's is so still.
 pub fn book(
     records: &mut [i64],
     positions: &mut [i64],
+    named: Named,
+    old: Held,
+    new: Held,
     id: i64,
     suffix: i64,
     from: i64,
@@ -197,21 +215,19 @@ pub fn book(
     series: i64,
 ) -> Reply
     requires { ⌜ (soundRecords (now records) ≡ true) × (soundPositions (now positions) ≡ true) × (verdictOn (now records) (now positions) (Request.transfer id suffix from to series) ≡ Accepted) ⌝ }
+    requires { ⌜ KnownRecord (now records) id suffix named × KnownPosition (now positions) from series old × KnownPosition (now positions) to series new ⌝ }
     ensures { λ r. ⌜ answered r (now (records .exit)) (now (positions .exit)) ≡ acceptedOn (now (records .entry)) (now (positions .entry)) (Request.transfer id suffix from to series) ⌝ }
 {
-    let Found::Row(row) = records::find_record(records, id, suffix) else {
-        return Reply::Refused(5, 0);
-    };
-    let r = records::read_record(records, row);
-    let next = requests::next_suffix(records, id);
-    let old = positions::position_of(positions, from, series);
-    let new = positions::position_of(positions, to, series);
-    records::adjust_record(&mut *records, row);
-    let place = records::open_rows(&mut *records, id, next, 2);
-    records::write_record(&mut *records, place, inverse_row(r, next, TRANSFER));
-    records::write_record(records, place + 1, arrived_row(r, next + 1, to, TRANSFER));
-    positions::put_position(&mut *positions, taken_from(old, r));
-    positions::put_position(positions, given_to(new, r));
+    let r = named.record;
+    let next = named.next;
+    let inverse = inverse_row(r, next, TRANSFER);
+    let arrived = arrived_row(r, next + 1, to, TRANSFER);
+    let quantity = [r.quantity];
+    let old_found = old.found;
+    let new_found = new.found;
+    requests::adjust_named(records, id, suffix, named, inverse, arrived, &quantity);
+    positions::write_position(&mut *positions, old_found, taken_from(old.position, r));
+    positions::write_position(positions, new_found, given_to(new.position, r));
     Reply::Booked {
         rows: 2,
         residual: 0,
@@ -230,8 +246,39 @@ pub fn on_sound(
     requires { ⌜ (soundRecords (now records) ≡ true) × (soundPositions (now positions) ≡ true) ⌝ }
     ensures { λ r. ⌜ HandledSoundly (now (records .entry)) (now (positions .entry)) (Request.transfer id suffix from to series) (answered r (now (records .exit)) (now (positions .exit))) ⌝ }
 {
-    match verdict(records, positions, id, suffix, from, to, series) {
+    if !figures_valid(id, suffix, from, to, series) {
+        return Reply::Refused(3, 0);
+    }
+    let Sought::Present(row, greatest, next) = records::look_up(records, id, suffix) else {
+        return Reply::Refused(5, 0);
+    };
+    let named = requests::record_named(records, id, suffix, row, greatest, next);
+    let old = requests::position_held(positions, from, series);
+    let new = requests::position_held(positions, to, series);
+    match verdict(
+        records,
+        positions,
+        named,
+        old,
+        new,
+        id,
+        suffix,
+        from,
+        to,
+        series,
+    ) {
         Verdict::Refused(number, place) => Reply::Refused(number, place),
-        Verdict::Accepted => book(records, positions, id, suffix, from, to, series),
+        Verdict::Accepted => book(
+            records,
+            positions,
+            named,
+            old,
+            new,
+            id,
+            suffix,
+            from,
+            to,
+            series,
+        ),
     }
 }

@@ -1,7 +1,7 @@
 -- The tests of an account transfer in the shape in which code meets them, and the tables and answer of an accepted one. By the definitions. Assumes nothing.
 use Prim.Native.Nat.{ℕ, _+_}
-use mathlib.Core.Path.{_≡_}
-use mathlib.Core.Bool.{not, _&&_}
+use mathlib.Core.Path.{_≡_, ap}
+use mathlib.Core.Bool.{true, not, _&&_}
 use mathlib.Core.List.{List, [], _∷_}
 use mathlib.Core.Option.{Option, some}
 use lib.Dec.{ltb}
@@ -26,7 +26,7 @@ use Rattle.rules.specs.declared.Position.{Position}
 use Rattle.rules.specs.declared.Reply.the-variants.{Booked}
 use Rattle.soundness.proofs.NamedRecord.{nextOf}
 use Rattle.verdict.specs.Verdict.{verdictOn, acceptedOn, absentPosition}
-use Rattle.verdict.proofs.Remaining.{row, fromTest, Remaining, and-true, or-nothing}
+use Rattle.verdict.proofs.Remaining.{row, fromTest, Remaining, _past_, and-true, or-nothing}
 use Rattle.verdict.proofs.Room.{positionRead, absent-moved, absent-one}
 use Rattle.verdict.proofs.Suffixes.{above-later}
 
@@ -80,6 +80,11 @@ module _ (rs ps : List ℤ) (id suffix from to series : ℤ) where
   transfer-tests r e =
       let later : next ≤ℤ (next +ℤ pos 1) = omega (zarith, +-lin next (pos 1)) in
       record { is = rw (← e, or-nothing, above-later greatestOfSuffixes next (next +ℤ pos 1) later, absent-moved, absent-one, and-true) }
+
+  -- Past tests 3 and 5: r is the record that is named.
+  pub transfer-named : (r : Record) → transferFigures id suffix from to series ≡ true → named ≡ some r → TransferFrom 6 r
+  unfolding isSome theRecord
+  transfer-named r figures e = transfer-tests r (ap theRecord e) past ap not figures past ap (λ (o : Option Record). not (isSome o)) e
 
   -- ---- the booking
 

@@ -6,7 +6,6 @@ use mathlib.Core.Bool.{true, false}
 use mathlib.Core.List.{List}
 use mathlib.Core.Option.{some}
 use lib.IntN.{ℤ, pos, natAbs, _+ℤ_}
-use lib.ListN.{length}
 use lib.Signed.{_≤ℤ_}
 use mir.Facts.{toZ-ofZ}
 use mir.Syntax.{w64}
@@ -17,12 +16,12 @@ use borrow.Fn.PlainCycle.{Measures, is, falls, and}
 use Rattle.integers.specs.Order.{eqZ}
 use Rattle.integers.proofs.Linear.{zarith, +-lin}
 use Rattle.rules.specs.Figures.{validSuffix, greatestOfSuffixes}
-use Rattle.rules.specs.Layout.{rowsOf}
+use Rattle.rules.specs.Rows.{keyOf, recordKey}
 use Rattle.rules.specs.Tables.{recordsLayout, soundRecords}
 use Rattle.figures.proofs.Tests.{is-literal, not-literal}
-use Rattle.lookup.specs.Lookup.{recordFound}
-use Rattle.lookup.specs.declared.Found.the-variants.{Row}
-use Rattle.lookup.proofs.TableLookup.{record-found, record-absent}
+use Rattle.lookup.specs.Lookup.{recordSought}
+use Rattle.lookup.proofs.TableLookup.{records-first}
+use Rattle.lookup.proofs.TableSought.{PresentAt, table-present, table-lacks}
 use Rattle.scan.proofs.ReadBack.{read-back}
 use Rattle.soundness.proofs.FigureRanges.{suffix-range}
 use Rattle.verdict.proofs.LineageAnswer.{recordsOfId, parent-valid}
@@ -32,7 +31,7 @@ use Rattle.lineage.proofs.Steps.{step-missing, step-first, step-from, s
 use Rattle.lineage.proofs.origin.Reads as origin
 use Rattle.lineage.proofs.origin.Kinds as origin-kinds
 use Rattle.lineage.proofs.+origin.Lts-origin as origin-lts
-use Rattle.tables.proofs.records.find_record.Reads as find-record-reads
+use Rattle.tables.proofs.records.look_up.Reads as look-up-reads
 use Rattle.tables.proofs.records.read_record.Reads as read-record-reads
 use Rattle.lineage.proofs.+origin.{statement}
 use Rattle.lineage.proofs.+origin.Tie.{close}
@@ -48,7 +47,7 @@ abbrev origin-below : ℕ → In 1 origin-kinds.ps
 origin-below t = and 1 origin-kinds.ps (falls 1 origin-kinds.ps _<_ μ-origin t) origin.Pre
 
 abbrev claims : ℕ → origin-lts.Claims
-claims t = (find-record-reads.Asked, find-record-reads.Learnt, read-record-reads.Asked, read-record-reads.Learnt, origin-below t, origin.Post)
+claims t = (look-up-reads.Asked, look-up-reads.Learnt, read-record-reads.Asked, read-record-reads.Learnt, origin-below t, origin.Post)
 
 -- ---- what is known at the places
 
@@ -57,7 +56,7 @@ module _ (t : ℕ) where
   Start = origin-lts.Start (claims t) (origin-at t) origin.Post
 
   abbrev Looked : Type 0
-  Looked = origin-lts.After-find-record (claims t) (origin-at t) origin.Post
+  Looked = origin-lts.After-look-up (claims t) (origin-at t) origin.Post
 
   abbrev Told : Type 0
   Told = origin-lts.After-known-told (claims t) (origin-at t) origin.Post
@@ -87,28 +86,22 @@ module _ (t : ℕ) where
     sound : soundRecords cells ≡ true
     sound = s .pre .1 .0
 
-  looked : (c : Looked) → c .find-record .result ≡ recordFound (cells (c .before)) (id (c .before)) (suffix (c .before))
-  looked c = simp (toZ-ofZ (c .before .fits .id), toZ-ofZ (c .before .fits .suffix)) at (c .find-record .ensures)
+  looked : (c : Looked) → c .look-up .result ≡ recordSought (cells (c .before)) (id (c .before)) (suffix (c .before))
+  looked c = simp (toZ-ofZ (c .before .fits .id), toZ-ofZ (c .before .fits .suffix)) at (c .look-up .ensures)
 
   -- The row that the lookup answered.
   module _ (c : Told) where
     abbrev start : Start
     start = c .before .before .before .before
 
-    abbrev row : ℕ
-    row = c .before .row .given .0 .0
-
-    answered : recordFound (cells start) (id start) (suffix start) ≡ Row row
-    answered = sym (looked (c .before .before .before)) ∙ c .before .row .given .1
-
-    row-there : row < length (rowsOf recordsLayout (cells start))
-    row-there = record-found (cells start) (id start) (suffix start) row answered .0
+    there : PresentAt recordsLayout recordKey (cells start) (keyOf (id start) (suffix start)) (c .before .row .given .0 .0) (c .before .row .given .0 .1 .0) (c .before .row .given .0 .1 .1 .0)
+    there =
+        table-present recordsLayout recordKey records-first (cells start) (keyOf (id start) (suffix start)) _ _ _
+        (sym (looked (c .before .before .before)) ∙ c .before .row .given .1)
 
   -- The record that was read.
   named : (c : Read) → recordsOfId (cells (start (c .before))) (id (start (c .before))) (suffix (start (c .before))) ≡ some (c .read-record .result)
-  named c =
-      let s : Start = start (c .before) in
-      record-found (cells s) (id s) (suffix s) (row (c .before)) (answered (c .before)) .1 ∙ ap some (sym (c .read-record .ensures))
+  named c = there (c .before) .found ∙ ap some (sym (c .read-record .ensures))
 
   -- Past suffix 0: the origin of the parent.
   module _ (c : Onward) where
@@ -153,22 +146,17 @@ module _ (t : ℕ) where
     next-fits : SFits w64 (links +ℤ pos 1)
     next-fits = let range : (pos 0 ≤ℤ links) × (links ≤ℤ greatestOfSuffixes) = links-range in omega (zarith, +-lin links (pos 1))
 
-origin-find-record-requires : (t : ℕ) → origin-lts.Need-find-record-requires (claims t) (origin-at t) origin.Post
-origin-find-record-requires t c κs = sound t c
-
-origin-enum-known-row : (t : ℕ) → origin-lts.Need-enum-known-row (claims t) (origin-at t) origin.Post
-origin-enum-known-row t c = search needs
-
-origin-enum-told : (t : ℕ) → origin-lts.Need-enum-told (claims t) (origin-at t) origin.Post
-origin-enum-told t c = search needs
+origin-look-up-requires : (t : ℕ) → origin-lts.Need-look-up-requires (claims t) (origin-at t) origin.Post
+origin-look-up-requires t c κs = sound t c
 
 origin-returns : (t : ℕ) → origin-lts.Need-returns (claims t) (origin-at t) origin.Post
 origin-returns t c =
     let s : Start t = c .before .before .before in
-    step-missing (cells t s) (id t s) (suffix t s) (record-absent (cells t s) (id t s) (suffix t s) (sym (looked t (c .before .before)) ∙ c .enum-told .given .1))
+    step-missing (cells t s) (id t s) (suffix t s)
+    (table-lacks recordsLayout recordKey records-first (cells t s) (keyOf (id t s) (suffix t s)) _ _ (sym (looked t (c .before .before)) ∙ c .enum-told .given .1) .absent)
 
 origin-read-record-requires : (t : ℕ) → origin-lts.Need-read-record-requires (claims t) (origin-at t) origin.Post
-origin-read-record-requires t c κs = (sound t (start t c), row-there t c)
+origin-read-record-requires t c κs = (sound t (start t c), there t c .row-within)
 
 origin-returns-2 : (t : ℕ) → origin-lts.Need-returns-2 (claims t) (origin-at t) origin.Post
 origin-returns-2 t c =
@@ -187,14 +175,8 @@ origin-origin-requires t c κs =
       (sound t s, parent-is-valid t o),
     )
 
-origin-enum-known-price : (t : ℕ) → origin-lts.Need-enum-known-price (claims t) (origin-at t) origin.Post
-origin-enum-known-price t c = search needs
-
-origin-add-t12 : (t : ℕ) → origin-lts.Need-add-t12 (claims t) (origin-at t) origin.Post
-origin-add-t12 t c = simp (toZ-ofZ (links-fit t (c .before))) (next-fits t (c .before))
-
-origin-enum-told-2 : (t : ℕ) → origin-lts.Need-enum-told-2 (claims t) (origin-at t) origin.Post
-origin-enum-told-2 t c = search needs
+origin-add-t14 : (t : ℕ) → origin-lts.Need-add-t14 (claims t) (origin-at t) origin.Post
+origin-add-t14 t c = simp (toZ-ofZ (links-fit t (c .before))) (next-fits t (c .before))
 
 origin-returns-3 : (t : ℕ) → origin-lts.Need-returns-3 (claims t) (origin-at t) origin.Post
 origin-returns-3 t c =
@@ -218,15 +200,15 @@ pub +origin-spec : {M : Type 1} → statement M
     close μ-origin
     (λ t.
     origin-lts.spec (claims t) (origin-at t) origin.Post
-    (origin-find-record-requires t)
-    (origin-enum-known-row t)
-    (origin-enum-told t)
+    (origin-look-up-requires t)
+    (λ c. search needs)
+    (λ c. search needs)
     (origin-returns t)
     (origin-read-record-requires t)
     (origin-returns-2 t)
     (origin-origin-requires t)
-    (origin-enum-known-price t)
-    (origin-add-t12 t)
-    (origin-enum-told-2 t)
+    (λ c. search needs)
+    (origin-add-t14 t)
+    (λ c. search needs)
     (origin-returns-3 t)
     (origin-returns-4 t))

@@ -1,6 +1,6 @@
 -- `lookup::find_row` meets its contract: the row before the place is the row with the key, or there is none. Assumes nothing.
 use Prim.Native.Nat.{ℕ, suc, _+_, _-_, _*_, _<_}
-use mathlib.Core.Path.{_≡_, sym, _∙_}
+use mathlib.Core.Path.{_≡_, sym, ap, _∙_}
 use native.Mathlib.Omega.{arith}
 use borrow.Author.Needs.{needs, sfits-of}
 use lib.IntN.{pos}
@@ -11,8 +11,9 @@ use mir.Val.{SFits}
 use Rattle.rules.specs.Keyed.{Key, same}
 use Rattle.rules.specs.Rows.{keyOf}
 use Rattle.lookup.specs.Lookup.{keyAt, rowPlace}
+use Rattle.lookup.specs.declared.Found.the-variants as Found
 use Rattle.lookup.proofs.Halving.{row-within, place-at-most}
-use Rattle.lookup.proofs.RowBefore.{found-before, absent-before, absent-first}
+use Rattle.lookup.proofs.RowBefore.{found-at, absent-before, absent-first}
 use Rattle.lookup.proofs.find_row.Statement.{statement}
 use Rattle.lookup.proofs.find_row.Tie as tie
 
@@ -45,7 +46,8 @@ place-of-requires c κs = search needs
 returns : tie.Need-returns
 returns c =
     let s : tie.Start = c .before .before in
-    sym (absent-first (s .args .cells .now) (s .args .header) (s .args .width) (s .args .count) (s .pre .keys-rise) (sought s) (sym (placed (c .before)) ∙ c .if1 .taken))
+    ap Found.Absent (placed (c .before))
+    ∙ sym (absent-first (s .args .cells .now) (s .args .header) (s .args .width) (s .args .count) (s .pre .keys-rise) (sought s) (sym (placed (c .before)) ∙ c .if1 .taken))
 
 sub-row : tie.Need-sub-row
 sub-row c = search needs
@@ -89,13 +91,14 @@ returns-2 : tie.Need-returns-2
 returns-2 c =
     let e : tie.Else1 = there (c .before) in
     let s : tie.Start = start e in
-    sym (found-before (s .args .cells .now) (s .args .header) (s .args .width) (s .args .count) (s .pre .keys-rise) (sought s) (row e) (row-before e) (sym (tested (c .before)) ∙ c .if2 .taken))
+    sym (found-at (s .args .cells .now) (s .args .header) (s .args .width) (s .args .count) (s .pre .keys-rise) (sought s) (row e) (one-of e) (sym (tested (c .before)) ∙ c .if2 .taken))
 
 returns-3 : tie.Need-returns-3
 returns-3 c =
     let e : tie.Else1 = there (c .before) in
     let s : tie.Start = start e in
-    sym (absent-before (s .args .cells .now) (s .args .header) (s .args .width) (s .args .count) (s .pre .keys-rise) (sought s) (row e) (row-before e) (sym (tested (c .before)) ∙ c .if2 .left))
+    ap Found.Absent (placed (e .before))
+    ∙ sym (absent-before (s .args .cells .now) (s .args .header) (s .args .width) (s .args .count) (s .pre .keys-rise) (sought s) (row e) (row-before e) (sym (tested (c .before)) ∙ c .if2 .left))
 
 pub find-row-spec : {M : Type 1} → statement M
 find-row-spec =

@@ -1,127 +1,100 @@
--- `tables_main::ask` meets its contract: the table is sound, and the number of a row found in it is below 4,096. Assumes nothing.
-use Prim.Native.Nat.{_<_}
+-- `tables_main::ask` meets its contract: the table is sound, and the rows that the lookup names are at most 4,096, the most that there is room for. Assumes nothing.
+use Prim.Native.Nat.{_≤_}
 use native.Mathlib.Omega.{arith}
 use mathlib.Core.Path.{_≡_, sym, _∙_}
 use mathlib.Core.Bool.{true}
+use mathlib.Core.List.{List}
+use lib.IntN.{ℤ, pos, _+ℤ_}
+use lib.ListN.{length}
 use mir.Facts.{toZ-ofZ}
 use borrow.Author.Needs.{needs}
+use Rattle.rules.specs.Keyed.{Key}
+use Rattle.rules.specs.Rows.{keyOf, recordKey}
+use Rattle.rules.specs.Layout.{rowsOf}
 use Rattle.rules.specs.Tables.{recordsLayout, soundRecords}
 use Rattle.cells.proofs.Count.{room-most}
 use Rattle.cells.proofs.SoundCells.{records-known}
 use Rattle.figures.proofs.Tests.{passed}
-use Rattle.lookup.specs.Lookup.{recordFound}
-use Rattle.lookup.proofs.TableLookup.{record-found}
+use Rattle.lookup.specs.Lookup.{placeIn, recordSought}
+use Rattle.lookup.proofs.TableLookup.{records-first, table-place}
+use Rattle.lookup.proofs.TableSought.{PresentAt, AbsentAt, table-present, table-lacks}
 use Rattle.tables_main.proofs.ask.Statement.{statement}
 use Rattle.tables_main.proofs.ask.Tie as tie
 
 module _ (c : tie.Else1) where
-  abbrev start : tie.Start
-  start = c .before .before
+  abbrev cells : List ℤ
+  cells = c .before .before .args .cells .now
 
-  sound : soundRecords (start .args .cells .now) ≡ true
+  abbrev key : Key
+  key = keyOf (c .before .before .args .id) (c .before .before .args .suffix)
+
+  sound : soundRecords cells ≡ true
   sound = passed (c .before .records-sound .ensures) (c .if1 .left)
 
+  few : length (rowsOf recordsLayout cells) ≤ 4096
+  few = omega (arith, records-known cells sound .rows-fit, room-most recordsLayout cells)
+
+  place-small : (k : Key) → placeIn recordsLayout k cells ≤ 4096
+  place-small k = omega (arith, few, table-place recordsLayout recordKey records-first cells k)
+
+answer : (c : tie.After-look-up) → c .look-up .result ≡ recordSought (cells (c .before)) (key (c .before) .major) (key (c .before) .minor)
+answer c =
+    let s : tie.Start = c .before .before .before in
+    simp (toZ-ofZ (s .fits .id), toZ-ofZ (s .fits .suffix)) at (c .look-up .ensures)
+
+-- The key is there.
 module _ (c : tie.After-row) where
-  abbrev tested : tie.Else1
-  tested = c .before .before .before
+  abbrev asked : tie.Else1
+  asked = c .before .before .before
 
-  answer : c .before .before .find-record .result ≡ recordFound (start tested .args .cells .now) (start tested .args .id) (start tested .args .suffix)
-  answer = simp (toZ-ofZ (start tested .fits .id), toZ-ofZ (start tested .fits .suffix)) at (c .before .before .find-record .ensures)
+  present : PresentAt recordsLayout recordKey (cells asked) (key asked) (c .row .given .0 .0) (c .row .given .0 .1 .0) (c .row .given .0 .1 .1 .0)
+  present = table-present recordsLayout recordKey records-first (cells asked) (key asked) _ _ _ (sym (answer (c .before .before)) ∙ c .row .given .1)
 
-  small : c .row .given .0 .0 < 4096
-  small =
-      omega (
-        arith,
-        record-found (start tested .args .cells .now) (start tested .args .id) (start tested .args .suffix) (c .row .given .0 .0) (sym answer ∙ c .row .given .1) .0,
-        records-known (start tested .args .cells .now) (sound tested) .rows-fit,
-        room-most recordsLayout (start tested .args .cells .now),
-      )
+-- The key is absent.
+module _ (c : tie.After-place) where
+  abbrev asked-2 : tie.Else1
+  asked-2 = c .before .before .before
 
-records-sound-requires : tie.Need-records-sound-requires
-records-sound-requires c κs = search needs
-
-slice-aggregate-line : tie.Need-slice-aggregate-line
-slice-aggregate-line c = search needs
-
-line-requires : tie.Need-line-requires
-line-requires c κs = search needs
-
-returns : tie.Need-returns
-returns c = search needs
-
-find-record-requires : tie.Need-find-record-requires
-find-record-requires c κs = sound c
-
-enum-known-row : tie.Need-enum-known-row
-enum-known-row c = search needs
-
-slice-aggregate-value : tie.Need-slice-aggregate-value
-slice-aggregate-value c = search needs
+  absent : AbsentAt recordsLayout recordKey (cells asked-2) (key asked-2) (c .place .given .0 .0) (c .place .given .0 .1 .0)
+  absent = table-lacks recordsLayout recordKey records-first (cells asked-2) (key asked-2) _ _ (sym (answer (c .before .before)) ∙ c .place .given .1)
 
 cast-value : tie.Need-cast-value
-cast-value c = record { sfits = omega (arith, small (c .before .before)) }
+cast-value c =
+    let r : tie.After-row = c .before .before in
+    record { sfits = omega (arith, present r .row-within, few (asked r)) }
 
-value-requires : tie.Need-value-requires
-value-requires c κs = search needs
+cast-value-2 : tie.Need-cast-value-2
+cast-value-2 c =
+    let r : tie.After-row = c .before .before .before .before .before .before in
+    record { sfits = omega (arith, present r .next-is, place-small (asked r) (keyOf (key (asked r) .major) (r .row .given .0 .1 .0 +ℤ pos 1))) }
 
-enum-told : tie.Need-enum-told
-enum-told c = search needs
-
-slice-aggregate-line-2 : tie.Need-slice-aggregate-line-2
-slice-aggregate-line-2 c = search needs
-
-line-requires-2 : tie.Need-line-requires-2
-line-requires-2 c κs = search needs
-
-greatest-suffix-requires : tie.Need-greatest-suffix-requires
-greatest-suffix-requires c κs = sound (c .before .before)
-
-enum-known-s : tie.Need-enum-known-s
-enum-known-s c = search needs
-
-slice-aggregate-value-2 : tie.Need-slice-aggregate-value-2
-slice-aggregate-value-2 c = search needs
-
-value-requires-2 : tie.Need-value-requires-2
-value-requires-2 c κs = search needs
-
-enum-told-2 : tie.Need-enum-told-2
-enum-told-2 c = search needs
-
-slice-aggregate-line-3 : tie.Need-slice-aggregate-line-3
-slice-aggregate-line-3 c = search needs
-
-line-requires-3 : tie.Need-line-requires-3
-line-requires-3 c κs = search needs
-
-returns-2 : tie.Need-returns-2
-returns-2 c = search needs
-
-returns-3 : tie.Need-returns-3
-returns-3 c = search needs
+cast-value-3 : tie.Need-cast-value-3
+cast-value-3 c =
+    let p : tie.After-place = c .before .before in
+    record { sfits = omega (arith, absent p .place-is, place-small (asked-2 p) (key (asked-2 p))) }
 
 pub ask-spec : {M : Type 1} → statement M
 ask-spec =
     tie.close
     (tie.spec
-    records-sound-requires
-    slice-aggregate-line
-    line-requires
-    returns
-    find-record-requires
-    enum-known-row
-    slice-aggregate-value
+    (λ c κs. search needs)
+    (λ c. search needs)
+    (λ c κs. search needs)
+    (λ c. search needs)
+    (λ c κs. sound c)
+    (λ c. search needs)
+    (λ c. search needs)
     cast-value
-    value-requires
-    enum-told
-    slice-aggregate-line-2
-    line-requires-2
-    greatest-suffix-requires
-    enum-known-s
-    slice-aggregate-value-2
-    value-requires-2
-    enum-told-2
-    slice-aggregate-line-3
-    line-requires-3
-    returns-2
-    returns-3)
+    (λ c κs. search needs)
+    (λ c. search needs)
+    (λ c κs. search needs)
+    (λ c. search needs)
+    cast-value-2
+    (λ c κs. search needs)
+    (λ c. search needs)
+    (λ c. search needs)
+    cast-value-3
+    (λ c κs. search needs)
+    (λ c κs. search needs)
+    (λ c. search needs)
+    (λ c. search needs))

@@ -4,25 +4,26 @@ use mathlib.Core.Path.{_≡_, sym, _∙_, ap, subst}
 use mathlib.Core.Bool.{Bool, true}
 use mathlib.Core.List.{List, [], _∷_}
 use mathlib.Core.Logic.{⊎-elim}
+use mathlib.Core.Option.{none}
 use borrow.Author.Needs.{needs}
-use Prim.Native.Nat.{_+_, _≤_}
+use Prim.Native.Nat.{ℕ, _+_, _≤_, _<_}
 use lib.IntN.{ℤ, _-ℤ_}
 use lib.ListN.{length}
 use mir.Facts.{toZ-ofZ}
 use mir.Syntax.{w64}
 use mir.Val.{SFits, toZ, ofZ}
 use Rattle.rules.specs.Figures.{validQuantity}
-use Rattle.rules.specs.Keyed.{Key, absentFrom}
-use Rattle.rules.specs.Rows.{recordKey, positionKey, newRecord, moved, soundPosition}
+use Rattle.rules.specs.Keyed.{Key, find, absentFrom}
+use Rattle.rules.specs.Rows.{recordKey, positionKey, newRecord, moved, soundRecord, soundPosition}
 use Rattle.rules.specs.Layout.{roomOf, rowsOf}
-use Rattle.rules.specs.Tables.{recordsLayout, positionsLayout, soundPositions}
+use Rattle.rules.specs.Tables.{recordsLayout, positionsLayout, soundRecords, soundPositions}
 use Rattle.rules.specs.Trade.{tradeKind}
 use Rattle.rules.specs.Handle.{answered}
 use Rattle.rules.specs.declared.Record.{Record}
 use Rattle.rules.specs.declared.Position.{Position}
 use Rattle.rules.specs.declared.Movement.{Movement}
 use Rattle.rules.specs.declared.Reply.the-variants.{ClosingError}
-use Rattle.lookup.specs.Lookup.{foundIn}
+use Rattle.lookup.specs.Lookup.{foundIn, placeIn}
 use Rattle.lookup.specs.declared.Found.{Found}
 use Rattle.scan.proofs.ReadBack.{read-back}
 use Rattle.verdict.proofs.Puts.{putOne}
@@ -36,7 +37,11 @@ use Rattle.trade.proofs.TradeBooked.{opened-fits, booking-moves, closed
 use Rattle.trade.proofs.book.Statement.{statement}
 use Rattle.trade.proofs.book.Tie as tie
 
--- What `write_position` asks.
+-- What `insert_record` and `write_position` ask.
+abbrev PlaceReady : List ℤ → ℕ → Record → Type 0
+PlaceReady cells place r = (soundRecords cells ≡ true) × (soundRecord r ≡ true) × (find recordKey (recordKey r) (rowsOf recordsLayout cells) ≡ none)
+    × (length (rowsOf recordsLayout cells) < roomOf recordsLayout cells) × (place ≡ placeIn recordsLayout (recordKey r) cells)
+
 abbrev WriteReady : List ℤ → Found → Position → Type 0
 WriteReady cells found p = (soundPositions cells ≡ true) × (soundPosition p ≡ true) × (length (rowsOf positionsLayout cells) + absentFrom positionKey (rowsOf positionsLayout cells) (p ∷ []) ≤ roomOf positionsLayout cells)
     × (found ≡ foundIn positionsLayout (positionKey p) cells)
@@ -62,21 +67,24 @@ module _ (s : tie.Start) where
   leftOf = tradePosition ps (s .args .account) (s .args .series) (s .args .side) (s .args .quantity)
 
   -- The position, as it was read.
-  read : s .args .p ≡ positionRead ps (s .args .account) (s .args .series)
+  read : s .args .held .position ≡ positionRead ps (s .args .account) (s .args .series)
   read = s .pre .3 .read-is
 
-  read-sound : soundPosition (s .args .p) ≡ true
+  read-sound : soundPosition (s .args .held .position) ≡ true
   read-sound = ap soundPosition read ∙ position-read-sound ps (s .pre .1) (s .args .account) (s .args .series)
 
   quantity-valid : validQuantity (s .args .quantity) ≡ true
   quantity-valid =
       trade-quantity rs ps (s .args .id) (s .args .account) (s .args .series) (s .args .side) (s .args .quantity) (s .args .price) (s .pre .0) (s .pre .1) (s .pre .2)
 
-  insertable : InsertReady rs rowOf
+  insertable : PlaceReady rs (s .args .place) rowOf
+  unfolding newRecord
   insertable =
-      trade-insert rs ps (s .args .id) (s .args .account) (s .args .series) (s .args .side) (s .args .quantity) (s .args .price) (s .pre .0) (s .pre .1) (s .pre .2)
+      let ready : InsertReady rs rowOf =
+      trade-insert rs ps (s .args .id) (s .args .account) (s .args .series) (s .args .side) (s .args .quantity) (s .args .price) (s .pre .0) (s .pre .1) (s .pre .2) in
+      (ready .0, ready .1, ready .2, ready .3, s .pre .4)
 
-  writable : WriteReady ps (s .args .found) leftOf
+  writable : WriteReady ps (s .args .held .found) leftOf
   writable =
       let ready : PutReady ps leftOf =
       trade-put rs ps (s .args .id) (s .args .account) (s .args .series) (s .args .side) (s .args .quantity) (s .args .price) (s .pre .0) (s .pre .1) (s .pre .2) in (
@@ -89,22 +97,22 @@ module _ (s : tie.Start) where
 -- What the trade closes and books.
 module _ (c : tie.After-booking-of) where
   abbrev s : tie.Start
-  s = c .before
+  s = c .before .before
 
-  booked : c .booking-of .result ≡ bookingOf (s .args .side) (s .args .quantity) (s .args .p)
+  booked : c .booking-of .result ≡ bookingOf (s .args .side) (s .args .quantity) (s .args .held .position)
   booked = simp (toZ-ofZ (s .fits .side), toZ-ofZ (s .fits .quantity)) at (c .booking-of .ensures)
 
   closed : c .booking-of .result .closed ≡ closedOf s
-  closed = closed-is (ps s) (s .args .account) (s .args .series) (s .args .side) (s .args .quantity) (s .args .p) (c .booking-of .result) (read s) booked
+  closed = closed-is (ps s) (s .args .account) (s .args .series) (s .args .side) (s .args .quantity) (s .args .held .position) (c .booking-of .result) (read s) booked
 
   movement : c .booking-of .result .movement ≡ tradeMovement (ps s) (s .args .account) (s .args .series) (s .args .side) (s .args .quantity)
-  movement = movement-is (ps s) (s .args .account) (s .args .series) (s .args .side) (s .args .quantity) (s .args .p) (c .booking-of .result) (read s) booked
+  movement = movement-is (ps s) (s .args .account) (s .args .series) (s .args .side) (s .args .quantity) (s .args .held .position) (c .booking-of .result) (read s) booked
 
   error : c .booking-of .result .error ≡ errorOf s
-  error = error-is (ps s) (s .args .account) (s .args .series) (s .args .side) (s .args .quantity) (s .args .p) (c .booking-of .result) (read s) booked
+  error = error-is (ps s) (s .args .account) (s .args .series) (s .args .side) (s .args .quantity) (s .args .held .position) (c .booking-of .result) (read s) booked
 
-  left : moved (s .args .p) (c .booking-of .result .movement) ≡ leftOf s
-  left = moved-is (ps s) (s .args .account) (s .args .series) (s .args .side) (s .args .quantity) (s .args .p) (c .booking-of .result) (read s) booked
+  left : moved (s .args .held .position) (c .booking-of .result .movement) ≡ leftOf s
+  left = moved-is (ps s) (s .args .account) (s .args .series) (s .args .side) (s .args .quantity) (s .args .held .position) (c .booking-of .result) (read s) booked
 
 -- The row that is made.
 module _ (c : tie.After-new-record) where
@@ -178,7 +186,7 @@ module _ (c : tie.After-struct-told3) where
       λ i. toZ-ofZ (s f .fits .quantity) i -ℤ closed-back i
 
 booking-of-requires : tie.Need-booking-of-requires
-booking-of-requires c κs = simp (toZ-ofZ (c .fits .quantity)) (quantity-valid c, read-sound c)
+booking-of-requires c κs = simp (toZ-ofZ (c .before .fits .quantity)) (quantity-valid (c .before), read-sound (c .before))
 
 new-record-requires : tie.Need-new-record-requires
 new-record-requires c κs = search needs
@@ -186,17 +194,17 @@ new-record-requires c κs = search needs
 insert-record-requires : tie.Need-insert-record-requires
 insert-record-requires c κs =
     let s : tie.Start = s (b (c .before)) in
-    subst (λ (r : Record). InsertReady (rs s) r) (sym (row (c .before))) (insertable s)
+    subst (λ (r : Record). PlaceReady (rs s) (s .args .place) r) (sym (row (c .before))) (insertable s)
 
 moved-requires : tie.Need-moved-requires
 moved-requires c κs =
     let b : tie.After-booking-of = d (c .before) in
-    booking-moves (s b .args .side) (s b .args .quantity) (s b .args .p) (quantity-valid (s b)) (read-sound (s b)) (b .booking-of .result) (booked b)
+    booking-moves (s b .args .side) (s b .args .quantity) (s b .args .held .position) (quantity-valid (s b)) (read-sound (s b)) (b .booking-of .result) (booked b)
 
 write-position-requires : tie.Need-write-position-requires
 write-position-requires c κs =
     let s : tie.Start = s (e (c .before)) in
-    subst (λ (q : Position). WriteReady (ps s) (s .args .found) q) (sym (leaves (c .before))) (writable s)
+    subst (λ (q : Position). WriteReady (ps s) (s .args .held .found) q) (sym (leaves (c .before))) (writable s)
 
 sub-excess : tie.Need-sub-excess
 sub-excess c = subst (SFits w64) (sym (excess c)) (excess-fits c)

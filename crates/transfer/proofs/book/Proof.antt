@@ -1,139 +1,246 @@
--- `transfer::book` meets its contract: an accepted transfer finds its record, its two new rows fill one gap as if put one after the other, and each position
--- goes in as the rules put it. Assumes nothing.
-mod Reads
-mod Steps
-use native.Mathlib.Omega.{arith}
-use mathlib.Core.Path.{sym, _∙_, ap}
+-- `transfer::book` meets its contract: the record is adjusted and its two new rows inserted as the rules put them, and each position goes in. The old account's row
+-- is there, so what was found of the new account's position holds once it is written. Assumes nothing.
+use mathlib.Core.Path.{_≡_, sym, _∙_, ap, subst}
+use mathlib.Core.Bool.{true}
+use mathlib.Core.List.{List, [], _∷_}
+use lib.IntN.{ℤ, pos, negℤ, _+ℤ_}
+use lib.Signed.{_≤ℤ_}
+use mir.Facts.{toZ-ofZ}
+use mir.Syntax.{w64}
+use mir.Val.{SFits, toZ, ofZ}
 use borrow.Author.Needs.{needs}
+use Rattle.integers.proofs.Linear.{zarith, +-lin}
+use Rattle.rules.specs.Figures.{greatestOfSuffixes}
+use Rattle.rules.specs.Keyed.{Key}
+use Rattle.rules.specs.Rows.{keyOf, recordKey, positionKey, soundPosition, inverseRecord, adjustableRecord, moved}
+use Rattle.rules.specs.Transfer.{inSide}
+use Rattle.rules.specs.Layout.{rowsOf}
+use Rattle.rules.specs.Tables.{recordsLayout, positionsLayout, soundPositions}
 use Rattle.rules.specs.declared.Record.{Record}
-use Rattle.lookup.proofs.TableLookup.{record-absent}
-use Rattle.verdict.proofs.SoundReads.{position-read-sound}
-use Rattle.verdict.proofs.TransferReady.{transfer-found, transfer-status, transfer-put-old, transfer-put-new, transfer-returns}
-use Rattle.transfer.proofs.book.Proof.Reads.{rs, ps, id, suffix, from, to, series, looked, start, row-there, at-read, known, s, r, named, found, next-is, next-fits, old-is, new-is}
-use Rattle.transfer.proofs.book.Proof.Steps.{adjusted-put, room-left, adjusted1, read2, fit, opened, written, read3, both-put, written2, read4, taken-is, old-put, put, read5, given-is, new-put}
+use Rattle.rules.specs.declared.Position.{Position}
+use Rattle.cells.proofs.RowCells.{positions-lawful}
+use Rattle.cells.proofs.SoundCells.{positions-known}
+use Rattle.soundness.proofs.NamedRecord.{nextOf}
+use Rattle.soundness.proofs.ReadPosition.{read-key}
+use Rattle.lookup.specs.Lookup.{foundIn}
+use Rattle.lookup.proofs.KeysKept.{found-kept}
+use Rattle.lookup.proofs.TableLookup.{positions-first}
+use Rattle.scan.proofs.ReadBack.{read-back}
+use Rattle.tables.specs.NewRows.{rowsLike}
+use Rattle.requests.specs.AdjustReady.{AdjustReady}
+use Rattle.verdict.proofs.Puts.{putOne, putAll}
+use Rattle.verdict.proofs.Ready.{PutReady}
+use Rattle.verdict.proofs.SoundReads.{FoundRecord, found-record, position-read-sound}
+use Rattle.verdict.proofs.Transfer.{transferInverse, transferArrived, transferRows, transferOld, transferNew}
+use Rattle.verdict.proofs.TransferReady.{transfer-status, transfer-ready, transfer-next, transfer-old-there, transfer-put-old, transfer-put-new, transfer-returns}
 use Rattle.transfer.proofs.book.Statement.{statement}
 use Rattle.transfer.proofs.book.Tie as tie
 
-find-record-requires : tie.Need-find-record-requires
-find-record-requires c κs = search needs
+-- What the function is given, and what the rules make of it.
+module _ (s : tie.Start) where
+  abbrev rs : List ℤ
+  rs = s .args .records .now
 
-enum-known-row : tie.Need-enum-known-row
-enum-known-row c = search needs
+  abbrev ps : List ℤ
+  ps = s .args .positions .now
 
-enum-told : tie.Need-enum-told
-enum-told c = search needs
+  abbrev id : ℤ
+  id = s .args .id
 
-same-length : tie.Need-same-length
-same-length c = search needs
+  abbrev suffix : ℤ
+  suffix = s .args .suffix
 
-returns : tie.Need-returns
-returns c =
-    let f : tie.After-find-record = c .before .before in
-    let s : tie.Start = f .before .before in
-    absurd
-    (transfer-found (rs s) (ps s) (id s) (suffix s) (from s) (to s) (series s) (s .pre .0) (s .pre .1) (s .pre .2)
-    (record-absent (rs s) (id s) (suffix s) (sym (looked f) ∙ c .enum-told .given .1)))
+  abbrev from : ℤ
+  from = s .args .from
 
-read-record-requires : tie.Need-read-record-requires
-read-record-requires c κs = (start (c .before) .pre .0, row-there (c .before))
+  abbrev to : ℤ
+  to = s .args .to
 
-next-suffix-requires : tie.Need-next-suffix-requires
-next-suffix-requires c κs = search needs
+  abbrev series : ℤ
+  series = s .args .series
 
-position-of-requires : tie.Need-position-of-requires
-position-of-requires c κs = search needs
+  abbrev r : Record
+  r = s .args .named .record
 
-position-of-requires-2 : tie.Need-position-of-requires-2
-position-of-requires-2 c κs = search needs
+  abbrev next : ℤ
+  next = nextOf (rowsOf recordsLayout rs) id
 
-adjust-record-requires : tie.Need-adjust-record-requires
-adjust-record-requires c κs =
-    let p : tie.After-position-of2 = c .before in
-    let s : tie.Start = s p in (
-      s .pre .0,
-      row-there (known p),
-      ap (λ (x : Record). x .status) (sym (at-read p .read-record .ensures))
-          ∙ transfer-status (rs s) (ps s) (id s) (suffix s) (from s) (to s) (series s) (s .pre .0) (s .pre .1) (s .pre .2) (r p) (named p),
-    )
+  abbrev left : Position
+  left = transferOld ps r from series
 
-open-rows-requires : tie.Need-open-rows-requires
-open-rows-requires c κs =
-    let a : tie.After-adjust-record = c .before .before in
-    (a .adjust-record .ensures .1, room-left a)
+  abbrev reached : Position
+  reached = transferNew ps r to series
+
+  found : FoundRecord id suffix r
+  found = found-record rs (s .pre .0 .0) id suffix r (s .pre .1 .0 .found)
+
+  -- ---- the records
+
+  suffixes : (pos 0 ≤ℤ next) × ((next +ℤ pos 1) ≤ℤ greatestOfSuffixes)
+  suffixes = transfer-next rs ps id suffix from to series (s .pre .0 .0) (s .pre .0 .1) (s .pre .0 .2) r (s .pre .1 .0 .found)
+
+  next-fits : SFits w64 (next +ℤ pos 1)
+  next-fits = omega (zarith, +-lin next (pos 1), suffixes)
+
+  adjusts : AdjustReady rs id suffix (s .args .named) (transferInverse r next) (transferArrived r next to) (r .quantity ∷ [])
+  unfolding inverseRecord adjustableRecord
+  adjusts = record {
+    sound = s .pre .0 .0;
+    known = s .pre .1 .0;
+    is-adjustable = transfer-status rs ps id suffix from to series (s .pre .0 .0) (s .pre .0 .1) (s .pre .0 .2) r (s .pre .1 .0 .found);
+    inverse-key = λ i. keyOf (found .id-is i) (sym (s .pre .1 .0 .next-is) i);
+    first-key = λ i. keyOf (found .id-is i) (sym (s .pre .1 .0 .next-is) i +ℤ pos 1);
+    room = transfer-ready rs ps id suffix from to series (s .pre .0 .0) (s .pre .0 .1) (s .pre .0 .2) r (s .pre .1 .0 .found) .records-room;
+    last-suffix = subst (λ (z : ℤ). (z +ℤ pos 1) ≤ℤ greatestOfSuffixes) (sym (s .pre .1 .0 .next-is)) (suffixes .1);
+  }
+
+  -- ---- the positions
+
+  old-ready : soundPosition (s .args .old .position) ≡ true
+  old-ready = ap soundPosition (s .pre .1 .1 .read-is) ∙ position-read-sound ps (s .pre .0 .1) from series
+
+  new-ready : soundPosition (s .args .new .position) ≡ true
+  new-ready = ap soundPosition (s .pre .1 .2 .read-is) ∙ position-read-sound ps (s .pre .0 .1) to series
+
+  old-puts : PutReady ps left
+  old-puts = transfer-put-old rs ps id suffix from to series (s .pre .0 .0) (s .pre .0 .1) (s .pre .0 .2) r (s .pre .1 .0 .found)
+
+  old-found : s .args .old .found ≡ foundIn positionsLayout (positionKey left) ps
+  unfolding moved
+  old-found = s .pre .1 .1 .found-is ∙ ap (λ (k : Key). foundIn positionsLayout k ps) (sym (read-key from series (rowsOf positionsLayout ps)))
+
+  -- Once the old account's row is written.
+  module _ (ps₁ : List ℤ) (put : ps₁ ≡ putOne positionsLayout positionKey ps left) where
+    new-puts : soundPositions ps₁ ≡ true → PutReady ps₁ reached
+    new-puts = transfer-put-new rs ps id suffix from to series (s .pre .0 .0) (s .pre .0 .1) (s .pre .0 .2) r (s .pre .1 .0 .found) ps₁ put
+
+    new-found : s .args .new .found ≡ foundIn positionsLayout (positionKey reached) ps₁
+    unfolding moved
+    new-found =
+        let there = transfer-old-there rs ps id suffix from to series (s .pre .0 .0) (s .pre .0 .1) (s .pre .0 .2) r (s .pre .1 .0 .found) in
+        s .pre .1 .2 .found-is
+        ∙ sym (found-kept positionsLayout positions-lawful positionKey positions-first soundPosition ps (positions-known ps (s .pre .0 .1)) left (there .0) (there .1) ps₁ put (keyOf to series))
+        ∙ ap (λ (k : Key). foundIn positionsLayout k ps₁) (sym (read-key to series (rowsOf positionsLayout ps)))
+
+-- ---- what the calls give
+
+module _ (c : tie.After-inverse-row) where
+  abbrev start : tie.Start
+  start = c .before .before .before
+
+  next-is : toZ w64 (ofZ w64 (start .args .named .next)) ≡ next start
+  next-is = read-back (start .args .named .next) (c .before .struct-told .given .1 .1 .0 .1) ∙ start .pre .1 .0 .next-is
+
+  inverse-is : c .inverse-row .result ≡ transferInverse (r start) (next start)
+  inverse-is = rw next-is at (c .inverse-row .ensures)
+
+module _ (c : tie.After-arrived-row) where
+  abbrev start2 : tie.Start
+  start2 = start (c .before)
+
+  last-is : toZ w64 (ofZ w64 (toZ w64 (ofZ w64 (start2 .args .named .next)) +ℤ pos 1)) ≡ (next start2 +ℤ pos 1)
+  last-is = ap (λ (z : ℤ). toZ w64 (ofZ w64 (z +ℤ pos 1))) (next-is (c .before)) ∙ toZ-ofZ (next-fits start2)
+
+  arrived-is : c .arrived-row .result ≡ transferArrived (r start2) (next start2) (to start2)
+  arrived-is = simp (last-is, toZ-ofZ (start2 .fits .to)) at (c .arrived-row .ensures)
+
+-- The one quantity of the rows that come out of the record.
+quantity-is : (c : tie.After-struct-told2) → toZ w64 (ofZ w64 (r (start2 (c .before)) .quantity)) ≡ r (start2 (c .before)) .quantity
+quantity-is c = read-back (r (start2 (c .before)) .quantity) (c .struct-told2 .given .1 .1 .1 .1 .1 .1 .1 .1 .0 .1)
+
+module _ (c : tie.After-adjust-named) where
+  abbrev at-quantity : tie.After-struct-told2
+  at-quantity = c .before .before .before
+
+  abbrev start3 : tie.Start
+  start3 = start2 (at-quantity .before)
+
+  records-put : c .adjust-named .last .0 ≡ putAll recordsLayout recordKey (rs start3) (transferRows (r start3) (next start3) (to start3))
+  unfolding rowsLike adjustableRecord
+  records-put = simp (inverse-is (at-quantity .before .before), arrived-is (at-quantity .before), quantity-is at-quantity) at (c .adjust-named .ensures)
+
+module _ (c : tie.After-taken-from) where
+  abbrev start4 : tie.Start
+  start4 = start3 (c .before .before .before)
+
+  taken-is : c .taken-from .result ≡ left start4
+  taken-is = c .taken-from .ensures ∙ ap (λ (p : Position). moved p (inSide (r start4 .side) (negℤ (r start4 .quantity)))) (start4 .pre .1 .1 .read-is)
+
+module _ (c : tie.After-write-position) where
+  abbrev start5 : tie.Start
+  start5 = start4 (c .before)
+
+  old-put : c .write-position .last .0 ≡ putOne positionsLayout positionKey (ps start5) (left start5)
+  old-put = rw (taken-is (c .before)) at (c .write-position .ensures .0)
+
+module _ (c : tie.After-given-to) where
+  abbrev put : tie.After-write-position
+  put = c .before .before .before
+
+  abbrev start6 : tie.Start
+  start6 = start5 put
+
+  given-is : c .given-to .result ≡ reached start6
+  given-is = c .given-to .ensures ∙ ap (λ (p : Position). moved p (inSide (r start6 .side) (r start6 .quantity))) (start6 .pre .1 .2 .read-is)
+
+-- ---- what the calls require
 
 inverse-row-requires : tie.Need-inverse-row-requires
-inverse-row-requires c κs = found (read2 (c .before .before)) .quantity-small
-
-write-record-requires : tie.Need-write-record-requires
-write-record-requires c κs = fit (opened c) .0
-
-add-write-record : tie.Need-add-write-record
-add-write-record c = omega (arith, fit (opened (c .before .before .before)) .2)
+inverse-row-requires c κs = found (c .before .before) .quantity-small
 
 add-arrived-row : tie.Need-add-arrived-row
-add-arrived-row c =
-    let p : tie.After-position-of2 = read2 (opened (c .before .before .before)) in
-    rw (next-is p) (next-fits p)
+add-arrived-row c = rw (next-is c) (next-fits (start c))
 
-arrived-row-requires : tie.Need-arrived-row-requires
-arrived-row-requires c κs = search needs
-
-write-record-requires-2 : tie.Need-write-record-requires-2
-write-record-requires-2 c κs = rw (written c .write-record .kept .0) (fit (opened (written c .before)) .1)
+adjust-named-requires : tie.Need-adjust-named-requires
+adjust-named-requires c κs =
+    let q : tie.After-struct-told2 = c .before .before in
+    let s : tie.Start = start2 (q .before) in
+    simp (toZ-ofZ (s .fits .id), toZ-ofZ (s .fits .suffix), inverse-is (q .before .before), arrived-is (q .before), quantity-is q) (adjusts s)
 
 taken-from-requires : tie.Need-taken-from-requires
 taken-from-requires c κs =
-    let p : tie.After-position-of2 = read3 (c .before .before .before) in
-    let s : tie.Start = s p in
-    (rw (old-is p) (position-read-sound (ps s) (s .pre .1) (from s) (series s)), found p .quantity-small)
+    let s : tie.Start = start3 (c .before .before) in
+    (old-ready s, found s .quantity-small)
 
-put-position-requires : tie.Need-put-position-requires
-put-position-requires c κs =
-    let p : tie.After-position-of2 = read4 c in
-    let s : tie.Start = s p in
-    rw (taken-is c)
-    (transfer-put-old (rs s) (ps s) (id s) (suffix s) (from s) (to s) (series s) (s .pre .0) (s .pre .1) (s .pre .2) (r p) (named p))
+write-position-requires : tie.Need-write-position-requires
+write-position-requires c κs =
+    let p : PutReady (ps (start4 c)) (left (start4 c)) = old-puts (start4 c) in
+    rw (taken-is c) (p .0, p .1, p .2, old-found (start4 c))
 
 given-to-requires : tie.Need-given-to-requires
 given-to-requires c κs =
-    let p : tie.After-position-of2 = read4 (c .before .before .before) in
-    let s : tie.Start = s p in
-    (rw (new-is p) (position-read-sound (ps s) (s .pre .1) (to s) (series s)), found p .quantity-small)
+    let s : tie.Start = start5 (c .before .before) in
+    (new-ready s, found s .quantity-small)
 
-put-position-requires-2 : tie.Need-put-position-requires-2
-put-position-requires-2 c κs =
-    let p : tie.After-position-of2 = read5 c in
-    let s : tie.Start = s p in
-    rw (given-is c)
-    (transfer-put-new (rs s) (ps s) (id s) (suffix s) (from s) (to s) (series s) (s .pre .0) (s .pre .1) (s .pre .2) (r p) (named p)
-    (put c .put-position .last .0) (old-put (put c)) (put c .put-position .ensures .1))
+write-position-requires-2 : tie.Need-write-position-requires-2
+write-position-requires-2 c κs =
+    let w : tie.After-write-position = put c in
+    let s : tie.Start = start6 c in
+    let p : PutReady (w .write-position .last .0) (reached s) = new-puts s (w .write-position .last .0) (old-put w) (w .write-position .ensures .1) in
+    rw (given-is c) (p .0, p .1, p .2, new-found s (w .write-position .last .0) (old-put w))
 
-same-length-2 : tie.Need-same-length-2
-same-length-2 c =
-    let b : tie.After-write-record2 = written2 (put (c .before .before) .before) in
-    let w : tie.After-write-record = written (b .before) in
-    let o : tie.After-open-rows = opened (w .before) in
-    b .write-record2 .kept .0 ∙ w .write-record .kept .0 ∙ o .open-rows .kept .0 ∙ adjusted1 o .adjust-record .kept .0
-
-same-length-3 : tie.Need-same-length-3
-same-length-3 c = search needs
-
-returns-2 : tie.Need-returns-2
-returns-2 c =
+returns : tie.Need-returns
+returns c =
     let g : tie.After-given-to = c .before .before in
-    let p : tie.After-position-of2 = read5 g in
-    let s : tie.Start = s p in
-    let b : tie.After-write-record2 = written2 (put g .before) in
-    let a : tie.After-adjust-record = adjusted1 (opened (written (b .before) .before)) in
-    transfer-returns (rs s) (ps s) (id s) (suffix s) (from s) (to s) (series s) (r p) (named p) (s .pre .0) (s .pre .1)
-    (a .adjust-record .last .0) (b .write-record2 .last .0) (put g .put-position .last .0) (c .before .put-position2 .last .0)
-    (adjusted-put a) (both-put b) (old-put (put g)) (new-put (c .before))
+    let s : tie.Start = start6 g in
+    let a : tie.After-adjust-named = put g .before .before .before .before in
+    transfer-returns (rs s) (ps s) (id s) (suffix s) (from s) (to s) (series s) (r s) (s .pre .1 .0 .found) (s .pre .0 .1)
+    (a .adjust-named .last .0) (put g .write-position .last .0) (c .before .write-position2 .last .0)
+    (records-put a) (old-put (put g)) (rw (given-is g) at (c .before .write-position2 .ensures .0))
 
 pub book-spec : {M : Type 1} → statement M
 book-spec =
     tie.close
     (tie.spec
-    find-record-requires enum-known-row enum-told same-length returns read-record-requires next-suffix-requires
-    position-of-requires position-of-requires-2 adjust-record-requires open-rows-requires inverse-row-requires write-record-requires
-    add-write-record add-arrived-row arrived-row-requires write-record-requires-2 taken-from-requires put-position-requires
-    given-to-requires put-position-requires-2 same-length-2 same-length-3 returns-2)
+    inverse-row-requires
+    add-arrived-row
+    (λ c κs. search needs)
+    (λ c. search needs)
+    adjust-named-requires
+    taken-from-requires
+    write-position-requires
+    given-to-requires
+    write-position-requires-2
+    (λ c. search needs)
+    (λ c. search needs)
+    returns)

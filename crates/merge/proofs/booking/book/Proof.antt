@@ -1,5 +1,5 @@
 -- `merge::booking::book` meets its contract: what the sources come to is read first; then they are adjusted, their inverses and the merged row inserted, and the
--- position put, each as the rules put it, one after the other. Assumes nothing.
+-- position written, each as the rules put it, one after the other. Assumes nothing.
 use Prim.Native.Nat.{_+_, _/_, _≤_, _<_}
 use native.Mathlib.Omega.{arith}
 use mathlib.Core.Path.{_≡_, sym, _∙_, ap, subst}
@@ -15,18 +15,22 @@ use mir.Val.{SFits, toZ, ofZ}
 use Rattle.integers.specs.Average.{averageOf, residualOf}
 use Rattle.integers.specs.Averageable.{Averageable}
 use Rattle.rules.specs.Figures.{magnitudeAtMost, isBuy, mergeKind}
-use Rattle.rules.specs.Keyed.{find, upsert, upsertAll, absentFrom}
-use Rattle.rules.specs.Rows.{recordKey, positionKey, soundRecord, soundPosition, newRecord}
+use Rattle.rules.specs.Keyed.{Key, find, upsert, upsertAll, absentFrom}
+use Rattle.rules.specs.Rows.{recordKey, positionKey, soundRecord, soundPosition, newRecord, moved}
 use Rattle.rules.specs.Refusal.{anyOf, allOf}
 use Rattle.rules.specs.Layout.{roomOf, rowsOf, write}
-use Rattle.rules.specs.Tables.{recordsLayout, positionsLayout}
+use Rattle.rules.specs.Tables.{recordsLayout, positionsLayout, soundPositions}
 use Rattle.rules.specs.Merge.{pairsOf, firstOf, sumOfQuantities, sumOfValues, mergeResidual, mergedRecord, mergeInverses}
 use Rattle.rules.specs.Handle.{answered}
 use Rattle.rules.specs.declared.Record.{Record}
 use Rattle.rules.specs.declared.Position.{Position}
 use Rattle.rules.specs.declared.Reply.the-variants.{Booked}
+use Rattle.lookup.specs.Lookup.{foundIn}
+use Rattle.lookup.specs.declared.Found.{Found}
 use Rattle.scan.proofs.ReadBack.{read-back}
+use Rattle.soundness.proofs.ReadPosition.{read-key}
 use Rattle.verdict.proofs.Moves.{merge-moves}
+use Rattle.verdict.proofs.Ready.{InsertReady}
 use Rattle.verdict.proofs.Room.{positionRead}
 use Rattle.verdict.proofs.SoundReads.{position-read-sound}
 use Rattle.merge_sources.specs.Sources.{sourcesIn, sourceRecords, allFound}
@@ -40,6 +44,13 @@ use Rattle.merge_sources.proofs.MergeFacts.{MergeFacts, figures-count, merge-ac
 use Rattle.merge_sources.proofs.MergeBooking.{sourcesAdjusted, inversesInserted, recordsMerged, all-found, found-adjusted, inverses-sound, inverses-room, merged-absent, merged-sound, merged-room, merge-booked}
 use Rattle.merge.proofs.booking.book.Statement.{statement}
 use Rattle.merge.proofs.booking.book.Tie as tie
+
+-- What `write_position` asks.
+abbrev WriteReady : List ℤ → Found → Position → Type 0
+WriteReady cells found p =
+    (soundPositions cells ≡ true) × (soundPosition p ≡ true)
+    × (length (rowsOf positionsLayout cells) + absentFrom positionKey (rowsOf positionsLayout cells) (p ∷ []) ≤ roomOf positionsLayout cells)
+    × (found ≡ foundIn positionsLayout (positionKey p) cells)
 
 module _ (s : tie.Start) where
   abbrev rs : List ℤ
@@ -81,6 +92,15 @@ module _ (s : tie.Start) where
   small-residual : magnitudeAtMost 1000000 (mergeResidual sources) ≡ true
   unfolding mergeResidual
   small-residual = residual-small _ (sumOfValues sources) (sumOfQuantities sources) ready
+
+  writable : WriteReady ps (s .args .held .found) (mergePosition ps account series sources)
+  unfolding moved
+  writable = (
+    s .pre .1,
+    facts .position-sound,
+    facts .positions-room,
+    s .pre .4 .found-is ∙ ap (λ (k : Key). foundIn positionsLayout k ps) (sym (read-key account series (rowsOf positionsLayout ps))),
+  )
 
 -- ---- what the sources come to
 
@@ -154,21 +174,16 @@ merged-is c =
 
 -- ---- the position as the merge leaves it
 
-abbrev start4 : tie.After-position-of → tie.Start
-start4 c = start3 (c .before .before .before)
+abbrev start4 : tie.After-moved → tie.Start
+start4 c = start3 (c .before .before)
 
-position-is : (c : tie.After-position-of) → c .position-of .result ≡ positionRead (ps (start4 c)) (account (start4 c)) (series (start4 c))
-position-is c =
-    let s : tie.Start = start4 c in
-    simp (toZ-ofZ (s .fits .account), toZ-ofZ (s .fits .series)) at (c .position-of .ensures)
-
-left-is : (c : tie.After-moved) → c .moved .result ≡ mergePosition (ps (start4 (c .before))) (account (start4 (c .before))) (series (start4 (c .before))) (sources (start4 (c .before)))
-left-is c = rw (position-is (c .before), residual-is (c .before .before .before .before)) at (c .moved .ensures)
+left-is : (c : tie.After-moved) → c .moved .result ≡ mergePosition (ps (start4 c)) (account (start4 c)) (series (start4 c)) (sources (start4 c))
+left-is c = rw (start4 c .pre .4 .read-is, residual-is (c .before .before)) at (c .moved .ensures)
 
 -- ---- the records, one change after the other
 
 abbrev start5 : tie.After-adjust-sources → tie.Start
-start5 c = start4 (c .before .before .before)
+start5 c = start4 (c .before .before)
 
 adjusted-is : (c : tie.After-adjust-sources) → c .adjust-sources .last .0 ≡ sourcesAdjusted (rs (start5 c)) (id (start5 c)) (list (start5 c))
 adjusted-is c = c .adjust-sources .ensures .0
@@ -184,22 +199,22 @@ inserted-is c =
     = simp (toZ-ofZ (s .fits .id)) at (c .insert-inverses .ensures .0) in
     e ∙ ap (λ (xs : List ℤ). write recordsLayout xs (upsertAll recordKey (mergeInverses (id s) [] (sourcesIn xs (list s))) (rowsOf recordsLayout xs))) (adjusted-is (c .before .before .before))
 
-abbrev start7 : tie.After-insert-record → tie.Start
+abbrev start7 : tie.After-insert-merged → tie.Start
 start7 c = start6 (c .before .before .before)
 
 -- Where the merged row was made, seen from the inverses.
 abbrev made : tie.After-insert-inverses → tie.After-merged-row
-made c = c .before .before .before .before .before .before .before .before
+made c = c .before .before .before .before .before .before
 
-records-are : (c : tie.After-insert-record) → c .insert-record .last .0 ≡ recordsMerged (rs (start7 c)) (id (start7 c)) (list (start7 c))
+records-are : (c : tie.After-insert-merged) → c .insert-merged .last .0 ≡ recordsMerged (rs (start7 c)) (id (start7 c)) (list (start7 c))
 records-are c =
     let i : tie.After-insert-inverses = c .before .before .before in
-    c .insert-record .ensures .0
+    c .insert-merged .ensures .0
     ∙ ap (λ (r : Record). write recordsLayout (i .insert-inverses .last .0) (upsert recordKey r (rowsOf recordsLayout (i .insert-inverses .last .0)))) (merged-is (made i))
     ∙ ap (λ (xs : List ℤ). write recordsLayout xs (upsert recordKey (mergedRecord (id (start7 c)) (sources (start7 c))) (rowsOf recordsLayout xs))) (inserted-is i)
 
 -- Where the position was made, seen from the last insertion.
-abbrev moved-at : tie.After-insert-record → tie.After-moved
+abbrev moved-at : tie.After-insert-merged → tie.After-moved
 moved-at c = c .before .before .before .before .before .before .before .before
 
 -- The rows of the answer.
@@ -226,30 +241,21 @@ sum-of-values-requires c κs =
 average-requires : tie.Need-average-requires
 average-requires c κs = rw (value-is c, sum-is (c .before .before)) (ready (start2 c))
 
-is-buy-requires : tie.Need-is-buy-requires
-is-buy-requires c κs = search needs
-
 residual-requires : tie.Need-residual-requires
 residual-requires c κs =
     let v : tie.After-sum-of-values = c .before .before .before in
     rw (value-is v, sum-is (v .before .before)) (ready (start2 v))
 
-merged-row-requires : tie.Need-merged-row-requires
-merged-row-requires c κs = search needs
-
-position-of-requires : tie.Need-position-of-requires
-position-of-requires c κs = search needs
-
 moved-requires : tie.Need-moved-requires
 moved-requires c κs =
-    let s : tie.Start = start4 c in
-    rw (position-is c, residual-is (c .before .before .before))
+    let s : tie.Start = start3 (c .before) in
+    rw (s .pre .4 .read-is, residual-is (c .before))
     (merge-moves (positionRead (ps s) (account s) (series s)) (mergeResidual (sources s)) (position-read-sound (ps s) (s .pre .1) (account s) (series s)) (small-residual s))
 
 adjust-sources-requires : tie.Need-adjust-sources-requires
 adjust-sources-requires c κs =
-    let s : tie.Start = start4 (c .before .before) in
-    (s .pre .0, found s, facts s .passed .sources-adjustable, differ s)
+    let s : tie.Start = start4 (c .before) in
+    (s .pre .0, found s, facts s .passed .sources-adjustable, differ s, s .pre .3)
 
 insert-inverses-requires : tie.Need-insert-inverses-requires
 insert-inverses-requires c κs =
@@ -265,31 +271,21 @@ insert-inverses-requires c κs =
           (inverses-room (rs s) (ps s) (id s) (account s) (series s) (list s) (s .pre .0) (facts s)),
     )
 
-insert-record-requires : tie.Need-insert-record-requires
-insert-record-requires c κs =
+insert-merged-requires : tie.Need-insert-merged-requires
+insert-merged-requires c κs =
     let i : tie.After-insert-inverses = c .before .before in
     let s : tie.Start = start6 i in
-    let e : inversesInserted (rs s) (id s) (list s) ≡ i .insert-inverses .last .0 = sym (inserted-is i) in
-    let m : mergedRecord (id s) (sources s) ≡ made i .merged-row .result = sym (merged-is (made i)) in (
-      i .insert-inverses .ensures .1,
-      subst (λ (r : Record). soundRecord r ≡ true) m (merged-sound (rs s) (ps s) (id s) (account s) (series s) (list s) (s .pre .0) (facts s)),
-      subst (λ (r : Record). find recordKey (recordKey r) (rowsOf recordsLayout (i .insert-inverses .last .0)) ≡ none) m
-          (subst (λ (xs : List ℤ). find recordKey (recordKey (mergedRecord (id s) (sources s))) (rowsOf recordsLayout xs) ≡ none) e
-          (merged-absent (rs s) (ps s) (id s) (account s) (series s) (list s) (s .pre .0) (facts s))),
-      subst (λ (xs : List ℤ). length (rowsOf recordsLayout xs) < roomOf recordsLayout xs) e
-          (merged-room (rs s) (ps s) (id s) (account s) (series s) (list s) (s .pre .0) (facts s)),
-    )
+    let absent-with-room : (find recordKey (recordKey (mergedRecord (id s) (sources s))) (rowsOf recordsLayout (i .insert-inverses .last .0)) ≡ none)
+    × (length (rowsOf recordsLayout (i .insert-inverses .last .0)) < roomOf recordsLayout (i .insert-inverses .last .0))
+    = rw (inserted-is i)
+    (merged-absent (rs s) (ps s) (id s) (account s) (series s) (list s) (s .pre .0) (facts s), merged-room (rs s) (ps s) (id s) (account s) (series s) (list s) (s .pre .0) (facts s)) in
+    subst (λ (r : Record). InsertReady (i .insert-inverses .last .0) r) (sym (merged-is (made i)))
+    (i .insert-inverses .ensures .1, merged-sound (rs s) (ps s) (id s) (account s) (series s) (list s) (s .pre .0) (facts s), absent-with-room .0, absent-with-room .1)
 
-put-position-requires : tie.Need-put-position-requires
-put-position-requires c κs =
-    let s : tie.Start = start7 (c .before .before) in
+write-position-requires : tie.Need-write-position-requires
+write-position-requires c κs =
     let m : tie.After-moved = moved-at (c .before .before) in
-    let e : mergePosition (ps s) (account s) (series s) (sources s) ≡ m .moved .result = sym (left-is m) in (
-      s .pre .1,
-      subst (λ (p : Position). soundPosition p ≡ true) e (facts s .position-sound),
-      subst (λ (p : Position). length (rowsOf positionsLayout (ps s)) + absentFrom positionKey (rowsOf positionsLayout (ps s)) (p ∷ []) ≤ roomOf positionsLayout (ps s)) e
-          (facts s .positions-room),
-    )
+    subst (λ (p : Position). WriteReady (ps (start4 m)) (start4 m .args .held .found) p) (sym (left-is m)) (writable (start4 m))
 
 cast-added : tie.Need-cast-added
 cast-added c = record { sfits = omega (arith, count (start8 c) .1) }
@@ -297,22 +293,16 @@ cast-added c = record { sfits = omega (arith, count (start8 c) .1) }
 add-added : tie.Need-add-added
 add-added c = rw (rows-bits (start8 c)) (rows-fit (start8 c))
 
-same-length : tie.Need-same-length
-same-length c = search needs
-
-same-length-2 : tie.Need-same-length-2
-same-length-2 c = search needs
-
 returns : tie.Need-returns
 returns c =
     let s : tie.Start = start8 c in
-    let j : tie.After-insert-record = c .before .before .before .before in
+    let j : tie.After-insert-merged = c .before .before .before .before in
     let m : tie.After-moved = moved-at j in
     let rows : toZ w64 (ofZ w64 (toZ w64 (length (list s) / 2) +ℤ pos 1)) ≡ pos (length (list s) / 2) +ℤ pos 1
     = ap (λ (z : ℤ). toZ w64 (ofZ w64 (z +ℤ pos 1))) (rows-bits s) ∙ toZ-ofZ (rows-fit s) in
-    let residual : toZ w64 (ofZ w64 (m .before .before .before .before .residual .result)) ≡ mergeResidual (sources s) = residual-is (m .before .before .before .before) in
-    let positions : c .before .put-position .last .0 ≡ write positionsLayout (ps s) (upsert positionKey (mergePosition (ps s) (account s) (series s) (sources s)) (rowsOf positionsLayout (ps s)))
-    = c .before .put-position .ensures .0 ∙ ap (λ (p : Position). write positionsLayout (ps s) (upsert positionKey p (rowsOf positionsLayout (ps s)))) (left-is m) in
+    let residual : toZ w64 (ofZ w64 (m .before .before .residual .result)) ≡ mergeResidual (sources s) = residual-is (m .before .before) in
+    let positions : c .before .write-position .last .0 ≡ write positionsLayout (ps s) (upsert positionKey (mergePosition (ps s) (account s) (series s) (sources s)) (rowsOf positionsLayout (ps s)))
+    = c .before .write-position .ensures .0 ∙ ap (λ (p : Position). write positionsLayout (ps s) (upsert positionKey p (rowsOf positionsLayout (ps s)))) (left-is m) in
     (λ i. answered (Booked (rows i) (residual i)) (records-are j i) (positions i))
     ∙ sym (merge-booked (rs s) (ps s) (id s) (account s) (series s) (list s) (s .pre .0) (facts s))
 
@@ -320,6 +310,6 @@ pub book-spec : {M : Type 1} → statement M
 book-spec =
     tie.close
     (tie.spec
-    source-record-requires sum-of-quantities-requires sum-of-values-requires average-requires is-buy-requires residual-requires merged-row-requires
-    position-of-requires moved-requires adjust-sources-requires insert-inverses-requires insert-record-requires put-position-requires cast-added add-added
-    same-length same-length-2 returns)
+    source-record-requires sum-of-quantities-requires sum-of-values-requires average-requires (λ c κs. search needs) residual-requires (λ c κs. search needs)
+    moved-requires adjust-sources-requires insert-inverses-requires insert-merged-requires write-position-requires cast-added add-added
+    (λ c. search needs) (λ c. search needs) returns)

@@ -1,153 +1,157 @@
--- `merge::booking::insert_inverse` meets its contract: the source's row is read and its id's next suffix taken, at which no row stands. Assumes nothing.
-use Prim.Native.Nat.{ℕ, _+_, _*_, _<_}
-use mathlib.Core.Path.{_≡_, sym, ap, subst, _∙_}
+-- `merge::booking::insert_inverse` meets its contract: the lookup answers the source's row, its id's greatest suffix, and the place of the next one, at which no row
+-- stands. Assumes nothing.
+use Prim.Native.Nat.{ℕ}
+use mathlib.Core.Path.{_≡_, sym, ap, _∙_}
 use mathlib.Core.List.{List}
 use mathlib.Core.Option.{Option, none, some}
-use borrow.Author.Needs.{needs, sfits-of}
+use borrow.Author.Needs.{needs}
 use lib.IntN.{ℤ, pos}
-use lib.ListN.{length}
-use lib.Signed.{_≤ℤ_, ≤ℤ-refl}
+use lib.Signed.{≤ℤ-refl}
 use mir.Facts.{toZ-ofZ}
-use mir.Syntax.{w64}
-use mir.Val.{toZ, ofZ}
 use Rattle.rules.specs.Keyed.{Key, isSome, find}
 use Rattle.rules.specs.Figures.{mergeKind}
+use Rattle.rules.specs.NamedRecord.{theRecord, nextSuffix}
 use Rattle.rules.specs.Rows.{keyOf, recordKey, inverseRecord}
-use Rattle.rules.specs.Layout.{rowsOf, rowAt}
-use Rattle.rules.specs.Tables.{recordsLayout, recordAt}
+use Rattle.rules.specs.Layout.{rowsOf}
+use Rattle.rules.specs.Tables.{recordsLayout}
 use Rattle.rules.specs.declared.Record.{Record}
 use Rattle.keys.proofs.Split.{clash}
 use Rattle.keys.proofs.Clauses.{isSome-none}
-use Rattle.lookup.specs.Lookup.{recordFound}
-use Rattle.lookup.proofs.TableLookup.{record-found, record-absent}
+use Rattle.lookup.specs.Lookup.{placeIn, recordSought}
+use Rattle.lookup.proofs.TableLookup.{records-first}
+use Rattle.lookup.proofs.TableSought.{PresentAt, table-present, table-lacks}
+use Rattle.scan.proofs.ReadBack.{read-back}
 use Rattle.soundness.proofs.NamedRecord.{nextOf, free-from-next}
 use Rattle.verdict.proofs.SoundReads as SoundReads
-use Rattle.merge_sources.specs.Sources.{recordNamed, inverseNamed}
+use Rattle.requests.specs.KnownRecord.{KnownRecord}
+use Rattle.merge_sources.specs.Sources.{inverseNamed}
 use Rattle.merge_sources.proofs.SourceList.{found-record}
 use Rattle.merge.proofs.booking.insert_inverse.Statement.{statement}
 use Rattle.merge.proofs.booking.insert_inverse.Tie as tie
 
-abbrev cells : tie.Start → List ℤ
-cells s = s .args .records .now
+module _ (s : tie.Start) where
+  abbrev cells : List ℤ
+  cells = s .args .records .now
 
-abbrev key : tie.Start → Key
-key s = keyOf (s .args .id) (s .args .suffix)
+  abbrev rows : List Record
+  rows = rowsOf recordsLayout cells
 
-answer : (c : tie.After-find-record) → c .find-record .result ≡ recordFound (cells (c .before .before)) (c .before .before .args .id) (c .before .before .args .suffix)
-answer c = let s : tie.Start = c .before .before in simp (toZ-ofZ (s .fits .id), toZ-ofZ (s .fits .suffix)) at (c .find-record .ensures)
+  abbrev key : Key
+  key = keyOf (s .args .id) (s .args .suffix)
 
--- The source has a record: it is not absent.
-never-absent : {X : Type 0} (c : tie.After-enum-told) → X
-never-absent c =
-    let s : tie.Start = c .before .before .before .before in
-    clash (s .pre .1)
-    (ap (λ (o : Option Record). isSome o) (record-absent (cells s) (s .args .id) (s .args .suffix) (sym (answer (c .before .before)) ∙ c .enum-told .given .1)) ∙ isSome-none Record)
+  abbrev inverse : Record
+  inverse = inverseNamed cells key (s .args .into)
 
-module _ (c : tie.After-row) where
+  -- Its key, at which nothing stands: it has the id's next suffix.
+  inverse-key : (r : Record) → find recordKey key rows ≡ some r → recordKey inverse ≡ keyOf (s .args .id) (nextOf rows (s .args .id))
+  unfolding inverseRecord
+  inverse-key r e =
+      ap (λ (z : ℤ). keyOf z (nextOf rows (s .args .id)))
+      (ap (λ (x : Record). x .id) (found-record (find recordKey key rows) r e) ∙ SoundReads.found-record cells (s .pre .0) (s .args .id) (s .args .suffix) r e .id-is)
+
+  absent : (r : Record) → find recordKey key rows ≡ some r → find recordKey (recordKey inverse) rows ≡ none
+  absent r e =
+      ap (λ (k : Key). find recordKey k rows) (inverse-key r e) ∙ free-from-next rows (s .args .id) (nextOf rows (s .args .id)) (≤ℤ-refl (nextOf rows (s .args .id)))
+
+module _ (c : tie.After-look-up) where
   abbrev start : tie.Start
-  start = c .before .before .before .before
+  start = c .before .before
+
+  answer : c .look-up .result ≡ recordSought (cells start) (start .args .id) (start .args .suffix)
+  answer = simp (toZ-ofZ (start .fits .id), toZ-ofZ (start .fits .suffix)) at (c .look-up .ensures)
+
+-- ---- what the lookup said
+
+module _ (c : tie.After-known-told) where
+  abbrev w : tie.After-row
+  w = c .before
+
+  abbrev s : tie.Start
+  s = start (w .before .before)
 
   abbrev row : ℕ
-  row = c .row .given .0 .0
+  row = w .row .given .0 .0
 
-  there : (row < length (rowsOf recordsLayout (cells start))) × (find recordKey (key start) (rowsOf recordsLayout (cells start)) ≡ some (rowAt recordsLayout (cells start) row))
-      × (recordKey (rowAt recordsLayout (cells start) row) ≡ key start)
-  there = record-found (cells start) (start .args .id) (start .args .suffix) row (sym (answer (c .before .before)) ∙ c .row .given .1)
+  abbrev greatest : ℤ
+  greatest = w .row .given .0 .1 .0
+
+  abbrev place : ℕ
+  place = w .row .given .0 .1 .1 .0
+
+  there : PresentAt recordsLayout recordKey (cells s) (key s) row greatest place
+  there = table-present recordsLayout recordKey records-first (cells s) (key s) row greatest place (sym (answer (w .before .before)) ∙ w .row .given .1)
+
+  place-is : place ≡ placeIn recordsLayout (recordKey (inverse s)) (cells s)
+  unfolding nextSuffix
+  place-is =
+      there .next-is
+      ∙ ap (λ (k : Key). placeIn recordsLayout k (cells s)) (ap (λ (z : Option ℤ). keyOf (s .args .id) (nextSuffix z)) (sym (there .greatest-is)) ∙ sym (inverse-key s _ (there .found)))
 
 -- ---- the record and its inverse
 
-module _ (c : tie.After-read-record) where
-  abbrev w : tie.After-row
-  w = c .before .before .before
+module _ (c : tie.After-record-named) where
+  abbrev looked : tie.After-known-told
+  looked = c .before .before
 
-  abbrev s : tie.Start
-  s = start w
-
-  abbrev r : Record
-  r = c .read-record .result
-
-  stands : find recordKey (key s) (rowsOf recordsLayout (cells s)) ≡ some r
-  stands = there w .1 ∙ ap some (sym (c .read-record .ensures))
-
-  named : recordNamed (cells s) (key s) ≡ r
-  named = found-record (find recordKey (key s) (rowsOf recordsLayout (cells s))) r stands
-
-  key-is : recordKey r ≡ key s
-  key-is = ap (λ (x : Record). recordKey x) (c .read-record .ensures) ∙ there w .2
-
-next-is : (c : tie.After-next-suffix) → toZ w64 (ofZ w64 (c .next-suffix .result)) ≡ nextOf (rowsOf recordsLayout (cells (s (c .before .before)))) (s (c .before .before) .args .id)
-next-is c = toZ-ofZ (sfits-of (c .next-suffix .ok)) ∙ (simp (toZ-ofZ (s (c .before .before) .fits .id)) at (c .next-suffix .ensures))
+  known : KnownRecord (cells (s looked)) (s looked .args .id) (s looked .args .suffix) (c .record-named .result)
+  known = simp (toZ-ofZ (s looked .fits .id), toZ-ofZ (s looked .fits .suffix)) at (c .record-named .ensures)
 
 module _ (c : tie.After-inverse-record) where
-  abbrev read : tie.After-read-record
-  read = c .before .before .before .before
+  abbrev n : tie.After-record-named
+  n = c .before .before
 
-  inverse-is : c .inverse-record .result ≡ inverseNamed (cells (s read)) (key (s read)) (s read .args .into)
+  abbrev from : tie.Start
+  from = s (looked n)
+
+  inverse-is : c .inverse-record .result ≡ inverse from
   inverse-is =
-      let e : c .inverse-record .result ≡ inverseRecord (r read) (nextOf (rowsOf recordsLayout (cells (s read))) (s read .args .id)) mergeKind (pos 0) (pos 0) (s read .args .into) =
-      simp (next-is (c .before .before), toZ-ofZ (s read .fits .into)) at (c .inverse-record .ensures) in
-      e ∙ ap (λ (x : Record). inverseRecord x (nextOf (rowsOf recordsLayout (cells (s read))) (s read .args .id)) mergeKind (pos 0) (pos 0) (s read .args .into)) (sym (named read))
-
--- Nothing stands at the inverse's key: it has the id's next suffix.
-absent : (p : tie.After-read-record) → find recordKey (recordKey (inverseNamed (cells (s p)) (key (s p)) (s p .args .into))) (rowsOf recordsLayout (cells (s p))) ≡ none
-unfolding inverseRecord
-absent p =
-    let t : List Record = rowsOf recordsLayout (cells (s p)) in
-    let id : ℤ = recordNamed (cells (s p)) (key (s p)) .id in
-    let e : s p .args .id ≡ id = sym (ap (λ (k : Key). k .major) (ap (λ (x : Record). recordKey x) (named p) ∙ key-is p)) in
-    free-from-next t id (nextOf t (s p .args .id)) (subst (λ (z : ℤ). nextOf t z ≤ℤ nextOf t (s p .args .id)) e (≤ℤ-refl (nextOf t (s p .args .id))))
-
-find-record-requires : tie.Need-find-record-requires
-find-record-requires c κs = search needs
-
-enum-known-row : tie.Need-enum-known-row
-enum-known-row c = search needs
-
-enum-told : tie.Need-enum-told
-enum-told c = search needs
-
-same-length : tie.Need-same-length
-same-length c = search needs
+      let m = n .record-named .result in
+      let e : c .inverse-record .result ≡ inverseRecord (m .record) (m .next) mergeKind (pos 0) (pos 0) (from .args .into)
+      = simp (read-back (m .next) (c .before .struct-told .given .1 .1 .0 .1), toZ-ofZ (from .fits .into)) at (c .inverse-record .ensures) in
+      let record-is : m .record ≡ theRecord (find recordKey (key from) (rows from)) = sym (found-record (find recordKey (key from) (rows from)) (m .record) (known n .found)) in
+      e ∙ (λ i. inverseRecord (record-is i) (known n .next-is i) mergeKind (pos 0) (pos 0) (from .args .into))
 
 returns : tie.Need-returns
-returns c = never-absent c
+returns c =
+    let a : tie.After-look-up = c .before .before in
+    let s : tie.Start = start a in
+    clash (s .pre .1)
+    (ap (λ (o : Option Record). isSome o) (table-lacks recordsLayout recordKey records-first (cells s) (key s) _ _ (sym (answer a) ∙ c .enum-told .given .1) .absent) ∙ isSome-none Record)
 
-read-record-requires : tie.Need-read-record-requires
-read-record-requires c κs = (start (c .before .before) .pre .0, there (c .before .before) .0)
-
-next-suffix-requires : tie.Need-next-suffix-requires
-next-suffix-requires c κs = search needs
+record-named-requires : tie.Need-record-named-requires
+record-named-requires c κs =
+    let k : tie.After-known-told = c .before in
+    simp (toZ-ofZ (s k .fits .id), toZ-ofZ (s k .fits .suffix), read-back (greatest k) (k .known-told .given .1 .0 .1))
+    (s k .pre .0, sym (answer (w k .before .before)) ∙ w k .row .given .1)
 
 inverse-record-requires : tie.Need-inverse-record-requires
 inverse-record-requires c κs =
-    let p : tie.After-read-record = c .before .before .before in
-    SoundReads.found-record (cells (s p)) (s p .pre .0) (s p .args .id) (s p .args .suffix) (r p) (stands p) .quantity-small
+    let n : tie.After-record-named = c .before in
+    let s : tie.Start = s (looked n) in
+    SoundReads.found-record (cells s) (s .pre .0) (s .args .id) (s .args .suffix) (n .record-named .result .record) (known n .found) .quantity-small
 
 insert-record-requires : tie.Need-insert-record-requires
 insert-record-requires c κs =
-    let p : tie.After-read-record = read c in
-    rw (inverse-is c) (s p .pre .0, s p .pre .2, absent p, s p .pre .3)
-
-same-length-2 : tie.Need-same-length-2
-same-length-2 c = search needs
+    let i : tie.After-inverse-record = c .before in
+    let s : tie.Start = from i in
+    rw (inverse-is i) (s .pre .0, s .pre .2, absent s _ (known (n i) .found), s .pre .3, place-is (looked (n i)))
 
 returns-2 : tie.Need-returns-2
 returns-2 c =
-    let i : tie.After-inverse-record = c .before .before in
+    let i : tie.After-inverse-record = c .before .before .before in
     (rw (inverse-is i) at (c .before .insert-record .ensures .0), c .before .insert-record .ensures .1)
 
 pub insert-inverse-spec : {M : Type 1} → statement M
 insert-inverse-spec =
     tie.close
     (tie.spec
-    find-record-requires
-    enum-known-row
-    enum-told
-    same-length
+    (λ c κs. search needs)
+    (λ c. search needs)
+    (λ c. search needs)
+    (λ c. search needs)
     returns
-    read-record-requires
-    next-suffix-requires
+    record-named-requires
     inverse-record-requires
     insert-record-requires
-    same-length-2
+    (λ c. search needs)
     returns-2)

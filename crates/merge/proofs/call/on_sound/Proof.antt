@@ -1,6 +1,6 @@
 -- `merge::call::on_sound` meets its contract: refused or booked as the verdict says; the rows that the verdict keeps are those that the booking requires.
 -- Assumes nothing.
-use mathlib.Core.Path.{_≡_}
+use mathlib.Core.Path.{_≡_, sym, _∙_}
 use lib.IntN.{ℤ}
 use mir.Facts.{toZ-ofZ}
 use borrow.Author.Needs.{needs}
@@ -12,8 +12,11 @@ use Rattle.merge.proofs.call.on_sound.Statement.{statement}
 use Rattle.merge.proofs.call.on_sound.Tie as tie
 
 module _ (v : tie.After-verdict) where
+  abbrev looked : tie.After-position-held
+  looked = v .before .before .before .before .before
+
   abbrev s : tie.Start
-  s = v .before .before .before .before
+  s = looked .before .before
 
   abbrev asked : Request
   asked = merge (s .args .id) (s .args .account) (s .args .series) (s .args .pairs .now)
@@ -26,12 +29,17 @@ module _ (v : tie.After-verdict) where
 book-requires : tie.Need-book-requires
 book-requires c κs =
     let told : tie.After-enum-told = c .before .before .before in
-    let v : tie.After-verdict = told .before .before .before in
-    (s v .pre .0, s v .pre .1, cc (v .verdict .ensures .0, told .enum-told .given .1), v .verdict .ensures .1 (told .enum-told .given .1))
+    let v : tie.After-verdict = told .before .before .before .before in (
+      s v .pre .0,
+      s v .pre .1,
+      sym (v .verdict .ensures .0) ∙ told .enum-told .given .1,
+      v .verdict .ensures .1 (told .enum-told .given .1),
+      looked v .position-held .ensures,
+    )
 
 returns : tie.Need-returns
 returns c =
-    let v : tie.After-verdict = c .before .before .before .before in
+    let v : tie.After-verdict = c .before .before .before .before .before in
     let number : ℤ = c .before .number .given .0 .0 in
     let place : ℤ = c .before .number .given .0 .1 .0 in
     simp (read-back number (c .known-told .given .0 .1), read-back place (c .known-told .given .1 .0 .1))
@@ -40,7 +48,7 @@ returns c =
 returns-2 : tie.Need-returns-2
 returns-2 c =
     let told : tie.After-enum-told = c .before .before .before .before .before .before in
-    let v : tie.After-verdict = told .before .before .before in
+    let v : tie.After-verdict = told .before .before .before .before in
     let s : tie.Start = s v in
     booked-soundly _ _ (s .pre) (asked v) (judged v) (told .enum-told .given .1) _
     (simp (toZ-ofZ (s .fits .id), toZ-ofZ (s .fits .account), toZ-ofZ (s .fits .series))
@@ -50,6 +58,8 @@ pub on-sound-spec : {M : Type 1} → statement M
 on-sound-spec =
     tie.close
     (tie.spec
+    (λ c κs. search needs)
+    (λ c. search needs)
     (λ c. search needs)
     (λ c κs. search needs)
     (λ c. search needs)

@@ -7,20 +7,23 @@ use mathlib.Core.Bool.{true, false, not}
 use mathlib.Core.List.{List, map}
 use mathlib.Core.Option.{none}
 use borrow.Author.Needs.{needs}
-use lib.IntN.{ℤ}
+use lib.IntN.{ℤ, pos}
 use lib.ListN.{length}
 use mir.Facts.{toZ-ofZ}
 use Rattle.rules.specs.Keyed.{greatest, isSome}
-use Rattle.rules.specs.Rows.{recordKey}
+use Rattle.rules.specs.Rows.{keyOf, recordKey}
 use Rattle.rules.specs.Refusal.{anyOf}
 use Rattle.rules.specs.Layout.{rowsOf}
 use Rattle.rules.specs.Tables.{recordsLayout}
 use Rattle.rules.specs.Merge.{mergeFigures, isMissing}
 use Rattle.figures.proofs.Tests.{failed, passed}
-use Rattle.lookup.specs.Lookup.{suffixGreatest}
-use Rattle.lookup.proofs.TableLookup.{suffix-greatest, suffix-nothing}
+use Rattle.lookup.specs.Lookup.{recordSought, greatestFound}
+use Rattle.lookup.proofs.RowFound.{suffix-some, nothing-none}
+use Rattle.lookup.proofs.TableLookup.{records-first}
+use Rattle.lookup.proofs.TableSought.{table-present, table-lacks}
 use Rattle.verdict.proofs.Remaining.{_past_, stops, stops-at}
 use Rattle.merge_sources.specs.Sources.{sourcesIn}
+use Rattle.merge_sources.specs.Located.{rowsKnown, suffixesKnown}
 use Rattle.merge_sources.proofs.MergeFacts.{figures-count}
 use Rattle.merge_sources.proofs.MergeVerdict.{MergeFrom, merge-tests}
 use Rattle.merge_sources.proofs.Places.{place-tells, nowhere-tells}
@@ -53,18 +56,14 @@ module _ (s : tie.Start) where
 
 -- ---- test 3
 
-answer-3 : (c : tie.After-figures-valid) →
-    c .figures-valid .result ≡ mergeFigures (id (c .before .before)) (account (c .before .before)) (series (c .before .before)) (list (c .before .before))
+answer-3 : (c : tie.After-figures-valid) → let s = c .before .before .before in c .figures-valid .result ≡ mergeFigures (id s) (account s) (series s) (list s)
 answer-3 c =
-    let s : tie.Start = c .before .before in
+    let s : tie.Start = c .before .before .before in
     simp (toZ-ofZ (s .fits .id), toZ-ofZ (s .fits .account), toZ-ofZ (s .fits .series)) at (c .figures-valid .ensures)
-
-figures-valid-requires : tie.Need-figures-valid-requires
-figures-valid-requires c κs = search needs
 
 returns : tie.Need-returns
 returns c = (
-  stops (at-3 (c .before .before .before)) (ap not (failed (answer-3 (c .before)) (c .if1 .taken))),
+  stops (at-3 (c .before .before .before .before)) (ap not (failed (answer-3 (c .before)) (c .if1 .taken))),
   λ e. let z : _≡_ {A = ℕ} 0 1 = cc in absurd (omega arith),
 )
 
@@ -72,7 +71,7 @@ returns c = (
 
 module _ (c : tie.Else1) where
   abbrev start4 : tie.Start
-  start4 = c .before .before .before
+  start4 = c .before .before .before .before
 
   figures : mergeFigures (id start4) (account start4) (series start4) (list start4) ≡ true
   figures = passed (answer-3 (c .before)) (c .if1 .left)
@@ -83,102 +82,130 @@ module _ (c : tie.Else1) where
   at-4 : From start4 4
   at-4 = at-3 start4 past ap not figures
 
-answer-4 : (c : tie.After-greatest-suffix) → c .greatest-suffix .result ≡ suffixGreatest (rs (start4 (c .before))) (id (start4 (c .before)))
-answer-4 c = simp (toZ-ofZ (start4 (c .before) .fits .id)) at (c .greatest-suffix .ensures)
+answer-4 : (c : tie.After-look-up) → c .look-up .result ≡ recordSought (rs (start4 (c .before))) (id (start4 (c .before))) (pos 0)
+answer-4 c = simp (toZ-ofZ (start4 (c .before) .fits .id)) at (c .look-up .ensures)
 
-greatest-suffix-requires : tie.Need-greatest-suffix-requires
-greatest-suffix-requires c κs = search needs
-
-enum-told : tie.Need-enum-told
-enum-told c = search needs
-
-enum-told-2 : tie.Need-enum-told-2
-enum-told-2 c = search needs
-
+-- The id with suffix 0 has a record.
 returns-2 : tie.Need-returns-2
 unfolding isSome
 returns-2 c =
-    let g : tie.After-greatest-suffix = c .before .before in (
-      stops (at-4 (g .before)) (ap isSome (suffix-greatest _ _ _ (sym (answer-4 g) ∙ c .enum-told2 .given .1))),
+    let a : tie.After-look-up = c .before .before in
+    let s : tie.Start = start4 (a .before) in (
+      stops (at-4 (a .before))
+          (ap isSome (table-present recordsLayout recordKey records-first (rs s) (keyOf (id s) (pos 0)) _ _ _ (sym (answer-4 a) ∙ c .enum-told .given .1) .greatest-is)),
+      λ e. let z : _≡_ {A = ℕ} 0 1 = cc in absurd (omega arith),
+    )
+
+-- It has none: what the id has is said.
+module _ (c : tie.After-known-told) where
+  abbrev figured : tie.Else1
+  figured = c .before .before .before .before
+
+  abbrev start5 : tie.Start
+  start5 = start4 figured
+
+  suffixes : greatestFound (greatest recordKey (id start5) (rowsOf recordsLayout (rs start5))) ≡ c .before .place .given .0 .1 .0
+  suffixes =
+      table-lacks recordsLayout recordKey records-first (rs start5) (keyOf (id start5) (pos 0)) _ _ (sym (answer-4 (c .before .before .before)) ∙ c .before .place .given .1) .greatest-is
+
+returns-3 : tie.Need-returns-3
+unfolding isSome
+returns-3 c =
+    let k : tie.After-known-told = c .before .before in (
+      stops (at-4 (figured k)) (ap isSome (suffix-some _ _ (suffixes k ∙ c .enum-told3 .given .1))),
       λ e. let z : _≡_ {A = ℕ} 0 1 = cc in absurd (omega arith),
     )
 
 -- ---- test 5
 
-module _ (c : tie.After-enum-told) where
-  abbrev figured : tie.Else1
-  figured = c .before .before .before
+module _ (c : tie.After-enum-told2) where
+  abbrev told : tie.After-known-told
+  told = c .before .before
 
-  abbrev start5 : tie.Start
-  start5 = start4 figured
+  new-id : greatest recordKey (id (start5 told)) (rowsOf recordsLayout (rs (start5 told))) ≡ none
+  new-id = nothing-none _ (suffixes told ∙ c .enum-told2 .given .1)
 
-  new-id : greatest recordKey (id start5) (rowsOf recordsLayout (rs start5)) ≡ none
-  new-id = suffix-nothing (rs start5) (id start5) (sym (answer-4 (c .before .before)) ∙ c .enum-told .given .1)
-
-  at-5 : From start5 5
+  at-5 : From (start5 told) 5
   unfolding isSome
-  at-5 = at-4 figured past ap isSome new-id
+  at-5 = at-4 (figured told) past ap isSome new-id
 
 locate-requires : tie.Need-locate-requires
 locate-requires c κs =
-    let e : tie.Else1 = c .before .before .before .before in
-    (start4 e .pre .0, omega (arith, few e, start4 e .pre .2))
+    let e : tie.Else1 = figured (told (c .before .before)) in
+    (start4 e .pre .0, omega (arith, few e, start4 e .pre .3), omega (arith, few e, start4 e .pre .4))
 
-enum-known-i : tie.Need-enum-known-i
-enum-known-i c = search needs
+-- The sources were looked up.
+abbrev looked : tie.After-slice-known4 → tie.After-locate
+looked c = c .before .before .before .before
+
+abbrev fresh : tie.After-locate → tie.After-enum-told2
+fresh c = c .before .before .before
 
 refused-at-requires : tie.Need-refused-at-requires
 refused-at-requires c κs =
-    let a : tie.After-locate = c .before .before .before .before .before in
-    let s : tie.Start = start5 (a .before .before) in
-    source-place (rs s) (list s) (few (figured (a .before .before))) _ _ (sym (a .locate .ensures .0) ∙ c .before .i .given .1)
-
-same-length : tie.Need-same-length
-same-length c = search needs
-
-returns-3 : tie.Need-returns-3
-returns-3 c =
-    let a : tie.After-locate = c .before .before .before .before .before .before in (
-      c .refused-at .ensures ∙ stops-at (at-5 (a .before .before)) (place-tells _ _ (sym (a .locate .ensures .0) ∙ c .before .before .i .given .1)),
-      λ e. let z : _≡_ {A = ℕ} 0 1 = cc in absurd (omega arith),
-    )
-
-enum-told-3 : tie.Need-enum-told-3
-enum-told-3 c = search needs
-
--- ---- the tests of the sources
-
--- The sources were looked up, and none is missing.
-abbrev located : tie.After-enum-told3 → tie.After-locate
-located c = c .before .before .before .before
-
-abbrev fresh : tie.After-enum-told3 → tie.After-enum-told
-fresh c = located c .before .before
-
-none-missing : (c : tie.After-enum-told3) → anyOf (map isMissing (sourcesIn (rs (start5 (fresh c))) (list (start5 (fresh c))))) ≡ false
-none-missing c = nowhere-tells _ (sym (located c .locate .ensures .0) ∙ c .enum-told3 .given .1)
-
-verdict-on-sources-requires : tie.Need-verdict-on-sources-requires
-verdict-on-sources-requires c κs =
-    let d : tie.After-enum-told3 = c .before in
-    let s : tie.Start = start5 (fresh d) in
-    simp (toZ-ofZ (s .fits .id), toZ-ofZ (s .fits .account), toZ-ofZ (s .fits .series))
-    ((s .pre .0, s .pre .1, located d .locate .ensures .1 (d .enum-told3 .given .1)), (figures (figured (fresh d)), new-id (fresh d), ap not (none-missing d)))
-
-same-length-2 : tie.Need-same-length-2
-same-length-2 c = search needs
+    let a : tie.After-locate = looked (c .before .before .before) in
+    let s : tie.Start = start5 (told (fresh a)) in
+    source-place (rs s) (list s) (few (figured (told (fresh a)))) _ _ (sym (a .locate .ensures .0) ∙ c .before .i .given .1)
 
 returns-4 : tie.Need-returns-4
 returns-4 c =
-    let d : tie.After-enum-told3 = c .before .before in
-    let s : tie.Start = start5 (fresh d) in (
-      simp (toZ-ofZ (s .fits .id), toZ-ofZ (s .fits .account), toZ-ofZ (s .fits .series)) at (c .verdict-on-sources .ensures),
-      λ e. located d .locate .ensures .1 (d .enum-told3 .given .1),
+    let a : tie.After-locate = looked (c .before .before .before .before) in (
+      c .refused-at .ensures ∙ stops-at (at-5 (fresh a)) (place-tells _ _ (sym (a .locate .ensures .0) ∙ c .before .before .i .given .1)),
+      λ e. let z : _≡_ {A = ℕ} 0 1 = cc in absurd (omega arith),
     )
+
+-- ---- the tests of the sources
+
+-- None is missing.
+module _ (c : tie.After-enum-told4) where
+  abbrev located : tie.After-locate
+  located = looked (c .before .before)
+
+  abbrev start6 : tie.Start
+  start6 = start5 (told (fresh located))
+
+  none-missing : anyOf (map isMissing (sourcesIn (rs start6) (list start6))) ≡ false
+  none-missing = nowhere-tells _ (sym (located .locate .ensures .0) ∙ c .enum-told4 .given .1)
+
+  rows-known : rowsKnown (rs start6) (list start6) (located .locate .last .1 .1 .0) × suffixesKnown (rs start6) (list start6) (located .locate .last .1 .1 .1 .0)
+  rows-known = located .locate .ensures .1 (c .enum-told4 .given .1)
+
+verdict-on-sources-requires : tie.Need-verdict-on-sources-requires
+verdict-on-sources-requires c κs =
+    let d : tie.After-enum-told4 = c .before .before in
+    let s : tie.Start = start6 d in
+    simp (toZ-ofZ (s .fits .id), toZ-ofZ (s .fits .account), toZ-ofZ (s .fits .series)) (
+      (s .pre .0, s .pre .1, s .pre .2, rows-known d .0, rows-known d .1),
+      (figures (figured (told (fresh (located d)))), new-id (fresh (located d)), ap not (none-missing d)),
+    )
+
+returns-5 : tie.Need-returns-5
+returns-5 c =
+    let d : tie.After-enum-told4 = c .before .before .before in
+    let s : tie.Start = start6 d in
+    (simp (toZ-ofZ (s .fits .id), toZ-ofZ (s .fits .account), toZ-ofZ (s .fits .series)) at (c .verdict-on-sources .ensures), λ e. rows-known d .0)
 
 pub verdict-spec : {M : Type 1} → statement M
 verdict-spec =
     tie.close
     (tie.spec
-    figures-valid-requires returns greatest-suffix-requires enum-told enum-told-2 returns-2 locate-requires enum-known-i refused-at-requires same-length returns-3
-    enum-told-3 verdict-on-sources-requires same-length-2 returns-4)
+    (λ c κs. search needs)
+    returns
+    (λ c κs. search needs)
+    (λ c. search needs)
+    (λ c. search needs)
+    returns-2
+    (λ c. search needs)
+    (λ c. search needs)
+    returns-3
+    locate-requires
+    (λ c. search needs)
+    refused-at-requires
+    (λ c. search needs)
+    (λ c. search needs)
+    returns-4
+    (λ c. search needs)
+    verdict-on-sources-requires
+    (λ c. search needs)
+    (λ c. search needs)
+    returns-5)

@@ -66,7 +66,7 @@ module _ (s : tie.Start) where
 -- ---- test 6
 
 abbrev start6 : tie.After-first-failing → tie.Start
-start6 c = c .before .before
+start6 c = c .before .before .before
 
 answer-6 : (c : tie.After-first-failing) → c .first-failing .result ≡ placeOf (map (isElsewhere (account (start6 c)) (series (start6 c))) (sources (start6 c)))
 answer-6 c =
@@ -74,7 +74,7 @@ answer-6 c =
     rw (← fails-6 (account s) (series s) true) (simp (toZ-ofZ (s .fits .account), toZ-ofZ (s .fits .series)) at (c .first-failing .ensures))
 
 first-failing-requires : tie.Need-first-failing-requires
-first-failing-requires c κs = let s : tie.Start = c .before in (s .pre .0 .0, s .pre .0 .2)
+first-failing-requires c κs = let s : tie.Start = c .before .before in (s .pre .0 .0, s .pre .0 .3)
 
 enum-known-i : tie.Need-enum-known-i
 enum-known-i c = search needs
@@ -111,7 +111,7 @@ answer-7 c =
     rw (← fails-7 (account s) (series s) true) (simp (toZ-ofZ (s .fits .account), toZ-ofZ (s .fits .series)) at (c .first-failing2 .ensures))
 
 first-failing-requires-2 : tie.Need-first-failing-requires-2
-first-failing-requires-2 c κs = let s : tie.Start = past6 c in (s .pre .0 .0, s .pre .0 .2)
+first-failing-requires-2 c κs = let s : tie.Start = past6 c in (s .pre .0 .0, s .pre .0 .3)
 
 enum-known-i-2 : tie.Need-enum-known-i-2
 enum-known-i-2 c = search needs
@@ -148,7 +148,7 @@ answer-8 c =
     rw (← fails-8 (account s) (series s) true) (simp (toZ-ofZ (s .fits .account), toZ-ofZ (s .fits .series)) at (c .first-failing3 .ensures))
 
 first-failing-requires-3 : tie.Need-first-failing-requires-3
-first-failing-requires-3 c κs = let s : tie.Start = past7 c in (s .pre .0 .0, s .pre .0 .2)
+first-failing-requires-3 c κs = let s : tie.Start = past7 c in (s .pre .0 .0, s .pre .0 .3)
 
 enum-known-i-3 : tie.Need-enum-known-i-3
 enum-known-i-3 c = search needs
@@ -245,13 +245,13 @@ source-record-requires : tie.Need-source-record-requires
 source-record-requires c κs =
     let s : tie.Start = past9 c in
     let several : 2 ≤ length (list s) / 2 = count s .0 in
-    (s .pre .0 .0, s .pre .0 .2, omega arith)
+    (s .pre .0 .0, s .pre .0 .3, omega arith)
 
 is-buy-requires : tie.Need-is-buy-requires
 is-buy-requires c κs = search needs
 
 first-failing-requires-4 : tie.Need-first-failing-requires-4
-first-failing-requires-4 c κs = let s : tie.Start = at-first (c .before .before) in (s .pre .0 .0, s .pre .0 .2)
+first-failing-requires-4 c κs = let s : tie.Start = at-first (c .before .before) in (s .pre .0 .0, s .pre .0 .3)
 
 enum-known-i-5 : tie.Need-enum-known-i-5
 enum-known-i-5 c = search needs

@@ -31,6 +31,7 @@ use Rattle.verdict.proofs.Remaining.{_past_, stops, ends}
 use Rattle.verdict.proofs.Moves.{merge-moves}
 use Rattle.verdict.proofs.Room.{positionRead, absent-at-most-one}
 use Rattle.verdict.proofs.SoundReads.{position-read-sound}
+use Rattle.requests.proofs.AbsentRow.{absent-is}
 use Rattle.merge_sources.specs.Sources.{sourcesIn, sourceRecords}
 use Rattle.merge_sources.proofs.MergeFacts.{figures-count}
 use Rattle.merge_sources.proofs.SourceSums.{sources-averageable}
@@ -83,20 +84,20 @@ module _ (s : tie.Start) where
 
 -- ---- test 11
 
-sum-is : (c : tie.After-sum-of-quantities) → toZ w64 (ofZ w64 (c .sum-of-quantities .result)) ≡ sumOfQuantities (sources (c .before .before))
+sum-is : (c : tie.After-sum-of-quantities) → toZ w64 (ofZ w64 (c .sum-of-quantities .result)) ≡ sumOfQuantities (sources (c .before .before .before))
 sum-is c = let f : SFits w64 (c .sum-of-quantities .result) = sfits-of (c .sum-of-quantities .ok) in toZ-ofZ f ∙ c .sum-of-quantities .ensures
 
 sum-of-quantities-requires : tie.Need-sum-of-quantities-requires
-sum-of-quantities-requires c κs = let s : tie.Start = c .before in (s .pre .0 .0, s .pre .0 .2, s .pre .1 .0 .2, count s .1)
+sum-of-quantities-requires c κs = let s : tie.Start = c .before .before in (s .pre .0 .0, s .pre .0 .3, s .pre .1 .0 .2, count s .1)
 
 returns : tie.Need-returns
-returns c = stops (at-11 (c .before .before .before)) (rw (sum-is (c .before)) at (c .if1 .taken))
+returns c = stops (at-11 (c .before .before .before .before)) (rw (sum-is (c .before)) at (c .if1 .taken))
 
 -- ---- test 13
 
 module _ (c : tie.Else1) where
   abbrev start1 : tie.Start
-  start1 = c .before .before .before
+  start1 = c .before .before .before .before
 
   small-sum : ltZ (pos mostQuantity) (sumOfQuantities (sources start1)) ≡ false
   small-sum = rw (sum-is (c .before)) at (c .if1 .left)
@@ -105,7 +106,7 @@ module _ (c : tie.Else1) where
   at-13 = at-11 start1 past small-sum
 
 suffix-above-requires : tie.Need-suffix-above-requires
-suffix-above-requires c κs = (start1 c .pre .0 .0, count (start1 c) .1)
+suffix-above-requires c κs = (start1 c .pre .0 .0, count (start1 c) .1, start1 c .pre .0 .4)
 
 returns-2 : tie.Need-returns-2
 returns-2 c = stops (at-13 (c .before .before)) (sym (c .before .suffix-above .ensures) ∙ c .if2 .taken)
@@ -117,9 +118,6 @@ start2 c = start1 (c .before .before)
 
 at-14 : (c : tie.Else2) → From (start2 c) 14
 at-14 c = at-13 (c .before .before) past sym (c .before .suffix-above .ensures) ∙ c .if2 .left
-
-add-lacks-records-room : tie.Need-add-lacks-records-room
-add-lacks-records-room c = search needs
 
 lacks-records-room-requires : tie.Need-lacks-records-room-requires
 lacks-records-room-requires c κs = (start2 c .pre .0 .0, omega (arith, count (start2 c) .1))
@@ -135,11 +133,10 @@ start3 c = start2 (c .before .before)
 at-15 : (c : tie.Else3) → From (start3 c) 15
 at-15 c = at-14 (c .before .before) past sym (c .before .lacks-records-room .ensures) ∙ c .if3 .left
 
-absent-is : (c : tie.After-absent-position) →
-    c .absent-position .result ≡ absentPosition (ps (start3 (c .before))) (account (start3 (c .before))) (series (start3 (c .before)))
-absent-is c =
+absent : (c : tie.After-absent-row) → let s = start3 (c .before) in c .absent-row .result ≡ absentPosition (ps s) (account s) (series s)
+absent c =
     let s : tie.Start = start3 (c .before) in
-    simp (toZ-ofZ (s .fits .account), toZ-ofZ (s .fits .series)) at (c .absent-position .ensures)
+    c .absent-row .ensures ∙ absent-is (ps s) (account s) (series s) (s .args .held .found) (s .pre .0 .2 .found-is)
 
 module _ (c : tie.After-lacks-positions-room) where
   abbrev start4 : tie.Start
@@ -147,15 +144,12 @@ module _ (c : tie.After-lacks-positions-room) where
 
   answer-15 : c .lacks-positions-room .result
       ≡ ltb (roomOf positionsLayout (ps start4)) (length (rowsOf positionsLayout (ps start4)) + absentPosition (ps start4) (account start4) (series start4))
-  answer-15 = rw (absent-is (c .before)) at (c .lacks-positions-room .ensures)
-
-absent-position-requires : tie.Need-absent-position-requires
-absent-position-requires c κs = search needs
+  answer-15 = rw (absent (c .before)) at (c .lacks-positions-room .ensures)
 
 lacks-positions-room-requires : tie.Need-lacks-positions-room-requires
 lacks-positions-room-requires c κs =
     let s : tie.Start = start3 (c .before) in
-    (s .pre .0 .1, omega (arith, absent-is c, absent-at-most-one (ps s) (account s) (series s)))
+    (s .pre .0 .1, omega (arith, absent c, absent-at-most-one (ps s) (account s) (series s)))
 
 returns-4 : tie.Need-returns-4
 returns-4 c = stops (at-15 (c .before .before .before)) (sym (answer-15 (c .before)) ∙ c .if4 .taken)
@@ -200,45 +194,33 @@ module _ (c : tie.After-residual) where
   unfolding mergeResidual
   small-residual = residual-small _ (sumOfValues (sources s6)) (sumOfQuantities (sources s6)) (ready (c .before))
 
-position-is : (c : tie.After-position-of) → c .position-of .result ≡ positionRead (ps (s6 (c .before))) (account (s6 (c .before))) (series (s6 (c .before)))
-position-is c =
-    let s : tie.Start = s6 (c .before) in
-    simp (toZ-ofZ (s .fits .account), toZ-ofZ (s .fits .series)) at (c .position-of .ensures)
-
-moved-is : (c : tie.After-moved) →
-    c .moved .result ≡ mergePosition (ps (s6 (c .before .before))) (account (s6 (c .before .before))) (series (s6 (c .before .before))) (sources (s6 (c .before .before)))
-moved-is c = rw (position-is (c .before), residual-is (c .before .before)) at (c .moved .ensures)
+moved-is : (c : tie.After-moved) → let s = s6 (c .before) in c .moved .result ≡ mergePosition (ps s) (account s) (series s) (sources s)
+moved-is c = rw (s6 (c .before) .pre .0 .2 .read-is, residual-is (c .before)) at (c .moved .ensures)
 
 abbrev start7 : tie.After-sound-position → tie.Start
-start7 c = s6 (c .before .before .before)
+start7 c = s6 (c .before .before)
 
 answer-16 : (c : tie.After-sound-position) →
     c .sound-position .result ≡ soundPosition (mergePosition (ps (start7 c)) (account (start7 c)) (series (start7 c)) (sources (start7 c)))
 answer-16 c = rw (moved-is (c .before)) at (c .sound-position .ensures)
 
 abbrev else4 : tie.After-sound-position → tie.Else4
-else4 c = c .before .before .before .before .before
+else4 c = c .before .before .before .before
 
 sum-of-values-requires : tie.Need-sum-of-values-requires
 sum-of-values-requires c κs =
     let s : tie.Start = start1 (tested c) in
     let h : ltZ (pos mostQuantity) (sumOfQuantities (sources s)) ≡ false = small-sum (tested c) in
-    (s .pre .0 .0, s .pre .0 .2, s .pre .1 .0 .2, count s .1, s .pre .1 .1 .0 .1, omega zarith)
+    (s .pre .0 .0, s .pre .0 .3, s .pre .1 .0 .2, count s .1, s .pre .1 .1 .0 .1, omega zarith)
 
 residual-requires : tie.Need-residual-requires
 residual-requires c κs = rw (value-is c, sum-is (tested (c .before) .before)) (ready c)
 
-position-of-requires : tie.Need-position-of-requires
-position-of-requires c κs = search needs
-
 moved-requires : tie.Need-moved-requires
 moved-requires c κs =
-    let s : tie.Start = s6 (c .before) in
-    rw (position-is c, residual-is (c .before))
-    (merge-moves (positionRead (ps s) (account s) (series s)) (mergeResidual (sources s)) (position-read-sound (ps s) (s .pre .0 .1) (account s) (series s)) (small-residual (c .before)))
-
-sound-position-requires : tie.Need-sound-position-requires
-sound-position-requires c κs = search needs
+    let s : tie.Start = s6 c in
+    rw (s .pre .0 .2 .read-is, residual-is c)
+    (merge-moves (positionRead (ps s) (account s) (series s)) (mergeResidual (sources s)) (position-read-sound (ps s) (s .pre .0 .1) (account s) (series s)) (small-residual c))
 
 returns-5 : tie.Need-returns-5
 returns-5 c = stops (at-16 (else4 (c .before))) (ap not (failed (answer-16 (c .before)) (c .if5 .taken)))
@@ -250,6 +232,6 @@ pub verdict-on-sums-spec : {M : Type 1} → statement M
 verdict-on-sums-spec =
     tie.close
     (tie.spec
-    sum-of-quantities-requires returns suffix-above-requires returns-2 add-lacks-records-room lacks-records-room-requires returns-3
-    absent-position-requires lacks-positions-room-requires returns-4 sum-of-values-requires residual-requires position-of-requires
-    moved-requires sound-position-requires returns-5 returns-6)
+    sum-of-quantities-requires returns suffix-above-requires returns-2 (λ c. search needs) lacks-records-room-requires returns-3
+    (λ c κs. search needs) lacks-positions-room-requires returns-4 sum-of-values-requires residual-requires moved-requires (λ c κs. search needs)
+    returns-5 returns-6)

@@ -55,7 +55,7 @@ unfolding zeroPosition
 returns-2 c =
     let s : tie.Start = c .before .before in
     simp (toZ-ofZ (s .fits .account), toZ-ofZ (s .fits .series))
-    (sym (position-zeros (s .args .cells .now) (s .args .account) (s .args .series) (sym (s .pre .1) ∙ c .enum-told .given .1)))
+    (sym (position-zeros (s .args .cells .now) (s .args .account) (s .args .series) _ (sym (s .pre .1) ∙ c .enum-told .given .1)))
 
 pub read-position-spec : {M : Type 1} → statement M
 read-position-spec =

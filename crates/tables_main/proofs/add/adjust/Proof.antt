@@ -1,5 +1,5 @@
 -- `tables_main::add::adjust` meets its contract: the table is sound, the row was found in it, and its status is 0. Assumes nothing.
-use Prim.Native.Nat.{_+_, _*_, _<_}
+use Prim.Native.Nat.{_<_}
 use mathlib.Core.Path.{_≡_, sym, ap, _∙_}
 use mathlib.Core.Bool.{true}
 use lib.IntN.{pos}
@@ -7,12 +7,14 @@ use lib.ListN.{length}
 use mir.Facts.{toZ-ofZ, sfits-lit}
 use borrow.Author.Needs.{needs, sfits-of}
 use Rattle.integers.proofs.Bits.{ofZ-inj}
+use Rattle.rules.specs.Rows.{keyOf, recordKey}
 use Rattle.rules.specs.Layout.{rowsOf, rowAt}
-use Rattle.rules.specs.Tables.{recordAt, recordsLayout, soundRecords}
+use Rattle.rules.specs.Tables.{recordsLayout, soundRecords}
 use Rattle.rules.specs.declared.Record.{Record}
 use Rattle.figures.proofs.Tests.{passed}
-use Rattle.lookup.specs.Lookup.{recordFound}
-use Rattle.lookup.proofs.TableLookup.{record-found}
+use Rattle.lookup.specs.Lookup.{recordSought}
+use Rattle.lookup.proofs.TableLookup.{records-first}
+use Rattle.lookup.proofs.TableSought.{table-present}
 use Rattle.tables_main.proofs.add.adjust.Statement.{statement}
 use Rattle.tables_main.proofs.add.adjust.Tie as tie
 
@@ -28,13 +30,13 @@ module _ (c : tie.After-row) where
   abbrev tested : tie.Else1
   tested = c .before .before .before .before
 
-  answer : c .before .before .find-record .result ≡ recordFound (start tested .args .cells .now) (start tested .args .id) (start tested .args .suffix)
-  answer = simp (toZ-ofZ (start tested .fits .id), toZ-ofZ (start tested .fits .suffix)) at (c .before .before .find-record .ensures)
+  answer : c .before .before .look-up .result ≡ recordSought (start tested .args .cells .now) (start tested .args .id) (start tested .args .suffix)
+  answer = simp (toZ-ofZ (start tested .fits .id), toZ-ofZ (start tested .fits .suffix)) at (c .before .before .look-up .ensures)
 
   there : c .row .given .0 .0 < length (rowsOf recordsLayout (start tested .args .cells .now))
   there =
-      record-found (start tested .args .cells .now) (start tested .args .id) (start tested .args .suffix) (c .row .given .0 .0)
-      (sym answer ∙ c .row .given .1) .0
+      table-present recordsLayout recordKey records-first (start tested .args .cells .now) (keyOf (start tested .args .id) (start tested .args .suffix)) _ _ _
+      (sym answer ∙ c .row .given .1) .row-within
 
 -- Its status is 0.
 module _ (c : tie.Else2) where
@@ -46,63 +48,30 @@ module _ (c : tie.Else2) where
       sym (ap (λ (r : Record). r .status) (c .before .before .before .read-record .ensures))
       ∙ ofZ-inj (sfits-of (c .before .struct-told .given .1 .1 .1 .1 .0 .1)) (sfits-lit tt) (c .if2 .left)
 
-records-sound-requires : tie.Need-records-sound-requires
-records-sound-requires c κs = search needs
-
-same-length : tie.Need-same-length
-same-length c = search needs
-
-returns : tie.Need-returns
-returns c = search needs
-
-find-record-requires : tie.Need-find-record-requires
-find-record-requires c κs = sound (c .before)
-
-enum-known-row : tie.Need-enum-known-row
-enum-known-row c = search needs
-
-enum-told : tie.Need-enum-told
-enum-told c = search needs
-
-same-length-2 : tie.Need-same-length-2
-same-length-2 c = search needs
-
-returns-2 : tie.Need-returns-2
-returns-2 c = search needs
+look-up-requires : tie.Need-look-up-requires
+look-up-requires c κs = sound (c .before)
 
 read-record-requires : tie.Need-read-record-requires
 read-record-requires c κs = (sound (tested (c .before .before)), there (c .before .before))
 
-same-length-3 : tie.Need-same-length-3
-same-length-3 c = search needs
-
-returns-3 : tie.Need-returns-3
-returns-3 c = search needs
-
 adjust-record-requires : tie.Need-adjust-record-requires
 adjust-record-requires c κs = (sound (tested (found (c .before))), there (found (c .before)), status-zero (c .before))
-
-same-length-4 : tie.Need-same-length-4
-same-length-4 c = search needs
-
-returns-4 : tie.Need-returns-4
-returns-4 c = search needs
 
 pub adjust-spec : {M : Type 1} → statement M
 adjust-spec =
     tie.close
     (tie.spec
-    records-sound-requires
-    same-length
-    returns
-    find-record-requires
-    enum-known-row
-    enum-told
-    same-length-2
-    returns-2
+    (λ c κs. search needs)
+    (λ c. search needs)
+    (λ c. search needs)
+    look-up-requires
+    (λ c. search needs)
+    (λ c. search needs)
+    (λ c. search needs)
+    (λ c. search needs)
     read-record-requires
-    same-length-3
-    returns-3
+    (λ c. search needs)
+    (λ c. search needs)
     adjust-record-requires
-    same-length-4
-    returns-4)
+    (λ c. search needs)
+    (λ c. search needs))
