@@ -65,11 +65,11 @@
  * STACK
  *
  * A call needs stack, and nothing sees to it that there is enough: a thread with a small stack should allow for the call it makes. Lineage calls
- * itself on the parent, once for each link, and a table of 4,096 records has chains of up to 4,095 links. A merge keeps the rows of its sources in
- * an array of 1,000 numbers of 16 bits. In bytes, from the host's call down, rounded up:
+ * itself on the parent, once for each link, and a table of 4,096 records has chains of up to 4,095 links. A merge keeps of each source its row and
+ * the greatest suffix of its id, in two arrays of 1,000 numbers of 16 bits. In bytes, from the host's call down, rounded up:
  *
- *     lineage                                270,000 at the longest chain: 64 for each link, and 200
- *     merge                                    3,000
+ *     lineage                                460,000 at the longest chain: 112 for each link, and 300
+ *     merge                                    5,000
  *     trade, trades, separation, transfer      1,000
  *
  * These were measured with this archive on x86-64, on full tables, the longest chain, and lists of 1,000. They are no part of what is proved. The

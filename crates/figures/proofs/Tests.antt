@@ -1,7 +1,7 @@
 -- What the code's tests on signed numbers say of the integers: `==` and `!=` against a literal compare bits, a range test is two comparisons.
 -- Assumes nothing.
-use mathlib.Core.Path.{_≡_, refl, sym, _∙_}
-use mathlib.Core.Bool.{Bool, true, false, not, Bool·beq}
+use mathlib.Core.Path.{_≡_, sym, _∙_}
+use mathlib.Core.Bool.{Bool, true, false, not}
 use borrow.Author.Tests.{not-true, not-false}
 use Prim.Native.Nat.{ℕ, _^_}
 use lib.Dec.{T, eqb, ltb}
@@ -33,12 +33,6 @@ failed {r} e h = sym e ∙ not-true r h
 
 pub passed : {r t : Bool} → r ≡ t → not r ≡ false → t ≡ true
 passed {r} e h = sym e ∙ not-false r h
-
--- ---- two tests agree, where the first holds
-
-pub agrees : (t : Bool) → t ≡ Bool·beq true t
-agrees true = refl
-agrees false = refl
 
 -- ---- a range
 

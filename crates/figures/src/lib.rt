@@ -110,16 +110,10 @@ pub fn valid_status(z: i64) -> bool
 pub fn valid_signed_quantity(status: i64, q: i64) -> bool
     ensures { λ r. ⌜ r ≡ validSignedQuantity status q ⌝ }
 {
-    if q == 0 {
-        return false;
+    if status == INVERSE {
+        return in_range(-1_000_000, -1, q);
     }
-    if !in_range(-1_000_000, 1_000_000, q) {
-        return false;
-    }
-    if q < 0 {
-        return status == INVERSE;
-    }
-    status != INVERSE
+    in_range(1, 1_000_000, q)
 }
 
 pub fn valid_booked(z: i64) -> bool
@@ -140,11 +134,8 @@ pub fn valid_into(z: i64) -> bool
 pub fn valid_parent(parent: i64, suffix: i64) -> bool
     ensures { λ r. ⌜ r ≡ validParent parent suffix ⌝ }
 {
-    if parent < suffix {
-        return true;
+    if suffix == 0 {
+        return parent <= 0;
     }
-    if parent != 0 {
-        return false;
-    }
-    suffix == 0
+    parent < suffix
 }

@@ -79,7 +79,7 @@ module _ {A : Type 0} (key : A → Key) where
   pub found-key : (k : Key) (rows : List A) (i : ℕ) (other : A) → rowFrom 0 k (map key rows) ≡ some i → key (getD rows i other) ≡ k
   found-key k rows i other h = find-key key k rows (getD rows i other) (found-find k rows i h .1 other)
 
-  -- No row is answered exactly where the rules find none.
+  -- Where no row is answered the rules find none.
   pub absent-find : (k : Key) (rows : List A) → rowFrom 0 k (map key rows) ≡ none → find key k rows ≡ none
   absent-find k [] h = find-nil key k
   absent-find k (r ∷ rest) h = go (absent-find k rest) (split (same (key r) k))
@@ -87,16 +87,6 @@ module _ {A : Type 0} (key : A → Key) where
       go : (rowFrom 0 k (map key rest) ≡ none → find key k rest ≡ none) → (same (key r) k ≡ true) ⊎ (same (key r) k ≡ false) → find key k (r ∷ rest) ≡ none
       go ih (inl s) = let z : _≡_ {A = ℕ} 0 1 = cc (found-same k r rest s) in absurd (omega arith)
       go ih (inr s) = find-there key k r rest s ∙ ih (next-absent (rowFrom 0 k (map key rest)) (sym (found-other k r rest s) ∙ h))
-
-  pub find-absent : (k : Key) (rows : List A) → find key k rows ≡ none → rowFrom 0 k (map key rows) ≡ none
-  unfolding next
-  find-absent k [] h = rowFrom-nil 0 k
-  find-absent k (r ∷ rest) h = go (find-absent k rest) (split (same (key r) k))
-    where
-      go : (find key k rest ≡ none → rowFrom 0 k (map key rest) ≡ none) → (same (key r) k ≡ true) ⊎ (same (key r) k ≡ false)
-          → rowFrom 0 k (map key (r ∷ rest)) ≡ none
-      go ih (inl s) = none-some h (find-here key k r rest s)
-      go ih (inr s) = found-other k r rest s ∙ ap next (ih (sym (find-there key k r rest s) ∙ h))
 
   -- The row that the rules find is answered.
   pub find-found : (k : Key) (rows : List A) (x : A) → find key k rows ≡ some x
@@ -131,7 +121,7 @@ unfolding foundOr
 absent-told none place p e = (refl, cc)
 absent-told (some j) place p e = let z : _≡_ {A = ℕ} 0 1 = cc in absurd (omega arith)
 
--- What the answer of a greatest says, and back.
+-- What the answer of a greatest says.
 pub suffix-some : (o : Option ℤ) (g : ℤ) → greatestFound o ≡ Suffix g → o ≡ some g
 unfolding greatestFound
 suffix-some none g e = let z : _≡_ {A = ℕ} 0 1 = cc in absurd (omega arith)
@@ -141,11 +131,3 @@ pub nothing-none : (o : Option ℤ) → greatestFound o ≡ Nothing → o ≡ no
 unfolding greatestFound
 nothing-none none e = refl
 nothing-none (some a) e = let z : _≡_ {A = ℕ} 0 1 = cc in absurd (omega arith)
-
-pub some-suffix : (o : Option ℤ) (g : ℤ) → o ≡ some g → greatestFound o ≡ Suffix g
-unfolding greatestFound
-some-suffix o g e = ap greatestFound e
-
-pub none-nothing : (o : Option ℤ) → o ≡ none → greatestFound o ≡ Nothing
-unfolding greatestFound
-none-nothing o e = ap greatestFound e

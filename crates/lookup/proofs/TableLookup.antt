@@ -1,6 +1,6 @@
 -- The answers of the lookup on a table of cells, in the rules' words: over any layout whose rows begin with their key, then for records and positions.
 -- The keys that the lookup reads are the keys of the table's rows. Assumes nothing.
-use Prim.Native.Nat.{ℕ, zero, suc, _+_, _*_, _≤_, _<_}
+use Prim.Native.Nat.{ℕ, zero, suc, _+_, _≤_, _<_}
 use mathlib.Core.Path.{_≡_, refl, sym, ap, ap₂, _∙_}
 use native.Mathlib.Omega.{arith}
 use mathlib.Core.Bool.{Bool, true}
@@ -8,17 +8,15 @@ use mathlib.Core.List.{List, _∷_, _++_, map}
 use mathlib.Core.Option.{Option, none, some}
 use lib.IntN.{ℤ, natAbs}
 use lib.ListN.{length, getD, take, drop}
-use Rattle.rules.specs.Keyed.{Key, rising, find, greatest, upsert}
+use Rattle.rules.specs.Keyed.{Key, rising, find, upsert}
 use Rattle.rules.specs.Rows.{keyOf, recordKey, positionKey, zeroPosition, orZeros}
 use Rattle.rules.specs.Layout.{Layout, countOf, decode, rowAt, rowsOf}
 use Rattle.rules.specs.Tables.{recordsLayout, positionsLayout}
-use Rattle.rules.specs.declared.Record.{Record}
-use Rattle.rules.specs.declared.Position.{Position}
 use Rattle.cells.specs.SoundTable.{SoundTable}
 use Rattle.cells.proofs.Decode.{length-decode, getD-decode}
-use Rattle.lookup.specs.Lookup.{keyAt, rowFrom, foundOr, keysRise, Searchable, foundIn, placeIn, positionFound}
+use Rattle.lookup.specs.Lookup.{keyAt, rowFrom, keysRise, Searchable, foundIn, placeIn, positionFound}
 use Rattle.lookup.specs.declared.Found.the-variants as Found
-use Rattle.lookup.proofs.RowFound.{row-told, absent-told, found-find, found-key, absent-find, find-absent, find-found}
+use Rattle.lookup.proofs.RowFound.{row-told, absent-told, found-find, found-key, absent-find}
 use Rattle.lookup.proofs.RowPlaced.{place-within, upsert-placed, upsert-replaced}
 use Rattle.lookup.proofs.RisingKeys.{rising-map}
 
@@ -92,18 +90,6 @@ module _ {A : Type 0} (l : Layout A) (key : A → Key) (lawful : KeyFirst l key)
       let w : (rowFrom 0 k (decode keyAt (l .width) (natAbs (countOf cells)) (l .header) cells) ≡ none) × (placeIn l k cells ≡ place) = absent-told _ (placeIn l k cells) place h in
       (absent-find key k (rowsOf l cells) (as-row k none (w .0)), sym (w .1))
 
-  pub absent-table : (k : Key) → find key k (rowsOf l cells) ≡ none → foundIn l k cells ≡ Found.Absent (placeIn l k cells)
-  unfolding foundOr
-  absent-table k h = ap (λ (o : Option ℕ). foundOr o (placeIn l k cells)) (ap (rowFrom 0 k) table-keys ∙ find-absent key k (rowsOf l cells) h)
-
-  pub found-table : (k : Key) (x : A) → find key k (rowsOf l cells) ≡ some x
-      → (i : ℕ) × (foundIn l k cells ≡ Found.Row i) × (i < length (rowsOf l cells)) × (rowAt l cells i ≡ x)
-  unfolding foundOr
-  found-table k x h =
-      let w : (i : ℕ) × (rowFrom 0 k (map key (rowsOf l cells)) ≡ some i) × (i < length (rowsOf l cells)) × ((other : A) → getD (rowsOf l cells) i other ≡ x)
-      = find-found key k (rowsOf l cells) x h in
-      (w .0, ap (λ (o : Option ℕ). foundOr o (placeIn l k cells)) (ap (rowFrom 0 k) table-keys ∙ w .1), w .2, sym (table-row (w .0) x (w .2)) ∙ w .3 x)
-
   -- A new row at its place, and a row in place of the one with its key.
   pub table-place : (k : Key) → placeIn l k cells ≤ length (rowsOf l cells)
   table-place k = rw table-keys (place-within key k (rowsOf l cells))
@@ -135,14 +121,6 @@ module _ (cells : List ℤ) (account series : ℤ) where
 
   pub position-absent : (place : ℕ) → positionFound cells account series ≡ Found.Absent place → find positionKey (keyOf account series) (rowsOf positionsLayout cells) ≡ none
   position-absent place h = table-absent positionsLayout positionKey positions-first cells (keyOf account series) place h .0
-
-  pub found-position : (p : Position) → find positionKey (keyOf account series) (rowsOf positionsLayout cells) ≡ some p
-      → (row : ℕ) × (positionFound cells account series ≡ Found.Row row) × (row < length (rowsOf positionsLayout cells)) × (rowAt positionsLayout cells row ≡ p)
-  found-position p h = found-table positionsLayout positionKey positions-first cells (keyOf account series) p h
-
-  pub absent-position : find positionKey (keyOf account series) (rowsOf positionsLayout cells) ≡ none
-      → positionFound cells account series ≡ Found.Absent (placeIn positionsLayout (keyOf account series) cells)
-  absent-position h = absent-table positionsLayout positionKey positions-first cells (keyOf account series) h
 
   -- "an absent row reads as zeros"
   pub position-read : (row : ℕ) → positionFound cells account series ≡ Found.Row row

@@ -1,7 +1,7 @@
 -- What the lookup says of a key, in the rules' words: over any layout whose rows begin with their key. Assumes nothing.
 use Prim.Native.Nat.{ℕ, _<_}
 use mathlib.Core.Path.{_≡_, refl, sym, ap, _∙_}
-use mathlib.Core.List.{List, map}
+use mathlib.Core.List.{List}
 use mathlib.Core.Option.{Option, none, some}
 use native.Mathlib.Omega.{arith}
 use lib.IntN.{ℤ, pos, natAbs, _+ℤ_}
@@ -22,9 +22,9 @@ use Rattle.lookup.proofs.TableLookup.{KeyFirst, table-keys, as-row, row
 
 -- The parts of an answer.
 module _ (o : Option ℕ) (place : ℕ) (g : Option ℤ) (n : ℕ) where
-  present-told : (row : ℕ) (z : ℤ) (next : ℕ) → soughtAs o place g n ≡ Sought.Present row z next → (o ≡ some row) × (theGreatest g ≡ z) × (n ≡ next)
+  parts-present : (row : ℕ) (z : ℤ) (next : ℕ) → soughtAs o place g n ≡ Sought.Present row z next → (o ≡ some row) × (theGreatest g ≡ z) × (n ≡ next)
   unfolding soughtAs
-  present-told row z next e = go o refl
+  parts-present row z next e = go o refl
     where
       go : (p : Option ℕ) → o ≡ p → (o ≡ some row) × (theGreatest g ≡ z) × (n ≡ next)
       go none h = let z : _≡_ {A = ℕ} 0 1 = cc (ap (λ (x : Option ℕ). soughtAs x place g n) h) in absurd (omega arith)
@@ -32,9 +32,9 @@ module _ (o : Option ℕ) (place : ℕ) (g : Option ℤ) (n : ℕ) where
           let f : Sought.Present i (theGreatest g) n ≡ Sought.Present row z next = ap (λ (x : Option ℕ). soughtAs x place g n) (sym h) ∙ e in
           (h ∙ ap some (cc), cc, cc)
 
-  absent-told : (p : ℕ) (f : Greatest) → soughtAs o place g n ≡ Sought.Absent p f → (o ≡ none) × (place ≡ p) × (greatestFound g ≡ f)
+  parts-absent : (p : ℕ) (f : Greatest) → soughtAs o place g n ≡ Sought.Absent p f → (o ≡ none) × (place ≡ p) × (greatestFound g ≡ f)
   unfolding soughtAs
-  absent-told p f e = go o refl
+  parts-absent p f e = go o refl
     where
       go : (x : Option ℕ) → o ≡ x → (o ≡ none) × (place ≡ p) × (greatestFound g ≡ f)
       go none h =
@@ -72,7 +72,7 @@ module _ {A : Type 0} (l : Layout A) (key : A → Key) (first : KeyFirst l key) 
   unfolding theGreatest nextSuffix foundOr
   table-present row g next h =
       let w : (rowFrom 0 k keys ≡ some row) × (theGreatest suffixes ≡ g) × (placeFrom 0 (keyOf (k .major) (nextSuffix suffixes)) keys ≡ next)
-      = present-told (rowFrom 0 k keys) (placeIn l k cells) suffixes (placeFrom 0 (keyOf (k .major) (nextSuffix suffixes)) keys) row g next h in
+      = parts-present (rowFrom 0 k keys) (placeIn l k cells) suffixes (placeFrom 0 (keyOf (k .major) (nextSuffix suffixes)) keys) row g next h in
       let t : (row < length (rowsOf l cells)) × (find key k (rowsOf l cells) ≡ some (rowAt l cells row)) × (key (rowAt l cells row) ≡ k)
       = row-told-of l key first cells k row (as-row l key first cells k (some row) (w .0)) in
       let f : (z : ℤ) × (greatest key (k .major) (rowsOf l cells) ≡ some z) × (leZ (k .minor) z ≡ true)
@@ -91,7 +91,7 @@ module _ {A : Type 0} (l : Layout A) (key : A → Key) (first : KeyFirst l key) 
   pub table-lacks : (place : ℕ) (g : Greatest) → soughtIn l k cells ≡ Sought.Absent place g → AbsentAt l key cells k place g
   table-lacks place g h =
       let w : (rowFrom 0 k keys ≡ none) × (placeIn l k cells ≡ place) × (greatestFound suffixes ≡ g)
-      = absent-told (rowFrom 0 k keys) (placeIn l k cells) suffixes (placeFrom 0 (keyOf (k .major) (nextSuffix suffixes)) keys) place g h in
+      = parts-absent (rowFrom 0 k keys) (placeIn l k cells) suffixes (placeFrom 0 (keyOf (k .major) (nextSuffix suffixes)) keys) place g h in
       record {
         absent = absent-find key k (rowsOf l cells) (as-row l key first cells k none (w .0));
         place-is = sym (w .1);

@@ -1,18 +1,18 @@
 -- A named record adjusted, and the rows that come out of it inserted at the place that the lookup said: its status leaves every key where it stood, so the place is still
 -- the next suffix's. Assumes nothing.
-use Prim.Native.Nat.{suc, _+_, _≤_}
+use Prim.Native.Nat.{_+_, _≤_}
 use native.Mathlib.Omega.{arith}
 use mathlib.Core.Path.{_≡_, sym, ap, subst, _∙_}
 use mathlib.Core.Bool.{true}
 use mathlib.Core.List.{List, [], _∷_}
-use mathlib.Core.Option.{Option, some}
+use mathlib.Core.Option.{some}
 use lib.IntN.{ℤ, pos, _+ℤ_}
 use lib.ListN.{length}
 use lib.Signed.{_≤ℤ_}
-use Rattle.rules.specs.Keyed.{Key, find, greatest, upsert}
+use Rattle.rules.specs.Keyed.{Key, find, greatest}
 use Rattle.rules.specs.NamedRecord.{nextSuffix}
 use Rattle.rules.specs.Rows.{keyOf, recordKey, soundRecord, adjustedRecord}
-use Rattle.rules.specs.Layout.{rowAt, roomOf, rowsOf, write}
+use Rattle.rules.specs.Layout.{rowAt, roomOf, rowsOf}
 use Rattle.rules.specs.Tables.{recordsLayout, soundRecords}
 use Rattle.rules.specs.declared.Record.{Record}
 use Rattle.keys.proofs.Lookup.{find-key}

@@ -125,9 +125,6 @@ module _ (cells : List ℤ) (place : ℕ) (inverse first : Record) (quantities :
   pub news-count : length news ≡ suc (length quantities)
   news-count = ap suc (rows-count first (first .suffix) quantities)
 
-  first-id : first .id ≡ inverse .id
-  first-id = ap (λ (k : Key). k .major) (ready .follows)
-
   first-suffix : first .suffix ≡ inverse .suffix +ℤ pos 1
   first-suffix = ap (λ (k : Key). k .minor) (ready .follows)
 

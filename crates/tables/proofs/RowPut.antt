@@ -1,6 +1,6 @@
 -- A row put into a sound table, as cells: inserted at the place of its key, or written over the row with its key, it is the table with the row put among its rows.
 -- A table with a sound row put is sound, where it has the room. Over any lawful layout. Assumes nothing.
-use Prim.Native.Nat.{ℕ, _+_, _*_, _≤_, _<_}
+use Prim.Native.Nat.{ℕ, _≤_, _<_}
 use native.Mathlib.Omega.{arith}
 use mathlib.Core.Path.{_≡_, sym, ap, _∙_}
 use mathlib.Core.Bool.{Bool, true}

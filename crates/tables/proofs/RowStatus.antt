@@ -1,14 +1,14 @@
 -- A row of a sound records table with another status set in its cell: the table with the record in that status put among its rows, and sound where that record is.
 -- An adjustable record is sound when adjusted. Assumes nothing.
-use Prim.Native.Nat.{ℕ, suc, _+_, _*_, _≤_, _<_}
+use Prim.Native.Nat.{ℕ, suc, _+_, _≤_, _<_}
 use native.Mathlib.Nat.{mul-le-mul-right}
 use native.Mathlib.Omega.{arith}
-use mathlib.Core.Path.{_≡_, refl, sym, ap, _∙_}
+use mathlib.Core.Path.{_≡_, refl, sym}
 use mathlib.Core.Bool.{true}
 use mathlib.Core.List.{List}
-use lib.IntN.{ℤ, pos, natAbs}
+use lib.IntN.{ℤ, natAbs}
 use lib.ListN.{length, set}
-use Rattle.rules.specs.Keyed.{Key, upsert}
+use Rattle.rules.specs.Keyed.{upsert}
 use Rattle.rules.specs.Figures.{adjustable}
 use Rattle.rules.specs.Rows.{recordKey, soundRecord, withStatus, adjustedRecord}
 use Rattle.rules.specs.Layout.{countOf, startOf, rowAt, rowsOf, write}

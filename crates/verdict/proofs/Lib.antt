@@ -12,7 +12,6 @@ pub mod Ready
 pub mod Suffixes
 pub mod Trade
 pub mod TradeReady
-pub mod NextSuffix
 pub mod Separation
 pub mod SeparationReady
 pub mod Transfer

@@ -9,11 +9,10 @@ use lib.IntN.{ℤ, pos}
 use lib.ListN.{length, getD}
 use mir.Facts.{toZ-ofZ}
 use mir.Syntax.{w64}
-use mir.Val.{SFits, toZ, ofZ}
+use mir.Val.{SFits, ofZ}
 use Rattle.integers.proofs.Bits.{ofZ-inj}
 use Rattle.rules.specs.Rows.{keyOf}
-use Rattle.lookup.specs.Lookup.{rowPlace, rowFound, Searchable}
-use Rattle.lookup.specs.declared.Found.{Found}
+use Rattle.lookup.specs.Lookup.{rowPlace, rowFound}
 use Rattle.lookup.specs.declared.Greatest.the-variants.{Suffix, Nothing}
 use Rattle.lookup.specs.declared.Sought.the-variants as Sought
 use Rattle.lookup.proofs.Halving.{row-within, place-at-most}

@@ -7,8 +7,6 @@ use borrow.Author.Needs.{needs}
 use lib.IntN.{ℤ, pos, natAbs}
 use lib.Signed.{ltZ, nonNeg}
 use mir.Facts.{toZ-ofZ, fits-natAbs}
-use mir.Syntax.{w64}
-use mir.Val.{toZ, ofZ}
 use Rattle.integers.proofs.Linear.{zarith, abs-lin}
 use Rattle.lookup.proofs.row_by_distance.Statement.{statement}
 use Rattle.lookup.proofs.row_by_distance.Tie as tie

@@ -1,5 +1,5 @@
 -- `requests::adjust_named` meets its contract: the record adjusted, then its rows inserted. Assumes nothing.
-use mathlib.Core.Path.{_≡_, sym, ap, _∙_}
+use mathlib.Core.Path.{sym, ap, _∙_}
 use borrow.Author.Needs.{needs}
 use Rattle.rules.specs.declared.Record.{Record}
 use Rattle.requests.proofs.Adjusting.{rows-ready, adjusted-with-rows}

@@ -5,7 +5,7 @@ use lib.Signed.{_≤ℤ_}
 use mir.Facts.{toZ-ofZ}
 use mir.Syntax.{w64}
 use mir.Val.{SFits, toZ, ofZ}
-use mathlib.Core.Option.{Option, some}
+use mathlib.Core.Option.{some}
 use Rattle.integers.proofs.Linear.{zarith, +-lin}
 use Rattle.rules.specs.Figures.{greatestOfSuffixes}
 use Rattle.rules.specs.Rows.{keyOf, recordKey}

@@ -2,13 +2,13 @@
 use Prim.Native.Nat.{ℕ, suc, _+_, _-_, _*_, _≤_}
 use native.Mathlib.Omega.{arith}
 use mathlib.Core.Path.{_≡_, sym, ap, subst, _∙_}
-use mathlib.Core.List.{List, _++_}
+use mathlib.Core.List.{List}
 use borrow.Author.Needs.{needs}
-use lib.IntN.{ℤ, pos}
-use lib.ListN.{length, take, drop, length-take, length-drop}
+use lib.IntN.{ℤ}
+use lib.ListN.{length, length-take, length-drop}
 use mir.Syntax.{w64}
 use mir.Val.{toZ}
-use Rattle.rules.specs.Layout.{encode, rowsOf, startOf}
+use Rattle.rules.specs.Layout.{encode, startOf}
 use Rattle.rules.specs.Tables.{recordCells, recordsLayout}
 use Rattle.shifter.specs.Insertion.{inserted}
 use Rattle.shifter.proofs.Placed.{rows-split, raised-cell, insertion}

@@ -1,7 +1,7 @@
 -- `tables::new_rows::shift_in_rows` meets its contract, by the laws that it calls: moved up by the new rows' cells, then these written over. Assumes nothing.
 use Prim.Native.Nat.{ℕ, suc, _+_, _*_}
 use native.Mathlib.Omega.{arith}
-use mathlib.Core.Path.{_≡_, ap, sym, _∙_}
+use mathlib.Core.Path.{_≡_, ap, _∙_}
 use mathlib.Core.List.{List, _++_}
 use borrow.Author.Needs.{needs}
 use lib.IntN.{ℤ}

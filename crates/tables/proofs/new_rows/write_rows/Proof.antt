@@ -7,9 +7,9 @@ use lib.IntN.{ℤ, pos, _+ℤ_}
 use lib.ListN.{length, getD}
 use mir.Facts.{toZ-ofZ}
 use mir.Syntax.{w64}
-use mir.Val.{SFits, toZ, ofZ}
+use mir.Val.{SFits, toZ}
 use borrow.Author.Needs.{needs}
-use Rattle.rules.specs.Tables.{recordCells, recordsLayout}
+use Rattle.rules.specs.Tables.{recordCells}
 use Rattle.scan.proofs.ReadBack.{read-back}
 use Rattle.shifter.specs.Insertion.{replaced}
 use Rattle.tables.specs.NewRows.{numberedAs}

@@ -1,7 +1,7 @@
 -- `tables::positions::read_position` meets its contract: the row that the lookup found is read, and an absent one reads as zeros. Assumes nothing.
 use native.Mathlib.Omega.{arith}
 use native.Mathlib.Nat.{mul-le-mul-right}
-use Prim.Native.Nat.{suc, _+_, _*_, _≤_, _<_}
+use Prim.Native.Nat.{suc, _≤_, _<_}
 use mathlib.Core.Path.{_≡_, sym, _∙_}
 use lib.ListN.{length}
 use mir.Facts.{toZ-ofZ}
