@@ -1,4 +1,4 @@
-// The table code, run: tables with no row, one, many and a full room, and damaged ones. It prints what each call answers, and the cells where they are few.
+// The table code, run: tables with no row, one, many and a full room, an id whose suffixes have gaps, and damaged tables. It prints what each call answers, and the cells where they are few.
 mod add;
 mod damage;
 
@@ -52,6 +52,25 @@ fn few_rows() {
     printing::cells(&cells);
 }
 
+// An id whose suffixes are 2, 3 and 9, between two others: each of its keys, those before, between and after them, and an id that lies between and has none.
+fn gaps() {
+    printing::line(b"suffixes 2, 3 and 9 of id 7");
+    let mut cells = [-1; 66];
+    cells[0] = 0;
+    add::tell(add::record(&mut cells, 7, 9, 10));
+    add::tell(add::record(&mut cells, 5, 0, 11));
+    add::tell(add::record(&mut cells, 7, 2, 12));
+    add::tell(add::record(&mut cells, 8, 0, 13));
+    add::tell(add::record(&mut cells, 7, 3, 14));
+    ask(&cells, 7, 2);
+    ask(&cells, 7, 3);
+    ask(&cells, 7, 9);
+    ask(&cells, 7, 0);
+    ask(&cells, 7, 5);
+    ask(&cells, 7, 10);
+    ask(&cells, 6, 0);
+}
+
 // A room of 4,096 rows, filled from the greatest id down, in a slice with space for more.
 fn full_room() {
     printing::line(b"4,096 records, added from the greatest id down");
@@ -93,6 +112,7 @@ fn damaged() {
 
 fn main() {
     few_rows();
+    gaps();
     full_room();
     few_positions();
     damaged();
