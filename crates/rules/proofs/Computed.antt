@@ -6,24 +6,26 @@ use Rattle.rules.specs.Batch.{tradesOf, batchFigures, batchTests, excess
 use Rattle.rules.specs.Books.{viewOf}
 use Rattle.rules.specs.Call.{handleCall, requestsOf}
 use Rattle.rules.specs.Figures.{magnitudeAtMost, validId, validSuffix, validAccount, validSeries, validQuantity, validPrice, validSide, isBuy, isToClose, validCount}
-use Rattle.rules.specs.Handle.{planOf, soundnessTests, refusals, planTables, answer, handle}
+use Rattle.rules.specs.GiveUp.{giveUpFigures, isAt, hasTurn, hasFigures, mayStep, isOutOfTurn, stepped, isComplete, stepStatusTest, recordAfter, finished, giveUpEffects, processBefore, giveUpPlan}
+use Rattle.rules.specs.Handle.{planOf, soundProcessesTest, soundnessTests, refusals, writtenBy, planTables, answer, handle}
 use Rattle.rules.specs.Keyed.{below, same, isSome, atLeast, rising, find, greatest, upsert, upsertAll, absentFrom}
 use Rattle.rules.specs.Layout.{encode, roomFor, roomOf, rowsOf, countIsSound, write}
 use Rattle.rules.specs.Lineage.{oneMoreLink, originVia, originOf, lineageReply, lineagePlan}
-use Rattle.rules.specs.Merge.{pairsOf, validPair, mergeFigures, sourcesOf, recordsOf, isMissing, closes, isAmong, stoodEarlier, firstOf, sideDiffers, sumOfQuantities, sumOfValues, timesIn, mergeInverses, mergedRecord, mergeResidual, mergePlan}
-use Rattle.rules.specs.NamedRecord.{noRecord, theRecord, isElsewhere, isNotAdjustable, nextSuffix}
-use Rattle.rules.specs.Plan.{suffixIsAbove, bookingTests, planTests, booked, planBooks, planReply}
+use Rattle.rules.specs.Merge.{pairsOf, validPair, mergeFigures, sourcesOf, recordsOf, isMissing, firstStatusRefusal, statusOfEach, closes, isAmong, stoodEarlier, firstOf, sideDiffers, sumOfQuantities, sumOfValues, timesIn, mergeInverses, mergedRecord, mergeResidual, mergePlan}
+use Rattle.rules.specs.NamedRecord.{noRecord, theRecord, isElsewhere, isNotAdjustable, statusRefusal, statusTest, nextSuffix}
+use Rattle.rules.specs.Plan.{suffixIsAbove, processRoomTest, bookingTests, planTests, putProcess, booked, planBooks, planReply}
+use Rattle.rules.specs.ProcessRows.{stageNumber, validStage, validApproval, soundProcess, openedProcess, theProcess}
 use Rattle.rules.specs.Refusal.{test, anyOf, allOf, firstPlace, testEach, firstRefusal}
 use Rattle.rules.specs.Reply.{refusedBy}
 use Rattle.rules.specs.Rows.{validKind, validStatus, validSignedQuantity, validBooked, validInto, validParent, soundRecord, soundPosition, zeroPosition, orZeros, moved, adjustedRecord, newRecord, inverseRecord, adjustableRecord}
 use Rattle.rules.specs.Run.{afterReply, run}
 use Rattle.rules.specs.Sequence.{goesOn, untilRefused}
 use Rattle.rules.specs.Separation.{sumOf, separationFigures, partRecords, separationPlan}
-use Rattle.rules.specs.Tables.{recordCells, positionCells, soundTable, soundRecords, soundPositions, booksOf, writeBooks}
+use Rattle.rules.specs.Tables.{recordCells, positionCells, processCells, soundTable, soundRecords, soundPositions, soundProcesses, booksOf, writeBooks}
 use Rattle.rules.specs.Touching.{idsOf, positionsOf, isNamedIn, shareId, sharePosition, touch, callIds, callPositions, callsTouch}
 use Rattle.rules.specs.Trade.{tradeFigures, openAgainst, smaller, closedBy, longBooked, shortBooked, isClosingError, tradeKind, tradeReply, tradePlan}
 use Rattle.rules.specs.Transfer.{transferFigures, inLong, inShort, holdsTooLittle, transferPlan}
 
 unfoldable pub Computed : Type 0
-unfolding flatMap eqZ inRange floorDiv averageOf residualOf tradesOf batchFigures batchTests excessOf excessesOf batchReply batchAnswer handleBatch viewOf handleCall requestsOf magnitudeAtMost validId validSuffix validAccount validSeries validQuantity validPrice validSide isBuy isToClose validCount planOf soundnessTests refusals planTables answer handle below same isSome atLeast rising find greatest upsert upsertAll absentFrom encode roomFor roomOf rowsOf countIsSound write oneMoreLink originVia originOf lineageReply lineagePlan pairsOf validPair mergeFigures sourcesOf recordsOf isMissing closes isAmong stoodEarlier firstOf sideDiffers sumOfQuantities sumOfValues timesIn mergeInverses mergedRecord mergeResidual mergePlan noRecord theRecord isElsewhere isNotAdjustable nextSuffix suffixIsAbove bookingTests planTests booked planBooks planReply test anyOf allOf firstPlace testEach firstRefusal refusedBy validKind validStatus validSignedQuantity validBooked validInto validParent soundRecord soundPosition zeroPosition orZeros moved adjustedRecord newRecord inverseRecord adjustableRecord afterReply run goesOn untilRefused sumOf separationFigures partRecords separationPlan recordCells positionCells soundTable soundRecords soundPositions booksOf writeBooks idsOf positionsOf isNamedIn shareId sharePosition touch callIds callPositions callsTouch tradeFigures openAgainst smaller closedBy longBooked shortBooked isClosingError tradeKind tradeReply tradePlan transferFigures inLong inShort holdsTooLittle transferPlan
+unfolding flatMap eqZ inRange floorDiv averageOf residualOf tradesOf batchFigures batchTests excessOf excessesOf batchReply batchAnswer handleBatch viewOf handleCall requestsOf magnitudeAtMost validId validSuffix validAccount validSeries validQuantity validPrice validSide isBuy isToClose validCount giveUpFigures isAt hasTurn hasFigures mayStep isOutOfTurn stepped isComplete stepStatusTest recordAfter finished giveUpEffects processBefore giveUpPlan planOf soundProcessesTest soundnessTests refusals writtenBy planTables answer handle below same isSome atLeast rising find greatest upsert upsertAll absentFrom encode roomFor roomOf rowsOf countIsSound write oneMoreLink originVia originOf lineageReply lineagePlan pairsOf validPair mergeFigures sourcesOf recordsOf isMissing firstStatusRefusal statusOfEach closes isAmong stoodEarlier firstOf sideDiffers sumOfQuantities sumOfValues timesIn mergeInverses mergedRecord mergeResidual mergePlan noRecord theRecord isElsewhere isNotAdjustable statusRefusal statusTest nextSuffix suffixIsAbove processRoomTest bookingTests planTests putProcess booked planBooks planReply stageNumber validStage validApproval soundProcess openedProcess theProcess test anyOf allOf firstPlace testEach firstRefusal refusedBy validKind validStatus validSignedQuantity validBooked validInto validParent soundRecord soundPosition zeroPosition orZeros moved adjustedRecord newRecord inverseRecord adjustableRecord afterReply run goesOn untilRefused sumOf separationFigures partRecords separationPlan recordCells positionCells processCells soundTable soundRecords soundPositions soundProcesses booksOf writeBooks idsOf positionsOf isNamedIn shareId sharePosition touch callIds callPositions callsTouch tradeFigures openAgainst smaller closedBy longBooked shortBooked isClosingError tradeKind tradeReply tradePlan transferFigures inLong inShort holdsTooLittle transferPlan
 Computed = Unit {0}

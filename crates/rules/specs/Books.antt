@@ -5,25 +5,34 @@ use mathlib.Core.Option.{Option}
 use lib.IntN.{ℤ}
 use Rattle.rules.specs.Keyed.{find, greatest}
 use Rattle.rules.specs.Rows.{keyOf, recordKey, positionKey, orZeros}
+use Rattle.rules.specs.ProcessRows.{processKey}
 use Rattle.rules.specs.declared.Record.{Record}
 use Rattle.rules.specs.declared.Position.{Position}
+use Rattle.rules.specs.declared.ProcessRow.{ProcessRow}
 
--- The rows of both tables, and how many rows each has room for.
+-- The rows of the three tables, and how many rows each has room for.
 pub record Books : Type 0 where
   pub records : List Record
   pub positions : List Position
+  pub processes : List ProcessRow
   pub recordsRoom : ℕ
   pub positionsRoom : ℕ
+  pub processesRoom : ℕ
 
--- The only ways in which a request looks at the books: the record of an id and suffix, the greatest suffix of an id, the position of an account and series.
+-- The only ways in which a request looks at the books: the record of an id and suffix, the greatest suffix of an id, the position of an account and series; and a step
+-- of a give-up also at the process of a process id and transaction id, and at the transaction id that a process id is used for.
 pub record View : Type 0 where
   pub recordAt : ℤ → ℤ → Option Record
   pub greatestSuffix : ℤ → Option ℤ
   pub positionAt : ℤ → ℤ → Position
+  pub processAt : ℤ → ℤ → Option ProcessRow
+  pub transactionOf : ℤ → Option ℤ
 
 unfoldable pub viewOf : Books → View
 viewOf b = record {
   recordAt = λ id suffix. find recordKey (keyOf id suffix) (b .records);
   greatestSuffix = λ id. greatest recordKey id (b .records);
   positionAt = λ account series. orZeros account series (find positionKey (keyOf account series) (b .positions));
+  processAt = λ process id. find processKey (keyOf process id) (b .processes);
+  transactionOf = λ process. greatest processKey process (b .processes);
 }

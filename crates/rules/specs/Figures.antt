@@ -53,7 +53,7 @@ isToClose side = eqZ side (pos 3) || eqZ side (pos 4)
 unfoldable pub validCount : ℕ → Bool
 validCount n = leb 2 n && leb n 1000
 
--- Status: 0 adjustable, 1 adjusted, 2 inverse.
+-- Status: 0 adjustable, 1 adjusted, 2 inverse; 3 while a give-up is under way (document 02, K3).
 abbrev pub adjustable : ℤ
 adjustable = pos 0
 
@@ -63,7 +63,10 @@ adjusted = pos 1
 abbrev pub inverse : ℤ
 inverse = pos 2
 
--- Type: 0 original, 4 account transfer, 6 separation, 10 closing error, 901 merge (a house code).
+abbrev pub underGiveUp : ℤ
+underGiveUp = pos 3
+
+-- Type: 0 original, 4 account transfer, 6 separation, 10 closing error, 901 merge (a house code); 20 and 30 (020 and 030) are the two rows of a give-up.
 abbrev pub originalKind : ℤ
 originalKind = pos 0
 
@@ -75,6 +78,12 @@ separationKind = pos 6
 
 abbrev pub closingErrorKind : ℤ
 closingErrorKind = pos 10
+
+abbrev pub giveUpKind : ℤ
+giveUpKind = pos 20
+
+abbrev pub takeUpKind : ℤ
+takeUpKind = pos 30
 
 abbrev pub mergeKind : ℤ
 mergeKind = pos 901

@@ -1,19 +1,21 @@
--- What a request does to the two lent tables, whatever their cells and its figures: the answer, and the tables afterwards.
+-- What a request does to the lent tables, whatever their cells and its figures: the answer, and the tables afterwards.
 use mathlib.Core.Bool.{not}
 use mathlib.Core.List.{List, [], _∷_, _++_}
 use mathlib.Core.Option.{Option, none, some}
 use lib.IntN.{ℤ}
 use Rattle.rules.specs.Refusal.{Test, test, firstRefusal}
 use Rattle.rules.specs.Reply.{refusedBy}
-use Rattle.rules.specs.Request.{Request, trade, separate, transfer, merge, lineage}
-use Rattle.rules.specs.Books.{View, viewOf}
+use Rattle.rules.specs.Request.{Request, trade, separate, transfer, merge, lineage, giveUp}
+use Rattle.rules.specs.Books.{Books, View, viewOf}
 use Rattle.rules.specs.Plan.{Plan, booking, question, planTests, planReply, booked}
 use Rattle.rules.specs.Trade.{tradePlan}
 use Rattle.rules.specs.Separation.{separationPlan}
 use Rattle.rules.specs.Transfer.{transferPlan}
 use Rattle.rules.specs.Merge.{mergePlan, sourcesOf, pairsOf}
 use Rattle.rules.specs.Lineage.{lineagePlan}
-use Rattle.rules.specs.Tables.{Tables, tablesOf, booksOf, writeBooks, soundRecords, soundPositions}
+use Rattle.rules.specs.GiveUp.{giveUpPlan}
+use Rattle.rules.specs.Tables.{Tables, tablesOf, withProcesses, booksOf, writeBooks, soundRecords, soundPositions, soundProcesses}
+use Rattle.rules.specs.declared.ProcessRow.{ProcessRow}
 use Rattle.rules.specs.declared.Reply.{Reply}
 
 -- Each request's plan, from what it sees.
@@ -27,10 +29,19 @@ planOf v (transfer id suffix from to series) =
 planOf v (merge id account series pairs) =
     mergePlan id account series pairs (v .greatestSuffix id) (sourcesOf v (pairsOf pairs)) (v .positionAt account series)
 planOf v (lineage id suffix) = lineagePlan id suffix (v .recordAt id)
+planOf v (giveUp step process id suffix giving taking series) =
+    giveUpPlan step process id suffix giving taking series
+    (v .transactionOf process) (v .processAt process id) (v .recordAt id suffix) (v .greatestSuffix id) (v .positionAt giving series) (v .positionAt taking series)
+
+-- 19: the process table; "if unsound, refused 19 after 2". It is "read by these steps only": a request that writes no process row has no such test.
+unfoldable pub soundProcessesTest : Tables → Option ProcessRow → List Test
+soundProcessesTest t none = []
+soundProcessesTest t (some p) = test 19 (not (soundProcesses (t .processes))) ∷ []
 
 -- 1: "records table not sound". 2: "positions table not sound (not for lineage)".
 unfoldable pub soundnessTests : Tables → Plan → List Test
-soundnessTests t (booking tests effects) = test 1 (not (soundRecords (t .records))) ∷ test 2 (not (soundPositions (t .positions))) ∷ []
+soundnessTests t (booking tests effects) =
+    test 1 (not (soundRecords (t .records))) ∷ test 2 (not (soundPositions (t .positions))) ∷ soundProcessesTest t (effects .process)
 soundnessTests t (question tests reply) = test 1 (not (soundRecords (t .records))) ∷ []
 
 -- Document 01's table of refusals for this plan, in its order.
@@ -47,13 +58,18 @@ pub record Answer : Type 0 where
 abbrev pub answeredBy : Reply → Tables → Answer
 answeredBy reply t = record { reply = reply; output = []; tables = t }
 
--- The same, by the cells of both tables afterwards.
+-- The same, by the cells of the two tables afterwards that a request is lent which is no step of a give-up.
 abbrev pub answered : Reply → List ℤ → List ℤ → Answer
 answered reply records positions = answeredBy reply (tablesOf records positions)
 
+-- The tables written, of which the process table by a step of a give-up alone: every cell of it stays where no process row is put.
+unfoldable pub writtenBy : Option ProcessRow → Tables → Books → Tables
+writtenBy none t b = withProcesses (t .processes) (writeBooks t b)
+writtenBy (some p) t b = writeBooks t b
+
 -- The tables that an accepted request leaves. A question never writes.
 unfoldable pub planTables : Plan → Tables → Tables
-planTables (booking tests effects) t = writeBooks t (booked effects (booksOf t))
+planTables (booking tests effects) t = writtenBy (effects .process) t (booked effects (booksOf t))
 planTables (question tests reply) t = t
 
 -- "A refused request changes nothing."

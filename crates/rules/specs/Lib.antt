@@ -1,6 +1,7 @@
 pub mod Figures
 pub mod Keyed
 pub mod Rows
+pub mod ProcessRows
 pub mod NamedRecord
 pub mod Refusal
 pub mod Reply
@@ -12,6 +13,7 @@ pub mod Separation
 pub mod Transfer
 pub mod Merge
 pub mod Lineage
+pub mod GiveUp
 pub mod Layout
 pub mod Tables
 pub mod Handle

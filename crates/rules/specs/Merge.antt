@@ -1,8 +1,8 @@
 -- Document 01, "Merge": names a new id, account, series and a list of pairs (id, suffix).
-use Prim.Native.Nat.{_%_}
+use Prim.Native.Nat.{ℕ, _%_}
 use mathlib.Core.Bool.{Bool, false, cond, not, _&&_, _||_, Bool·beq}
 use mathlib.Core.List.{List, [], _∷_, _++_, map}
-use mathlib.Core.Option.{Option}
+use mathlib.Core.Option.{Option, none}
 use lib.Dec.{eqb}
 use lib.IntN.{ℤ, pos, _+ℤ_, _*ℤ_}
 use lib.ListN.{length}
@@ -12,10 +12,10 @@ use Rattle.integers.specs.Average.{averageOf, residualOf}
 use Rattle.rules.specs.Figures.{validId, validSuffix, validAccount, validSeries, validCount, isBuy, isToClose, mostQuantity, mergeKind}
 use Rattle.rules.specs.Keyed.{Key, same, isSome}
 use Rattle.rules.specs.Rows.{keyOf, adjustedRecord, inverseRecord, newRecord, inCash, moved}
-use Rattle.rules.specs.Refusal.{test, testEach, allOf}
+use Rattle.rules.specs.Refusal.{Test, test, testEach, anyOf, allOf, firstPlace}
 use Rattle.rules.specs.Books.{View}
 use Rattle.rules.specs.Plan.{Plan, booking}
-use Rattle.rules.specs.NamedRecord.{noRecord, theRecord, nextSuffix, isElsewhere, isNotAdjustable}
+use Rattle.rules.specs.NamedRecord.{noRecord, theRecord, nextSuffix, isElsewhere, isNotAdjustable, statusRefusal}
 use Rattle.rules.specs.declared.Record.{Record}
 use Rattle.rules.specs.declared.Position.{Position}
 use Rattle.rules.specs.declared.Reply.the-variants.{Booked}
@@ -53,6 +53,14 @@ recordsOf (s ∷ rest) = theRecord (s .found) ∷ recordsOf rest
 -- 5: "no such record"
 unfoldable pub isMissing : Source → Bool
 isMissing s = not (isSome (s .found))
+
+-- 7 or 17, of the first source whose status isn't 0: "a merge's first source failing it gives number and place" (document 02, K3)
+unfoldable pub firstStatusRefusal : List Record → ℕ
+firstStatusRefusal [] = 7
+firstStatusRefusal (r ∷ rest) = cond (isNotAdjustable r) (statusRefusal (r .status)) (firstStatusRefusal rest)
+
+unfoldable pub statusOfEach : List Record → Test
+statusOfEach rs = record { number = firstStatusRefusal rs; applies = anyOf (map isNotAdjustable rs); place = firstPlace (map isNotAdjustable rs) }
 
 -- 8: "it is to close"
 unfoldable pub closes : Record → Bool
@@ -117,7 +125,7 @@ mergePlan id account series pairs newId sources p =
     ∷ test 4 (isSome newId)
     ∷ testEach 5 (map isMissing sources)
     ∷ testEach 6 (map (isElsewhere account series) rs)
-    ∷ testEach 7 (map isNotAdjustable rs)
+    ∷ statusOfEach rs
     ∷ testEach 8 (map closes rs)
     ∷ testEach 9 (stoodEarlier [] sources)
     ∷ testEach 10 (map (sideDiffers (firstOf rs)) rs)
@@ -127,5 +135,6 @@ mergePlan id account series pairs newId sources p =
       changed = map adjustedRecord rs;
       added = mergeInverses id [] sources ++ (mergedRecord id rs ∷ []);
       positions = moved p (inCash residual) ∷ [];
+      process = none;
       reply = Booked (pos (length sources) +ℤ pos 1) residual;
     })

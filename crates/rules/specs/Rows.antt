@@ -4,7 +4,7 @@ use mathlib.Core.Option.{Option, none, some}
 use lib.IntN.{ℤ, pos, negℤ, _+ℤ_}
 use lib.Signed.{ltZ}
 use Rattle.integers.specs.Order.{eqZ, inRange}
-use Rattle.rules.specs.Figures.{magnitudeAtMost, validId, validSuffix, validAccount, validSeries, validPrice, validSide, mostQuantity, adjustable, adjusted, inverse, originalKind, transferKind, separationKind, closingErrorKind, mergeKind}
+use Rattle.rules.specs.Figures.{magnitudeAtMost, validId, validSuffix, validAccount, validSeries, validPrice, validSide, mostQuantity, adjustable, adjusted, inverse, underGiveUp, originalKind, transferKind, separationKind, closingErrorKind, giveUpKind, takeUpKind, mergeKind}
 use Rattle.rules.specs.Keyed.{Key}
 use Rattle.rules.specs.declared.Record.{Record}
 use Rattle.rules.specs.declared.Position.{Position}
@@ -19,13 +19,14 @@ recordKey r = keyOf (r .id) (r .suffix)
 abbrev pub positionKey : Position → Key
 positionKey p = keyOf (p .account) (p .series)
 
--- "Type is 0 (original), 4 (account transfer), 6 (separation), 10 (closing error) or 901 (merge, a house code)."
+-- "Type is 0 (original), 4 (account transfer), 6 (separation), 10 (closing error) or 901 (merge, a house code)."; document 02, K3: "as are types 20 and 30"
 unfoldable pub validKind : ℤ → Bool
-validKind k = eqZ k originalKind || eqZ k transferKind || eqZ k separationKind || eqZ k closingErrorKind || eqZ k mergeKind
+validKind k =
+    eqZ k originalKind || eqZ k transferKind || eqZ k separationKind || eqZ k closingErrorKind || eqZ k giveUpKind || eqZ k takeUpKind || eqZ k mergeKind
 
--- "Status is 0 adjustable, 1 adjusted, 2 inverse."
+-- "Status is 0 adjustable, 1 adjusted, 2 inverse."; document 02, K3: "3, sound like 0"
 unfoldable pub validStatus : ℤ → Bool
-validStatus s = inRange adjustable inverse s
+validStatus s = inRange adjustable underGiveUp s
 
 -- "Quantity is not zero, magnitude at most 1,000,000, negative exactly where status is 2."
 unfoldable pub validSignedQuantity : ℤ → ℤ → Bool

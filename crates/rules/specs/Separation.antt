@@ -1,13 +1,13 @@
 -- Document 01, "Separation": names id, suffix, account, series and the part quantities.
 use mathlib.Core.Bool.{Bool, not, _&&_}
 use mathlib.Core.List.{List, [], _∷_, map}
-use mathlib.Core.Option.{Option}
+use mathlib.Core.Option.{Option, none}
 use lib.IntN.{ℤ, pos, _+ℤ_}
 use lib.ListN.{length}
 use Rattle.integers.specs.Order.{eqZ}
 use Rattle.rules.specs.Figures.{validId, validSuffix, validAccount, validSeries, validQuantity, validCount, separationKind}
 use Rattle.rules.specs.Keyed.{isSome}
-use Rattle.rules.specs.NamedRecord.{theRecord, nextSuffix, isElsewhere, isNotAdjustable}
+use Rattle.rules.specs.NamedRecord.{theRecord, nextSuffix, isElsewhere, statusTest}
 use Rattle.rules.specs.Rows.{adjustedRecord, inverseRecord, adjustableRecord}
 use Rattle.rules.specs.Refusal.{test, allOf}
 use Rattle.rules.specs.Plan.{Plan, booking}
@@ -38,12 +38,13 @@ separationPlan id suffix account series parts found greatest =
     (test 3 (not (separationFigures id suffix account series parts))
     ∷ test 5 (not (isSome found))
     ∷ test 6 (isElsewhere account series r)
-    ∷ test 7 (isNotAdjustable r)
+    ∷ statusTest r
     ∷ test 11 (not (eqZ (sumOf parts) (r .quantity)))
     ∷ [])
     (record {
       changed = adjustedRecord r ∷ [];
       added = inverseRecord r next separationKind (pos 0) (pos 0) (pos 0) ∷ partRecords r (next +ℤ pos 1) parts;
       positions = [];
+      process = none;
       reply = Booked (pos (length parts) +ℤ pos 1) (pos 0);
     })

@@ -7,13 +7,20 @@ use Rattle.rules.specs.Layout.{rowsOf}
 use Rattle.rules.specs.Request.{Request, trade}
 use Rattle.rules.specs.Call.{one}
 use Rattle.rules.specs.Run.{Run, run}
-use Rattle.rules.specs.Tables.{Tables, recordsLayout, positionsLayout}
+use Rattle.rules.specs.Tables.{Tables, allTables, tablesOf, recordsLayout, positionsLayout}
 use Rattle.rules.specs.declared.Record.{Record}
 use Rattle.rules.specs.declared.Position.{Position}
 
--- Two tables with room for so many rows, none of them used.
+-- Tables with so many cells after their counts, no row of them used.
+abbrev pub emptyCells : ℕ → List ℤ
+emptyCells cells = pos 0 ∷ replicate cells (pos 0)
+
+abbrev pub emptyTables : (records positions processes : ℕ) → Tables
+emptyTables records positions processes = allTables (emptyCells records) (emptyCells positions) (emptyCells processes)
+
+-- The same of the two tables that every request is lent.
 abbrev pub empty : ℕ → ℕ → Tables
-empty records positions = record { records = pos 0 ∷ replicate records (pos 0); positions = pos 0 ∷ replicate positions (pos 0) }
+empty records positions = tablesOf (emptyCells records) (emptyCells positions)
 
 abbrev pub buy : ℤ → ℤ → Request
 buy id account = trade id account (pos 1) (pos 1) (pos 100) (pos 5)

@@ -1,4 +1,4 @@
--- The two lent tables as cells: their layouts, when they are sound, and their rows.
+-- The lent tables as cells: their layouts, when they are sound, and their rows.
 use Prim.Native.Nat.{ℕ, _+_}
 use mathlib.Core.Bool.{Bool, _&&_}
 use mathlib.Core.List.{List, [], _∷_, map}
@@ -6,11 +6,13 @@ use lib.IntN.{ℤ, pos}
 use lib.ListN.{getD}
 use Rattle.rules.specs.Keyed.{Key, rising}
 use Rattle.rules.specs.Rows.{recordKey, positionKey, soundRecord, soundPosition}
+use Rattle.rules.specs.ProcessRows.{processNumber, soundProcess}
 use Rattle.rules.specs.Refusal.{allOf}
 use Rattle.rules.specs.Books.{Books}
 use Rattle.rules.specs.Layout.{Layout, roomOf, rowsOf, countIsSound, write}
 use Rattle.rules.specs.declared.Record.{Record}
 use Rattle.rules.specs.declared.Position.{Position}
+use Rattle.rules.specs.declared.ProcessRow.{ProcessRow}
 
 -- "each row has 13 cells: id, suffix, parent, type, status, account, series, side code, quantity, price, long booked, short booked, into"
 abbrev pub recordAt : List ℤ → ℕ → Record
@@ -52,12 +54,34 @@ positionAt cells at = record {
 unfoldable pub positionCells : Position → List ℤ
 positionCells p = p .account ∷ p .series ∷ p .long ∷ p .short ∷ p .cash ∷ []
 
+-- Document 02, K3: "A row's nine cells: process id, id, suffix, giving and taking account, series, the two clearing approvals, and a stage"; "the giver's approval is the seventh cell"
+abbrev pub processAt : List ℤ → ℕ → ProcessRow
+processAt cells at = record {
+  process = getD cells at (pos 0);
+  id = getD cells (at + 1) (pos 0);
+  suffix = getD cells (at + 2) (pos 0);
+  giving = getD cells (at + 3) (pos 0);
+  taking = getD cells (at + 4) (pos 0);
+  series = getD cells (at + 5) (pos 0);
+  giver = getD cells (at + 6) (pos 0);
+  taker = getD cells (at + 7) (pos 0);
+  stage = getD cells (at + 8) (pos 0);
+}
+
+unfoldable pub processCells : ProcessRow → List ℤ
+processCells p =
+    p .process ∷ p .id ∷ p .suffix ∷ p .giving ∷ p .taking ∷ p .series ∷ p .giver ∷ p .taker ∷ p .stage ∷ []
+
 -- "Room ... at most 4,096"; for positions "Room likewise, at most 1,024"
 abbrev pub recordsLayout : Layout Record
 recordsLayout = record { header = 1; width = 13; most = 4096; get = recordAt; put = recordCells }
 
 abbrev pub positionsLayout : Layout Position
 positionsLayout = record { header = 1; width = 5; most = 1024; get = positionAt; put = positionCells }
+
+-- "cell 0 the count, room at most 1,024"
+abbrev pub processesLayout : Layout ProcessRow
+processesLayout = record { header = 1; width = 9; most = 1024; get = processAt; put = processCells }
 
 -- "the slice has a cell 0, the count lies between 0 and the room, rows strictly rise", each row sound
 unfoldable pub soundTable : {Row : Type 0} → Layout Row → (Row → Key) → (Row → Bool) → List ℤ → Bool
@@ -70,25 +94,45 @@ soundRecords cells = soundTable recordsLayout recordKey soundRecord cells
 unfoldable pub soundPositions : List ℤ → Bool
 soundPositions cells = soundTable positionsLayout positionKey soundPosition cells
 
--- The two lent tables.
+-- "process ids ... strictly rising, figures in range, approvals 0 or 1, a stage below"
+unfoldable pub soundProcesses : List ℤ → Bool
+soundProcesses cells = soundTable processesLayout processNumber soundProcess cells
+
+-- The lent tables.
 pub record Tables : Type 0 where
   pub records : List ℤ
   pub positions : List ℤ
+  pub processes : List ℤ
 
-abbrev pub tablesOf : List ℤ → List ℤ → Tables
-tablesOf records positions = record { records = records; positions = positions }
+abbrev pub allTables : (records positions processes : List ℤ) → Tables
+allTables records positions processes = record { records = records; positions = positions; processes = processes }
+
+-- A process table without rows. It stands for the table where none is lent: requests other than the steps of a give-up neither read nor change it.
+abbrev pub noProcesses : List ℤ
+noProcesses = pos 0 ∷ []
+
+-- The two tables that such a request is lent.
+abbrev pub tablesOf : (records positions : List ℤ) → Tables
+tablesOf records positions = allTables records positions noProcesses
+
+-- Tables with another process table.
+abbrev pub withProcesses : List ℤ → Tables → Tables
+withProcesses processes t = allTables (t .records) (t .positions) processes
 
 -- Their rows and rooms.
 unfoldable pub booksOf : Tables → Books
 booksOf t = record {
   records = rowsOf recordsLayout (t .records);
   positions = rowsOf positionsLayout (t .positions);
+  processes = rowsOf processesLayout (t .processes);
   recordsRoom = roomOf recordsLayout (t .records);
   positionsRoom = roomOf positionsLayout (t .positions);
+  processesRoom = roomOf processesLayout (t .processes);
 }
 
 unfoldable pub writeBooks : Tables → Books → Tables
 writeBooks t b = record {
   records = write recordsLayout (t .records) (b .records);
   positions = write positionsLayout (t .positions) (b .positions);
+  processes = write processesLayout (t .processes) (b .processes);
 }

@@ -1,7 +1,7 @@
 -- Document 01, "Trade": names id, account, series, side code, quantity q, price.
 use mathlib.Core.Bool.{Bool, cond, not, _&&_}
 use mathlib.Core.List.{[], _∷_}
-use mathlib.Core.Option.{Option}
+use mathlib.Core.Option.{Option, none}
 use lib.IntN.{ℤ, pos, negℤ, _-ℤ_}
 use lib.Signed.{ltZ, leZ}
 use Rattle.rules.specs.Figures.{validId, validAccount, validSeries, validSide, validQuantity, validPrice, isBuy, isToClose, originalKind, closingErrorKind}
@@ -61,5 +61,6 @@ tradePlan id account series side quantity price greatest p =
       changed = [];
       added = newRecord id (tradeKind error) account series side quantity price long short ∷ [];
       positions = moved p (inBooked long short) ∷ [];
+      process = none;
       reply = tradeReply error (quantity -ℤ c);
     })

@@ -1,7 +1,7 @@
 -- Document 01, "Account transfer": names id, suffix, from, to, series.
 use mathlib.Core.Bool.{Bool, cond, not, _&&_}
 use mathlib.Core.List.{[], _∷_}
-use mathlib.Core.Option.{Option}
+use mathlib.Core.Option.{Option, none}
 use lib.IntN.{ℤ, pos, negℤ, _+ℤ_}
 use lib.Signed.{ltZ}
 use Rattle.integers.specs.Order.{eqZ}
@@ -10,7 +10,7 @@ use Rattle.rules.specs.Keyed.{isSome}
 use Rattle.rules.specs.Rows.{adjustedRecord, inverseRecord, adjustableRecord, inBooked, moved}
 use Rattle.rules.specs.Refusal.{test}
 use Rattle.rules.specs.Plan.{Effects, Plan, booking}
-use Rattle.rules.specs.NamedRecord.{theRecord, nextSuffix, isElsewhere, isNotAdjustable}
+use Rattle.rules.specs.NamedRecord.{theRecord, nextSuffix, isElsewhere, statusTest}
 use Rattle.rules.specs.declared.Record.{Record}
 use Rattle.rules.specs.declared.Position.{Position}
 use Rattle.rules.specs.declared.Movement.{Movement}
@@ -50,6 +50,7 @@ transferEffects inverseKind newKind r next to old new =
           moved old (inSide (r .side) (negℤ q))
           ∷ moved new (inSide (r .side) q)
           ∷ [];
+      process = none;
       reply = Booked (pos 2) (pos 0);
     }
 
@@ -61,7 +62,7 @@ transferPlan id suffix from to series found greatest old new =
     (test 3 (not (transferFigures id suffix from to series))
     ∷ test 5 (not (isSome found))
     ∷ test 6 (isElsewhere from series r)
-    ∷ test 7 (isNotAdjustable r)
+    ∷ statusTest r
     ∷ test 8 (isToClose (r .side))
     ∷ test 12 (holdsTooLittle r old)
     ∷ [])

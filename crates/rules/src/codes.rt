@@ -7,6 +7,8 @@ pub const ADJUSTED: i64 = 1;
 
 pub const INVERSE: i64 = 2;
 
+pub const UNDER_GIVE_UP: i64 = 3;
+
 // Type of a record.
 pub const ORIGINAL: i64 = 0;
 
@@ -16,7 +18,22 @@ pub const SEPARATION: i64 = 6;
 
 pub const CLOSING_ERROR: i64 = 10;
 
+pub const GIVE_UP: i64 = 20;
+
+pub const TAKE_UP: i64 = 30;
+
 pub const MERGE: i64 = 901;
+
+// Stage of a process.
+pub const PENDING: i64 = 6;
+
+pub const CLAIMED: i64 = 9;
+
+pub const REFUSED: i64 = 10;
+
+pub const CANCELLED: i64 = 12;
+
+pub const DONE: i64 = 0;
 
 // The greatest suffix, and the most that a record's quantity may be.
 pub const GREATEST_SUFFIX: i64 = 65_535;

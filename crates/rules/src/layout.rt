@@ -1,4 +1,4 @@
-// How rows lie in the two lent tables: the numbers of `recordsLayout` and `positionsLayout` in specs/Tables.antt. Promises speak by those, so that a number here which differs is refused.
+// How rows lie in the lent tables: the numbers of `recordsLayout`, `positionsLayout` and `processesLayout` in specs/Tables.antt. Promises speak by those, so that a number here which differs is refused.
 
 // Cells before the first row, cells a row, and the greatest room.
 pub const RECORDS_HEADER: usize = 1;
@@ -12,6 +12,12 @@ pub const POSITIONS_HEADER: usize = 1;
 pub const POSITION_WIDTH: usize = 5;
 
 pub const MOST_POSITIONS: usize = 1024;
+
+pub const PROCESSES_HEADER: usize = 1;
+
+pub const PROCESS_WIDTH: usize = 9;
+
+pub const MOST_PROCESSES: usize = 1024;
 
 // The cell of a record that has its status.
 pub const STATUS_CELL: usize = 4;

@@ -1,13 +1,13 @@
-// The rows of the two lent tables, and the answer to a request. What document 01 says of them stands in specs/; this crate books nothing.
+// The rows of the lent tables, the steps and stages of a give-up, and the answer to a request. What documents 01 and 02 say of them stands in specs/; this crate books nothing.
 pub mod codes; // status, type, limits
-pub mod layout; // header, width and room of the two tables
+pub mod layout; // header, width and room of the tables
 
 // A row of the records table: one transaction record. Its key is the id, then the suffix.
 pub struct Record {
     pub id: i64,
     pub suffix: i64,
     pub parent: i64,
-    // What document 01 calls the type: 0, 4, 6, 10 or 901.
+    // What document 01 calls the type: 0, 4, 6, 10 or 901; with document 02 also 20 and 30.
     pub kind: i64,
     pub status: i64,
     pub account: i64,
@@ -30,6 +30,53 @@ pub struct Position {
     pub long: i64,
     pub short: i64,
     pub cash: i64,
+}
+
+// A row of the process table: one give-up. Its key is the process id, then the id of the transaction that it names.
+pub struct ProcessRow {
+    pub process: i64,
+    pub id: i64,
+    pub suffix: i64,
+    pub giving: i64,
+    pub taking: i64,
+    pub series: i64,
+    // The approvals of the giver's and of the taker's clearing member, 0 or 1.
+    pub giver: i64,
+    pub taker: i64,
+    // The stage's number.
+    pub stage: i64,
+}
+
+// How far a give-up has come.
+pub enum Stage {
+    Pending,
+    Claimed,
+    Refused,
+    Cancelled,
+    Done,
+}
+
+// The process of a give-up by value, its stage told apart.
+pub struct Process {
+    pub process: i64,
+    pub id: i64,
+    pub suffix: i64,
+    pub giving: i64,
+    pub taking: i64,
+    pub series: i64,
+    pub giver: i64,
+    pub taker: i64,
+    pub stage: Stage,
+}
+
+// The steps of a give-up.
+pub enum Step {
+    Open,
+    Claim,
+    Cancel,
+    Refuse,
+    ApproveGiver,
+    ApproveTaker,
 }
 
 // What a request changes in a position.
