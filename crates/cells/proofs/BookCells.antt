@@ -1,18 +1,21 @@
--- Books written into the two tables are the books read again; of two writings that never shrink the second alone is seen; sound tables are what their own books write.
+-- Books written into the tables are the books read again; of two writings that never shrink the second alone is seen; sound tables are what their own books write.
 -- Assumes nothing.
 use Prim.Native.Nat.{_≤_}
 use mathlib.Core.Path.{_≡_, refl, sym, ap, _∙_}
 use mathlib.Core.Bool.{true}
+use mathlib.Core.List.{List}
+use lib.IntN.{ℤ}
 use lib.ListN.{length}
 use Rattle.rules.specs.Books.{Books}
-use Rattle.rules.specs.Layout.{roomOf, rowsOf, countIsSound, write}
-use Rattle.rules.specs.Tables.{Tables, recordsLayout, positionsLayout, booksOf, writeBooks}
-use Rattle.cells.specs.Fitting.{Fitting}
+use Rattle.rules.specs.Layout.{Layout, roomOf, rowsOf, countIsSound, write}
+use Rattle.rules.specs.Tables.{Tables, recordsLayout, positionsLayout, processesLayout, booksOf, writeBooks}
+use Rattle.cells.specs.Fitting.{Fitting, SameRooms, WithinRooms, Headers}
+use Rattle.cells.specs.Lawful.{Lawful}
 use Rattle.cells.proofs.Write.{length-write, room-write, rows-write, write-write, write-own}
-use Rattle.cells.proofs.RowCells.{records-lawful, positions-lawful}
+use Rattle.cells.proofs.RowCells.{records-lawful, positions-lawful, processes-lawful}
 
 module _ (t : Tables) where
-  -- The books of two tables, part by part.
+  -- The books of the tables, part by part.
   pub books-records : booksOf t .records ≡ rowsOf recordsLayout (t .records)
   unfolding booksOf
   books-records = refl
@@ -21,6 +24,10 @@ module _ (t : Tables) where
   unfolding booksOf
   books-positions = refl
 
+  pub books-processes : booksOf t .processes ≡ rowsOf processesLayout (t .processes)
+  unfolding booksOf
+  books-processes = refl
+
   pub books-records-room : booksOf t .recordsRoom ≡ roomOf recordsLayout (t .records)
   unfolding booksOf
   books-records-room = refl
@@ -28,6 +35,10 @@ module _ (t : Tables) where
   pub books-positions-room : booksOf t .positionsRoom ≡ roomOf positionsLayout (t .positions)
   unfolding booksOf
   books-positions-room = refl
+
+  pub books-processes-room : booksOf t .processesRoom ≡ roomOf processesLayout (t .processes)
+  unfolding booksOf
+  books-processes-room = refl
 
   -- The written tables, part by part.
   pub written-records : (b : Books) → writeBooks t b .records ≡ write recordsLayout (t .records) (b .records)
@@ -38,69 +49,62 @@ module _ (t : Tables) where
   unfolding writeBooks
   written-positions b = refl
 
+  pub written-processes : (b : Books) → writeBooks t b .processes ≡ write processesLayout (t .processes) (b .processes)
+  unfolding writeBooks
+  written-processes b = refl
+
   -- Tables are what their own books write, where the counts are sound.
-  pub write-own-books : countIsSound recordsLayout (t .records) ≡ true → countIsSound positionsLayout (t .positions) ≡ true → writeBooks t (booksOf t) ≡ t
+  pub write-own-books : countIsSound recordsLayout (t .records) ≡ true → countIsSound positionsLayout (t .positions) ≡ true → countIsSound processesLayout (t .processes) ≡ true
+      → writeBooks t (booksOf t) ≡ t
   unfolding booksOf writeBooks
-  write-own-books r p = λ i. record {
+  write-own-books r p s = λ i. record {
     records = write-own recordsLayout records-lawful (t .records) r i;
     positions = write-own positionsLayout positions-lawful (t .positions) p i;
+    processes = write-own processesLayout processes-lawful (t .processes) s i;
   }
 
-  -- Of two writings the second alone is seen, where neither table shrinks.
-  pub write-books-twice : (b b′ : Books) → recordsLayout .header ≤ length (t .records) → positionsLayout .header ≤ length (t .positions)
-      → length (b .records) ≤ length (b′ .records) → length (b .positions) ≤ length (b′ .positions)
+  -- Of two writings the second alone is seen, where no table shrinks.
+  pub write-books-twice : (b b′ : Books) → Headers t
+      → length (b .records) ≤ length (b′ .records) → length (b .positions) ≤ length (b′ .positions) → length (b .processes) ≤ length (b′ .processes)
       → writeBooks (writeBooks t b) b′ ≡ writeBooks t b′
   unfolding writeBooks
-  write-books-twice b b′ hr hp r p = λ i. record {
-    records = write-write recordsLayout records-lawful (t .records) (b .records) (b′ .records) hr r i;
-    positions = write-write positionsLayout positions-lawful (t .positions) (b .positions) (b′ .positions) hp p i;
+  write-books-twice b b′ h r p s = λ i. record {
+    records = write-write recordsLayout records-lawful (t .records) (b .records) (b′ .records) (h .records) r i;
+    positions = write-write positionsLayout positions-lawful (t .positions) (b .positions) (b′ .positions) (h .positions) p i;
+    processes = write-write processesLayout processes-lawful (t .processes) (b .processes) (b′ .processes) (h .processes) s i;
   }
 
 module _ (t : Tables) (b : Books) (fits : Fitting t b) where
   -- The rows are within the tables' rooms.
   pub records-within : length (b .records) ≤ roomOf recordsLayout (t .records)
-  records-within = rw (fits .records-room ∙ books-records-room t) at (fits .records-fit)
+  records-within = rw (fits .rooms .records ∙ books-records-room t) at (fits .within .records)
 
   pub positions-within : length (b .positions) ≤ roomOf positionsLayout (t .positions)
-  positions-within = rw (fits .positions-room ∙ books-positions-room t) at (fits .positions-fit)
+  positions-within = rw (fits .rooms .positions ∙ books-positions-room t) at (fits .within .positions)
 
-  -- The tables keep their lengths.
-  pub length-written-records : length (writeBooks t b .records) ≡ length (t .records)
-  length-written-records =
-      ap length (written-records t b) ∙ length-write recordsLayout records-lawful (t .records) (b .records) (fits .records-header) records-within
-
-  pub length-written-positions : length (writeBooks t b .positions) ≡ length (t .positions)
-  length-written-positions =
-      ap length (written-positions t b) ∙ length-write positionsLayout positions-lawful (t .positions) (b .positions) (fits .positions-header) positions-within
+  pub processes-within : length (b .processes) ≤ roomOf processesLayout (t .processes)
+  processes-within = rw (fits .rooms .processes ∙ books-processes-room t) at (fits .within .processes)
 
   -- What was written is read again.
   pub books-written : booksOf (writeBooks t b) ≡ b
   unfolding booksOf writeBooks
   books-written = λ i. record {
-    records = rows-write recordsLayout records-lawful (t .records) (b .records) (fits .records-header) i;
-    positions = rows-write positionsLayout positions-lawful (t .positions) (b .positions) (fits .positions-header) i;
+    records = rows-write recordsLayout records-lawful (t .records) (b .records) (fits .headers .records) i;
+    positions = rows-write positionsLayout positions-lawful (t .positions) (b .positions) (fits .headers .positions) i;
+    processes = rows-write processesLayout processes-lawful (t .processes) (b .processes) (fits .headers .processes) i;
     recordsRoom = records-room-kept i;
     positionsRoom = positions-room-kept i;
+    processesRoom = processes-room-kept i;
   }
     where
       records-room-kept : roomOf recordsLayout (write recordsLayout (t .records) (b .records)) ≡ b .recordsRoom
       records-room-kept =
-          room-write recordsLayout records-lawful (t .records) (b .records) (fits .records-header) records-within
-          ∙ sym (fits .records-room ∙ books-records-room t)
+          room-write recordsLayout records-lawful (t .records) (b .records) (fits .headers .records) records-within ∙ sym (fits .rooms .records ∙ books-records-room t)
 
       positions-room-kept : roomOf positionsLayout (write positionsLayout (t .positions) (b .positions)) ≡ b .positionsRoom
       positions-room-kept =
-          room-write positionsLayout positions-lawful (t .positions) (b .positions) (fits .positions-header) positions-within
-          ∙ sym (fits .positions-room ∙ books-positions-room t)
+          room-write positionsLayout positions-lawful (t .positions) (b .positions) (fits .headers .positions) positions-within ∙ sym (fits .rooms .positions ∙ books-positions-room t)
 
-  -- Later books of the same rooms fit the written tables.
-  pub fitting-next : (b′ : Books) → b′ .recordsRoom ≡ b .recordsRoom → b′ .positionsRoom ≡ b .positionsRoom
-      → length (b′ .records) ≤ b′ .recordsRoom → length (b′ .positions) ≤ b′ .positionsRoom → Fitting (writeBooks t b) b′
-  fitting-next b′ er ep fr fp = record {
-    records-header = rw length-written-records (fits .records-header);
-    positions-header = rw length-written-positions (fits .positions-header);
-    records-room = er ∙ ap (λ (c : Books). c .recordsRoom) (sym books-written);
-    positions-room = ep ∙ ap (λ (c : Books). c .positionsRoom) (sym books-written);
-    records-fit = fr;
-    positions-fit = fp;
-  }
+      processes-room-kept : roomOf processesLayout (write processesLayout (t .processes) (b .processes)) ≡ b .processesRoom
+      processes-room-kept =
+          room-write processesLayout processes-lawful (t .processes) (b .processes) (fits .headers .processes) processes-within ∙ sym (fits .rooms .processes ∙ books-processes-room t)

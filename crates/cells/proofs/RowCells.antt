@@ -1,4 +1,4 @@
--- The two tables' layouts are lawful. A row's cells one by one: those read from a place on are the part of the list that begins there.
+-- The tables' layouts are lawful. A row's cells one by one: those read from a place on are the part of the list that begins there.
 -- Assumes nothing.
 use Prim.Native.Nat.{ℕ, zero, suc, _+_, _≤_, _<_}
 use native.Mathlib.Omega.{arith}
@@ -7,9 +7,10 @@ use mathlib.Core.List.{List, [], _∷_, _++_}
 use lib.IntN.{ℤ, pos}
 use lib.ListN.{length, take, drop, getD}
 use lib.Seq.{drop-cons, getD-append-seam, getD-append-add}
-use Rattle.rules.specs.Tables.{recordAt, recordCells, positionAt, positionCells, recordsLayout, positionsLayout}
+use Rattle.rules.specs.Tables.{recordAt, recordCells, positionAt, positionCells, processAt, processCells, recordsLayout, positionsLayout, processesLayout}
 use Rattle.rules.specs.declared.Record.{Record}
 use Rattle.rules.specs.declared.Position.{Position}
+use Rattle.rules.specs.declared.ProcessRow.{ProcessRow}
 use Rattle.cells.specs.Lawful.{Lawful}
 
 -- k cells, the first of them i cells past a place.
@@ -77,4 +78,25 @@ positions-lawful = record {
   put-length = length-positionCells;
   put-get = positionCells-positionAt;
   get-put = positionAt-positionCells;
+}
+
+pub length-processCells : (r : ProcessRow) → length (processCells r) ≡ 9
+unfolding processCells
+length-processCells r = refl
+
+pub processCells-processAt : (xs : List ℤ) (at : ℕ) → at + 9 ≤ length xs → processCells (processAt xs at) ≡ take 9 (drop at xs)
+unfolding processCells
+processCells-processAt xs at h = cells-at 8 at xs h
+
+pub processAt-processCells : (p q : List ℤ) (r : ProcessRow) → processAt (p ++ (processCells r ++ q)) (length p) ≡ r
+unfolding processCells
+processAt-processCells p q r = simp (getD-append-seam, getD-append-add)
+
+pub processes-lawful : Lawful processesLayout
+processes-lawful = record {
+  wide = omega arith;
+  counted = omega arith;
+  put-length = length-processCells;
+  put-get = processCells-processAt;
+  get-put = processAt-processCells;
 }

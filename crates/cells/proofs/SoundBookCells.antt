@@ -7,11 +7,12 @@ use lib.ListN.{length}
 use Rattle.rules.specs.Keyed.{rising}
 use Rattle.rules.specs.Refusal.{allOf}
 use Rattle.rules.specs.Rows.{recordKey, positionKey, soundRecord, soundPosition}
+use Rattle.rules.specs.ProcessRows.{processNumber, soundProcess}
 use Rattle.rules.specs.Books.{Books}
-use Rattle.rules.specs.Tables.{Tables, soundRecords, soundPositions, booksOf, writeBooks}
-use Rattle.cells.specs.Fitting.{Fitting}
-use Rattle.cells.proofs.SoundCells.{records-known, positions-known, write-sound-records, write-sound-positions}
-use Rattle.cells.proofs.BookCells.{records-within, positions-within, written-records, written-positions, write-own-books}
+use Rattle.rules.specs.Tables.{Tables, soundRecords, soundPositions, soundProcesses, booksOf, writeBooks}
+use Rattle.cells.specs.Fitting.{Fitting, SameRooms, WithinRooms, Headers}
+use Rattle.cells.proofs.SoundCells.{records-known, positions-known, processes-known, write-sound-records, write-sound-positions, write-sound-processes}
+use Rattle.cells.proofs.BookCells.{records-within, positions-within, processes-within, written-records, written-positions, written-processes, write-own-books}
 
 module _ (t : Tables) where
   pub books-records-rise : soundRecords (t .records) ≡ true → rising recordKey (booksOf t .records) ≡ true
@@ -38,31 +39,43 @@ module _ (t : Tables) where
   unfolding booksOf
   books-positions-fit sound = positions-known (t .positions) sound .rows-fit
 
-  module _ (rs : soundRecords (t .records) ≡ true) (ps : soundPositions (t .positions) ≡ true) where
-    -- Books of the same rooms, with rows within them, fit.
-    pub fitting : (b : Books) → b .recordsRoom ≡ booksOf t .recordsRoom → b .positionsRoom ≡ booksOf t .positionsRoom
-        → length (b .records) ≤ b .recordsRoom → length (b .positions) ≤ b .positionsRoom → Fitting t b
-    fitting b er ep fr fp = record {
-      records-header = records-known (t .records) rs .header-within;
-      positions-header = positions-known (t .positions) ps .header-within;
-      records-room = er;
-      positions-room = ep;
-      records-fit = fr;
-      positions-fit = fp;
+  pub books-processes-rise : soundProcesses (t .processes) ≡ true → rising processNumber (booksOf t .processes) ≡ true
+  unfolding booksOf
+  books-processes-rise sound = processes-known (t .processes) sound .rows-rise
+
+  pub books-processes-sound : soundProcesses (t .processes) ≡ true → allOf (map soundProcess (booksOf t .processes)) ≡ true
+  unfolding booksOf
+  books-processes-sound sound = processes-known (t .processes) sound .rows-sound
+
+  pub books-processes-fit : soundProcesses (t .processes) ≡ true → length (booksOf t .processes) ≤ booksOf t .processesRoom
+  unfolding booksOf
+  books-processes-fit sound = processes-known (t .processes) sound .rows-fit
+
+  module _ (rs : soundRecords (t .records) ≡ true) (ps : soundPositions (t .positions) ≡ true) (qs : soundProcesses (t .processes) ≡ true) where
+    pub sound-headers : Headers t
+    sound-headers = record {
+      records = records-known (t .records) rs .header-within;
+      positions = positions-known (t .positions) ps .header-within;
+      processes = processes-known (t .processes) qs .header-within;
     }
 
-    pub fitting-own : Fitting t (booksOf t)
-    fitting-own = fitting (booksOf t) refl refl (books-records-fit rs) (books-positions-fit ps)
+    -- Books of the same rooms, with rows within them, fit.
+    pub fitting : (b : Books) → SameRooms b (booksOf t) → WithinRooms b → Fitting t b
+    fitting b rooms within = record { headers = sound-headers; rooms = rooms; within = within }
 
     -- Sound tables are what their own books write.
     pub write-sound-own : writeBooks t (booksOf t) ≡ t
-    write-sound-own = write-own-books t (records-known (t .records) rs .count-sound) (positions-known (t .positions) ps .count-sound)
+    write-sound-own = write-own-books t (records-known (t .records) rs .count-sound) (positions-known (t .positions) ps .count-sound) (processes-known (t .processes) qs .count-sound)
 
 module _ (t : Tables) (b : Books) (fits : Fitting t b) where
   pub sound-written-records : rising recordKey (b .records) ≡ true → allOf (map soundRecord (b .records)) ≡ true → soundRecords (writeBooks t b .records) ≡ true
   sound-written-records r a =
-      rw (written-records t b) (write-sound-records (t .records) (b .records) (fits .records-header) (records-within t b fits) r a)
+      rw (written-records t b) (write-sound-records (t .records) (b .records) (fits .headers .records) (records-within t b fits) r a)
 
   pub sound-written-positions : rising positionKey (b .positions) ≡ true → allOf (map soundPosition (b .positions)) ≡ true → soundPositions (writeBooks t b .positions) ≡ true
   sound-written-positions r a =
-      rw (written-positions t b) (write-sound-positions (t .positions) (b .positions) (fits .positions-header) (positions-within t b fits) r a)
+      rw (written-positions t b) (write-sound-positions (t .positions) (b .positions) (fits .headers .positions) (positions-within t b fits) r a)
+
+  pub sound-written-processes : rising processNumber (b .processes) ≡ true → allOf (map soundProcess (b .processes)) ≡ true → soundProcesses (writeBooks t b .processes) ≡ true
+  sound-written-processes r a =
+      rw (written-processes t b) (write-sound-processes (t .processes) (b .processes) (fits .headers .processes) (processes-within t b fits) r a)

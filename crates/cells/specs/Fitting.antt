@@ -1,14 +1,29 @@
--- Books that can be written into two tables: each table has its header, the books' rooms are the tables', and the rows are within them.
+-- Books that can be written into the tables: each table has its header, the books' rooms are the tables', and the rows are within them.
 use Prim.Native.Nat.{_≤_}
 use mathlib.Core.Path.{_≡_}
 use lib.ListN.{length}
 use Rattle.rules.specs.Books.{Books}
-use Rattle.rules.specs.Tables.{Tables, recordsLayout, positionsLayout, booksOf}
+use Rattle.rules.specs.Tables.{Tables, recordsLayout, positionsLayout, processesLayout, booksOf}
+
+-- Books with the rooms of others.
+pub record SameRooms (b c : Books) : Type 0 where
+  pub records : b .recordsRoom ≡ c .recordsRoom
+  pub positions : b .positionsRoom ≡ c .positionsRoom
+  pub processes : b .processesRoom ≡ c .processesRoom
+
+-- The rows of books are within their rooms.
+pub record WithinRooms (b : Books) : Type 0 where
+  pub records : length (b .records) ≤ b .recordsRoom
+  pub positions : length (b .positions) ≤ b .positionsRoom
+  pub processes : length (b .processes) ≤ b .processesRoom
+
+-- Each table has its header.
+pub record Headers (t : Tables) : Type 0 where
+  pub records : recordsLayout .header ≤ length (t .records)
+  pub positions : positionsLayout .header ≤ length (t .positions)
+  pub processes : processesLayout .header ≤ length (t .processes)
 
 pub record Fitting (t : Tables) (b : Books) : Type 0 where
-  pub records-header : recordsLayout .header ≤ length (t .records)
-  pub positions-header : positionsLayout .header ≤ length (t .positions)
-  pub records-room : b .recordsRoom ≡ booksOf t .recordsRoom
-  pub positions-room : b .positionsRoom ≡ booksOf t .positionsRoom
-  pub records-fit : length (b .records) ≤ b .recordsRoom
-  pub positions-fit : length (b .positions) ≤ b .positionsRoom
+  pub headers : Headers t
+  pub rooms : SameRooms b (booksOf t)
+  pub within : WithinRooms b

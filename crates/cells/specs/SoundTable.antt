@@ -8,8 +8,9 @@ use lib.ListN.{length}
 use Rattle.rules.specs.Keyed.{Key, rising}
 use Rattle.rules.specs.Refusal.{allOf}
 use Rattle.rules.specs.Rows.{recordKey, positionKey, soundRecord, soundPosition}
+use Rattle.rules.specs.ProcessRows.{processNumber, soundProcess}
 use Rattle.rules.specs.Layout.{Layout, countOf, startOf, roomOf, rowsOf, countIsSound}
-use Rattle.rules.specs.Tables.{recordsLayout, positionsLayout}
+use Rattle.rules.specs.Tables.{recordsLayout, positionsLayout, processesLayout}
 
 pub record SoundTable {Row : Type 0} (l : Layout Row) (key : Row → Key) (soundRow : Row → Bool) (cells : List ℤ) : Type 0 where
   pub count-sound : countIsSound l cells ≡ true
@@ -25,3 +26,6 @@ SoundRecords cells = SoundTable recordsLayout recordKey soundRecord cells
 
 abbrev pub SoundPositions : List ℤ → Type 0
 SoundPositions cells = SoundTable positionsLayout positionKey soundPosition cells
+
+abbrev pub SoundProcesses : List ℤ → Type 0
+SoundProcesses cells = SoundTable processesLayout processNumber soundProcess cells
