@@ -1,18 +1,20 @@
--- What acceptance says: no test of the list applies. In a plan that books these are its own tests and then the four of the booking (13 to 16).
+-- What acceptance says: no test of the list applies. In a plan that books these are its own tests and then those of the booking (13 to 16, and 23 of a step of a give-up).
 -- By induction on the tests. Assumes nothing.
 use Prim.Native.Nat.{_+_, _≤_}
 use mathlib.Core.Path.{_≡_, refl, sym, _∙_}
 use mathlib.Core.Bool.{Bool, true, false, _&&_}
 use mathlib.Core.List.{List, [], _∷_, _++_, map}
 use mathlib.Core.Logic.{_⊎_, inl, inr}
-use mathlib.Core.Option.{none, some}
+use mathlib.Core.Option.{Option, none, some}
 use lib.ListN.{length}
 use borrow.Author.Tests.{ltb-false, not-false}
 use Rattle.rules.specs.Keyed.{absentFrom}
 use Rattle.rules.specs.Rows.{positionKey, soundPosition}
+use Rattle.rules.specs.ProcessRows.{processKey}
 use Rattle.rules.specs.Refusal.{Test, test, anyOf, allOf, firstRefusal}
 use Rattle.rules.specs.Books.{Books}
-use Rattle.rules.specs.Plan.{Effects, booking, suffixIsAbove, bookingTests, planTests}
+use Rattle.rules.specs.Plan.{Effects, booking, suffixIsAbove, processRoomTest, bookingTests, planTests}
+use Rattle.rules.specs.declared.ProcessRow.{ProcessRow}
 use Rattle.keys.proofs.Split.{split, none-some, and-left, and-right, or-false-left, or-false-right, cond-true, cond-false}
 use Rattle.keys.proofs.Clauses.{allOf-intro, allOf-head, allOf-tail}
 
@@ -74,12 +76,23 @@ allOf-append p (x ∷ rest) ys h k =
 
 -- ---- plans that book
 
--- What tests 13 to 16 say where none of them applies.
+-- What test 23 says: there is room for the process row of a step, where there is one.
+abbrev pub ProcessRoom : Books → Option ProcessRow → Type 0
+ProcessRoom b none = Unit {0}
+ProcessRoom b (some p) = length (b .processes) + absentFrom processKey (b .processes) (p ∷ []) ≤ b .processesRoom
+
+process-room : (b : Books) (o : Option ProcessRow) → Passed (processRoomTest b o) → ProcessRoom b o
+unfolding processRoomTest test
+process-room b none h = tt
+process-room b (some p) h = ltb-false (b .processesRoom) (length (b .processes) + absentFrom processKey (b .processes) (p ∷ [])) (h .0)
+
+-- What tests 13 to 16 and 23 say where none of them applies.
 pub record BookingPassed (b : Books) (e : Effects) : Type 0 where
   pub suffixes : anyOf (map suffixIsAbove (e .added)) ≡ false
   pub records-room : length (b .records) + length (e .added) ≤ b .recordsRoom
   pub positions-room : length (b .positions) + absentFrom positionKey (b .positions) (e .positions) ≤ b .positionsRoom
   pub positions-sound : allOf (map soundPosition (e .positions)) ≡ true
+  pub process-room : ProcessRoom b (e .process)
 
 -- Of an accepted plan that books: its own tests, and those of the booking.
 pub own-passed : (b : Books) (tests : List Test) (e : Effects) → firstRefusal (planTests b (booking tests e)) ≡ none → Passed tests
@@ -95,4 +108,5 @@ booking-passed b tests e h =
       records-room = ltb-false (b .recordsRoom) (length (b .records) + length (e .added)) (p .1 .0);
       positions-room = ltb-false (b .positionsRoom) (length (b .positions) + absentFrom positionKey (b .positions) (e .positions)) (p .1 .1 .0);
       positions-sound = not-false (allOf (map soundPosition (e .positions))) (p .1 .1 .1 .0);
+      process-room = process-room b (e .process) (p .1 .1 .1 .1);
     }

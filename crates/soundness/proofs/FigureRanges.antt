@@ -10,7 +10,7 @@ use Rattle.integers.proofs.Linear.{zarith, neg-lin}
 use Rattle.integers.proofs.Parts.{true-eqZ, false-eqZ}
 use Rattle.integers.proofs.Order.{inRange-true, true-inRange, lt-ltZ, le-ltZ}
 use Rattle.integers.proofs.Products.{natAbs-≤, ≤-natAbs}
-use Rattle.rules.specs.Figures.{magnitudeAtMost, validSuffix, validQuantity, validPrice, mostQuantity, greatestOfSuffixes, adjustable, inverse}
+use Rattle.rules.specs.Figures.{magnitudeAtMost, validSuffix, validQuantity, validPrice, mostQuantity, greatestOfSuffixes, inverse}
 use Rattle.rules.specs.Rows.{validSignedQuantity, validBooked, validParent}
 use Rattle.keys.proofs.Split.{and-intro, and-left, and-right, or-left}
 
@@ -37,17 +37,17 @@ beq-false true true e h = e
 beq-false true false e h = sym h
 beq-false false b e h = refl
 
--- The quantity of a row that can be adjusted.
-pub signed-range : (q : ℤ) → validSignedQuantity adjustable q ≡ true → (pos 1 ≤ℤ q) × (q ≤ℤ pos mostQuantity)
+-- The quantity of a row that isn't inverse.
+pub signed-range : (status q : ℤ) → eqZ status inverse ≡ false → validSignedQuantity status q ≡ true → (pos 1 ≤ℤ q) × (q ≤ℤ pos mostQuantity)
 unfolding validSignedQuantity
-signed-range q h =
+signed-range status q s h =
     let some : Bool = not (eqZ q (pos 0)) in
     let small : Bool = magnitudeAtMost mostQuantity q in
-    let sign : Bool = Bool·beq (ltZ q (pos 0)) (eqZ adjustable inverse) in
+    let sign : Bool = Bool·beq (ltZ q (pos 0)) (eqZ status inverse) in
     let first : (some && small) ≡ true = and-left (some && small) sign h in
     let nonzero : eqZ q (pos 0) ≡ false = not-true (eqZ q (pos 0)) (and-left some small first) in
     let range : (negℤ (pos mostQuantity) ≤ℤ q) × (q ≤ℤ pos mostQuantity) = magnitude-range mostQuantity q (and-right some small first) in
-    let plus : ltZ q (pos 0) ≡ false = beq-false (ltZ q (pos 0)) (eqZ adjustable inverse) (false-eqZ adjustable inverse (omega zarith)) (and-right (some && small) sign h) in
+    let plus : ltZ q (pos 0) ≡ false = beq-false (ltZ q (pos 0)) (eqZ status inverse) s (and-right (some && small) sign h) in
     (omega zarith, range .1)
 
 -- A positive quantity is right in a row that isn't inverse, its negative in one that is.

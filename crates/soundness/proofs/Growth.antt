@@ -1,19 +1,26 @@
 -- How many rows an accepted request adds to sound books: each table grows by the new rows of the plan, and the records table by what the answer says.
 -- From the facts of the plan and the counts of keyed tables. Assumes nothing.
 use Prim.Native.Nat.{ℕ, _+_}
+use mathlib.Core.Bool.{true}
 use mathlib.Core.Path.{_≡_, sym, _∙_, ap, subst}
-use mathlib.Core.List.{List}
+use mathlib.Core.List.{List, [], _∷_}
+use mathlib.Core.Option.{Option, none, some}
 use lib.IntN.{ℤ, pos, natAbs, _+ℤ_, +ℤ-idr}
 use lib.ListN.{length}
-use Rattle.rules.specs.Keyed.{absentFrom}
+use native.Mathlib.Omega.{arith}
+use Rattle.rules.specs.Keyed.{rising, upsert, absentFrom}
 use Rattle.rules.specs.Rows.{recordKey, positionKey}
+use Rattle.rules.specs.ProcessRows.{processKey}
 use Rattle.rules.specs.Refusal.{Test}
 use Rattle.rules.specs.Request.{Request}
 use Rattle.rules.specs.Books.{Books}
-use Rattle.rules.specs.Plan.{Effects, Plan, booking, question, booked, planBooks, planReply}
+use Rattle.rules.specs.Plan.{Effects, Plan, booking, question, putProcess, booked, planBooks, planReply}
+use Rattle.rules.specs.declared.ProcessRow.{ProcessRow}
 use Rattle.rules.specs.declared.Reply.{Reply}
 use Rattle.rules.specs.declared.Reply.the-variants.{Booked, ClosingError}
-use Rattle.keys.proofs.Counts.{upsertAll-replaces-adds, upsertAll-counts}
+use Rattle.keys.proofs.Clauses.{allOf-nil, upsertAll-nil, upsertAll-cons}
+use Rattle.keys.proofs.Counts.{distinct-nil, distinct-intro, upsertAll-replaces-adds, upsertAll-counts}
+use Rattle.keys.proofs.FirstFigures.{rises-by-key}
 use Rattle.soundness.specs.SoundBooks.{SoundBooks, planOn, Accepts, after}
 use Rattle.soundness.specs.RowsAnswered.{rowsAnswered}
 use Rattle.soundness.proofs.BookingFacts.{BookingFacts, PlanFacts}
@@ -30,6 +37,24 @@ pub facts-positions-grow : (b : Books) → SoundBooks b → (e : Effects) → Bo
     length (booked e b .positions) ≡ length (b .positions) + absentFrom positionKey (b .positions) (e .positions)
 unfolding booked
 facts-positions-grow b sound e f = upsertAll-counts positionKey (e .positions) (b .positions) (sound .positions-rise) (f .positions-distinct)
+
+-- The process row is one more where its key is new.
+abbrev pub absentProcess : List ProcessRow → Option ProcessRow → ℕ
+absentProcess rows none = 0
+absentProcess rows (some p) = absentFrom processKey rows (p ∷ [])
+
+pub processes-grow : (b : Books) → SoundBooks b → (e : Effects) → length (booked e b .processes) ≡ length (b .processes) + absentProcess (b .processes) (e .process)
+unfolding booked putProcess
+processes-grow b sound e = go (e .process)
+  where
+    rise : rising processKey (b .processes) ≡ true
+    rise = rises-by-key processKey (b .processes) (sound .processes-rise)
+
+    go : (o : Option ProcessRow) → length (putProcess o (b .processes)) ≡ length (b .processes) + absentProcess (b .processes) o
+    go none = omega arith
+    go (some p) =
+        ap (λ (rows : List ProcessRow). length rows) (sym (upsertAll-cons processKey p [] (b .processes) ∙ upsertAll-nil processKey (upsert processKey p (b .processes))))
+        ∙ upsertAll-counts processKey (p ∷ []) (b .processes) rise (distinct-intro processKey p [] allOf-nil (distinct-nil processKey))
 
 -- ---- of an accepted request
 

@@ -1,20 +1,43 @@
--- Sound books stay sound under every accepted request: rows keep rising, every row that is put is sound, and both tables fit their rooms (tests 14 and 15).
--- From the facts of the plan, its growth, and tests 13 to 16. Assumes nothing.
+-- Sound books stay sound under every accepted request: rows keep rising, every row that is put is sound, and the tables fit their rooms (tests 14, 15 and 23).
+-- From the facts of the plan, its growth, and tests 13 to 16 and 23. Assumes nothing.
 use mathlib.Core.Path.{_≡_}
-use mathlib.Core.List.{_++_}
-use mathlib.Core.Option.{none}
+use mathlib.Core.Bool.{true}
+use mathlib.Core.List.{_++_, map}
+use mathlib.Core.Option.{Option, none, some}
+use Prim.Native.Nat.{_+_, _≤_}
+use lib.ListN.{length}
 use native.Mathlib.Omega.{arith}
 use Rattle.rules.specs.Rows.{recordKey, positionKey, soundRecord, soundPosition}
-use Rattle.rules.specs.Refusal.{firstRefusal}
+use Rattle.rules.specs.Keyed.{rising}
+use Rattle.rules.specs.ProcessRows.{processKey, processNumber, soundProcess}
+use Rattle.rules.specs.Refusal.{allOf, firstRefusal}
 use Rattle.rules.specs.Request.{Request}
 use Rattle.rules.specs.Books.{Books}
-use Rattle.rules.specs.Plan.{Effects, Plan, booking, question, booked, planTests, planBooks}
+use Rattle.rules.specs.Plan.{Effects, Plan, booking, question, putProcess, booked, planTests, planBooks}
+use Rattle.rules.specs.declared.ProcessRow.{ProcessRow}
 use Rattle.keys.proofs.Folds.{upsertAll-rises, all-upsertAll}
+use Rattle.keys.proofs.Lookup.{all-upsert}
 use Rattle.soundness.specs.SoundBooks.{SoundBooks, planOn, Accepts, after}
-use Rattle.soundness.proofs.Accepted.{BookingPassed, booking-passed, allOf-append}
-use Rattle.soundness.proofs.BookingFacts.{BookingFacts, PlanFacts}
+use Rattle.soundness.proofs.Accepted.{ProcessRoom, BookingPassed, booking-passed, allOf-append}
+use Rattle.soundness.proofs.BookingFacts.{ProcessFacts, BookingFacts, PlanFacts}
 use Rattle.soundness.proofs.Requests.{plan-facts}
-use Rattle.soundness.proofs.Growth.{facts-records-grow, facts-positions-grow}
+use Rattle.soundness.proofs.Growth.{facts-records-grow, facts-positions-grow, absentProcess, processes-grow}
+
+-- The process table, with the row of a step or as it was.
+module _ (b : Books) (sound : SoundBooks b) where
+  process-rises : (o : Option ProcessRow) → ProcessFacts (b .processes) o → rising processNumber (putProcess o (b .processes)) ≡ true
+  unfolding putProcess
+  process-rises none f = sound .processes-rise
+  process-rises (some p) f = f .1
+
+  process-sound : (o : Option ProcessRow) → ProcessFacts (b .processes) o → allOf (map soundProcess (putProcess o (b .processes))) ≡ true
+  unfolding putProcess
+  process-sound none f = sound .processes-sound
+  process-sound (some p) f = all-upsert processKey soundProcess p (b .processes) (f .0) (sound .processes-sound)
+
+  process-fits : (o : Option ProcessRow) → ProcessRoom b o → length (b .processes) + absentProcess (b .processes) o ≤ b .processesRoom
+  process-fits none room = omega (arith, sound .processes-fit)
+  process-fits (some p) room = room
 
 -- The books after effects with their facts, where tests 13 to 16 do not apply.
 pub booked-sound : (b : Books) → SoundBooks b → (e : Effects) → BookingFacts b e → BookingPassed b e → SoundBooks (booked e b)
@@ -27,6 +50,9 @@ booked-sound b sound e f p = record {
   positions-rise = upsertAll-rises positionKey (e .positions) (b .positions) (sound .positions-rise);
   positions-sound = all-upsertAll positionKey soundPosition (e .positions) (b .positions) (p .positions-sound) (sound .positions-sound);
   positions-fit = omega (arith, facts-positions-grow b sound e f, p .positions-room);
+  processes-rise = process-rises b sound (e .process) (f .process-kept);
+  processes-sound = process-sound b sound (e .process) (f .process-kept);
+  processes-fit = omega (arith, processes-grow b sound e, process-fits b sound (e .process) (p .process-room));
 }
 
 pub kept : (b : Books) → SoundBooks b → (r : Request) → Accepts b r → SoundBooks (after b r)

@@ -13,6 +13,7 @@ pub mod MergeAccepted
 pub mod MergeSources
 pub mod MergeInverses
 pub mod Merge
+pub mod GiveUp
 pub mod Requests
 pub mod Growth
 pub mod Kept

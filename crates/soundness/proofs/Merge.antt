@@ -107,5 +107,6 @@ merge-facts b sound id account series pairs accepted =
       added-sound = allOf-append soundRecord inverses (merged ∷ []) (inverses-sound b id (into-valid id i) [] ks n (anyOf-first suffixIsAbove inverses (merged ∷ []) a))
           (allOf-intro (soundRecord merged) [] (merged-sound b id ks n (sources-several id account series pairs (p .figures)) i (p .sum-small)) allOf-nil);
       positions-distinct = distinct-intro positionKey (moved (readAt account series (b .positions)) (inCash (mergeResidual (recordsAt b ks)))) [] allOf-nil (distinct-nil positionKey);
+      process-kept = tt;
       answered = ap pos (omega (arith, inverses-count b id [] ks, length-append inverses (merged ∷ [])));
     }

@@ -13,7 +13,7 @@ use Rattle.rules.specs.Refusal.{test, testEach, anyOf}
 use Rattle.rules.specs.Request.{merge}
 use Rattle.rules.specs.Books.{Books, viewOf}
 use Rattle.rules.specs.Handle.{planOf}
-use Rattle.rules.specs.Merge.{Source, pairsOf, mergeFigures, sourcesOf, recordsOf, isMissing, closes, stoodEarlier, firstOf, sideDiffers, sumOfQuantities, mergePlan}
+use Rattle.rules.specs.Merge.{Source, pairsOf, mergeFigures, sourcesOf, recordsOf, isMissing, closes, stoodEarlier, firstOf, sideDiffers, sumOfQuantities, statusOfEach, mergePlan}
 use Rattle.keys.proofs.Counts.{isSome-absent}
 use Rattle.soundness.specs.SoundBooks.{Accepts}
 use Rattle.soundness.proofs.Accepted.{own-passed}
@@ -32,7 +32,7 @@ pub record MergePassed (id account series : ℤ) (pairs : List ℤ) (newId : Opt
 
 pub merge-passed : (b : Books) (id account series : ℤ) (pairs : List ℤ) → Accepts b (merge id account series pairs) →
     MergePassed id account series pairs (viewOf b .greatestSuffix id) (sourcesOf (viewOf b) (pairsOf pairs))
-unfolding planOf mergePlan test testEach
+unfolding planOf mergePlan test testEach statusOfEach
 merge-passed b id account series pairs accepted =
     let sources : List Source = sourcesOf (viewOf b) (pairsOf pairs) in
     let p = own-passed b _ _ accepted in

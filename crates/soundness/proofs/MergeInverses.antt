@@ -141,6 +141,6 @@ module _ (b : Books) (into : ℤ) where
       let up : (recordOf t k .suffix) <ℤ nextOf t (k .major) = n .0 .next-above in
       let further : nextOf t (k .major) ≤ℤ nextAfter t earlier (k .major) = next-after t earlier (k .major) in
       allOf-intro (soundRecord row) (map soundRecord rest)
-      (inverse-sound (recordOf t k) (n .0 .sound) (n .0 .status) (nextAfter t earlier (k .major)) (omega zarith)
+      (inverse-sound (recordOf t k) (n .0 .sound) (n .0 .not-inverse) (nextAfter t earlier (k .major)) (omega zarith)
       (suffix-small row (anyOf-head (suffixIsAbove row) (map suffixIsAbove rest) a)) mergeKind (pos 0) (pos 0) into merge-kind nothing-booked nothing-booked i)
       (inverses-sound i (k .major ∷ earlier) ks (n .1) (anyOf-tail (suffixIsAbove row) (map suffixIsAbove rest) a))

@@ -57,7 +57,7 @@ unfolding sourcesOf recordsOf viewOf
 sources-sound b [] n = allOf-nil
 sources-sound b (k ∷ ks) n =
     let r : Record = recordOf (b .records) k in
-    allOf-intro (soundRecord (adjustedRecord r)) (map soundRecord (map adjustedRecord (recordsAt b ks))) (adjusted-sound r (n .0 .sound) (n .0 .status)) (sources-sound b ks (n .1))
+    allOf-intro (soundRecord (adjustedRecord r)) (map soundRecord (map adjustedRecord (recordsAt b ks))) (adjusted-sound r (n .0 .sound) (n .0 .not-inverse)) (sources-sound b ks (n .1))
 
 -- ---- their sums
 

@@ -1,4 +1,4 @@
--- The record that a request names, once tests 5 and 7 do not apply, on a sound table: it stands at its key, it is sound and adjustable,
+-- The record that a request names, once tests 5 and 7 do not apply, on a sound table: it stands at its key, it is sound and not an inverse,
 -- and its id's next suffix is above its own. No row stands at the next suffix of an id or above it. Assumes nothing.
 use mathlib.Core.Path.{_≡_, sym, _∙_, ap, subst}
 use mathlib.Core.Bool.{true, false}
@@ -10,9 +10,9 @@ use lib.Signed.{leZ, _≤ℤ_, _<ℤ_, ≤ℤ-refl}
 use Rattle.integers.specs.Order.{eqZ}
 use Rattle.integers.proofs.Parts.{eqZ-true}
 use Rattle.integers.proofs.Linear.{zarith, +-lin}
-use Rattle.rules.specs.Figures.{adjustable, mostQuantity}
+use Rattle.rules.specs.Figures.{adjustable, inverse, mostQuantity}
 use Rattle.rules.specs.Keyed.{Key, find, greatest, isSome}
-use Rattle.rules.specs.Rows.{keyOf, recordKey, soundRecord, adjustedRecord}
+use Rattle.rules.specs.Rows.{keyOf, recordKey, soundRecord, withStatus, adjustedRecord}
 use Rattle.rules.specs.Refusal.{allOf}
 use Rattle.rules.specs.NamedRecord.{theRecord, isNotAdjustable, nextSuffix}
 use Rattle.rules.specs.declared.Record.{Record}
@@ -21,7 +21,7 @@ use Rattle.keys.proofs.Lookup.{find-key, find-all}
 use Rattle.keys.proofs.Greatest.{found-greatest, greatest-none, above-greatest}
 use Rattle.keys.proofs.Counts.{isSome-present}
 use Rattle.soundness.proofs.SoundRecord.{SoundRecord, record-sound}
-use Rattle.soundness.proofs.SoundRows.{quantity-of}
+use Rattle.soundness.proofs.SoundRows.{open-quantity, adjustable-open}
 
 -- The record at a key, and the next suffix of an id.
 abbrev pub recordOf : List Record → Key → Record
@@ -34,7 +34,7 @@ pub record Named (t : List Record) (k : Key) : Type 0 where
   pub stands : find recordKey k t ≡ some (recordOf t k)
   pub key : recordKey (recordOf t k) ≡ k
   pub sound : SoundRecord (recordOf t k)
-  pub status : recordOf t k .status ≡ adjustable
+  pub not-inverse : eqZ (recordOf t k .status) inverse ≡ false
   pub positive : pos 1 ≤ℤ recordOf t k .quantity
   pub small : recordOf t k .quantity ≤ℤ pos mostQuantity
   pub next-above : (recordOf t k .suffix) <ℤ nextOf t (k .major)
@@ -65,26 +65,34 @@ free-from-next t id suffix h = go (found (greatest recordKey id t))
         let k : (g +ℤ pos 1) ≤ℤ suffix = subst (λ (o : Option ℤ). nextSuffix o ≤ℤ suffix) e h in
         above-greatest recordKey id suffix g t e (omega (zarith, +-lin g (pos 1)))
 
-pub named : (t : List Record) (k : Key) → allOf (map soundRecord t) ≡ true → isSome (find recordKey k t) ≡ true → isNotAdjustable (recordOf t k) ≡ false → Named t k
-unfolding isNotAdjustable
-named t k all h n =
+-- Of any status but that of an inverse.
+pub named-open : (t : List Record) (k : Key) → allOf (map soundRecord t) ≡ true → isSome (find recordKey k t) ≡ true → eqZ (recordOf t k .status) inverse ≡ false → Named t k
+named-open t k all h n =
     let r : Record = recordOf t k in
     let f : find recordKey k t ≡ some r = record-stands t k h in
     let e : recordKey r ≡ k = find-key recordKey k t r f in
     let s : SoundRecord r = record-sound r (find-all recordKey soundRecord k t r all f) in
-    let a : r .status ≡ adjustable = eqZ-true (r .status) adjustable (not-false (eqZ (r .status) adjustable) n) in
     record {
       stands = f;
       key = e;
       sound = s;
-      status = a;
-      positive = quantity-of r s a .0;
-      small = quantity-of r s a .1;
+      not-inverse = n;
+      positive = open-quantity r s n .0;
+      small = open-quantity r s n .1;
       next-above = subst (λ (x : Key). x .minor <ℤ nextOf t (k .major)) (sym e) (stands-below-next t (k .major) (k .minor) r f);
       next-reached = subst (λ (x : Key). nextOf t (x .major) ≤ℤ nextOf t (k .major)) (sym e) (≤ℤ-refl (nextOf t (k .major)));
     }
 
--- The record in its new status has the key at which it stands.
+-- Past test 7, of status 0.
+pub named : (t : List Record) (k : Key) → allOf (map soundRecord t) ≡ true → isSome (find recordKey k t) ≡ true → isNotAdjustable (recordOf t k) ≡ false → Named t k
+unfolding isNotAdjustable
+named t k all h n =
+    named-open t k all h (adjustable-open (recordOf t k .status) (eqZ-true (recordOf t k .status) adjustable (not-false (eqZ (recordOf t k .status) adjustable) n)))
+
+-- The record in another status has the key at which it stands.
+pub restated-stands : (t : List Record) (k : Key) → Named t k → (status : ℤ) → find recordKey (recordKey (withStatus status (recordOf t k))) t ≡ some (recordOf t k)
+restated-stands t k n status = subst (λ (x : Key). find recordKey x t ≡ some (recordOf t k)) (sym (n .key)) (n .stands)
+
 pub adjusted-stands : (t : List Record) (k : Key) → Named t k → find recordKey (recordKey (adjustedRecord (recordOf t k))) t ≡ some (recordOf t k)
 unfolding adjustedRecord
 adjusted-stands t k n = subst (λ (x : Key). find recordKey x t ≡ some (recordOf t k)) (sym (n .key)) (n .stands)

@@ -2,7 +2,7 @@
 use mathlib.Core.Path.{_≡_, refl}
 use mathlib.Core.Option.{Option, none, some}
 use lib.IntN.{ℤ, pos}
-use Rattle.rules.specs.Request.{Request, trade, separate, transfer, merge, lineage}
+use Rattle.rules.specs.Request.{Request, trade, separate, transfer, merge, lineage, giveUp}
 use Rattle.rules.specs.Books.{Books}
 use Rattle.rules.specs.Handle.{planOf}
 use Rattle.rules.specs.Lineage.{Origin, lineageReply, lineagePlan}
@@ -13,6 +13,7 @@ use Rattle.soundness.proofs.Trade.{trade-facts}
 use Rattle.soundness.proofs.Separation.{separation-facts}
 use Rattle.soundness.proofs.Transfer.{transfer-facts}
 use Rattle.soundness.proofs.Merge.{merge-facts}
+use Rattle.soundness.proofs.GiveUp.{give-up-facts}
 
 -- Lineage answers no rows.
 no-rows : (o : Option Origin) → rowsAnswered (lineageReply o) ≡ pos 0
@@ -30,3 +31,4 @@ plan-facts b sound (separate id suffix account series parts) a = separation-fact
 plan-facts b sound (transfer id suffix from to series) a = transfer-facts b sound id suffix from to series a
 plan-facts b sound (merge id account series pairs) a = merge-facts b sound id account series pairs a
 plan-facts b sound (lineage id suffix) a = lineage-facts b id suffix
+plan-facts b sound (giveUp step process id suffix giving taking series) a = give-up-facts b sound step process id suffix giving taking series a

@@ -11,9 +11,9 @@ use lib.ListN.{length}
 use lib.Signed.{_≤ℤ_, _<ℤ_, ≤ℤ-refl}
 use Rattle.integers.specs.Order.{eqZ}
 use Rattle.integers.proofs.Linear.{zarith, +-lin}
-use Rattle.rules.specs.Figures.{validId, validSuffix, validAccount, validSeries, validQuantity, validCount, mostQuantity, greatestOfSuffixes, adjustable, separationKind}
+use Rattle.rules.specs.Figures.{validId, validSuffix, validAccount, validSeries, validQuantity, validCount, mostQuantity, greatestOfSuffixes, inverse, separationKind}
 use Rattle.rules.specs.Keyed.{Key, isSome, find}
-use Rattle.rules.specs.NamedRecord.{isNotAdjustable}
+use Rattle.rules.specs.NamedRecord.{isNotAdjustable, statusTest}
 use Rattle.rules.specs.Rows.{keyOf, recordKey, positionKey, adjustedRecord, inverseRecord, adjustableRecord, soundRecord, validKind}
 use Rattle.rules.specs.Refusal.{test, allOf, anyOf}
 use Rattle.rules.specs.Request.{separate}
@@ -43,7 +43,7 @@ pub record SeparationPassed (t : List Record) (id suffix : ℤ) (parts : List �
   pub record-adjustable : isNotAdjustable (recordOf t (keyOf id suffix)) ≡ false
 
 pub separation-passed : (b : Books) (id suffix account series : ℤ) (parts : List ℤ) → Accepts b (separate id suffix account series parts) → SeparationPassed (b .records) id suffix parts
-unfolding planOf separationPlan viewOf test separationFigures
+unfolding planOf separationPlan viewOf test statusTest separationFigures
 separation-passed b id suffix account series parts accepted =
     let p = own-passed b _ _ accepted in
     let figures : Bool = validId id && validSuffix suffix && validAccount account && validSeries series && validCount (length parts) in
@@ -82,7 +82,7 @@ parts-differ r suffix (q ∷ rest) =
     (before-differs (λ (id : ℤ). next) row (partRecords r next rest) (below-next suffix) (parts-later (λ (id : ℤ). next) r next rest (≤ℤ-refl next)))
     (parts-differ r next rest)
 
-parts-sound : (r : Record) (s : SoundRecord r) (e : r .status ≡ adjustable) (suffix : ℤ) (parts : List ℤ) → r .suffix <ℤ suffix →
+parts-sound : (r : Record) (s : SoundRecord r) (e : eqZ (r .status) inverse ≡ false) (suffix : ℤ) (parts : List ℤ) → r .suffix <ℤ suffix →
     anyOf (map suffixIsAbove (partRecords r suffix parts)) ≡ false → allOf (map validQuantity parts) ≡ true → allOf (map soundRecord (partRecords r suffix parts)) ≡ true
 unfolding partRecords adjustableRecord
 parts-sound r s e suffix [] h a v = allOf-nil
@@ -115,7 +115,7 @@ separation-facts b sound id suffix account series parts accepted =
     let reached : nextOf t (r .id) ≤ℤ next = n .next-reached in
     record {
       changed-present = hasAll-intro recordKey t (adjustedRecord r) r [] (adjusted-stands t k n) allOf-nil;
-      changed-sound = allOf-intro (soundRecord (adjustedRecord r)) [] (adjusted-sound r (n .sound) (n .status)) allOf-nil;
+      changed-sound = allOf-intro (soundRecord (adjustedRecord r)) [] (adjusted-sound r (n .sound) (n .not-inverse)) allOf-nil;
       added-absent = later-absent t (inverted ∷ partRecords r later parts)
           (only-intro recordKey (atLeastOf (nextOf t)) inverted (partRecords r later parts) (at-least (nextOf t) inverted reached)
           (parts-later (nextOf t) r later parts (omega (zarith, +-lin next (pos 1)))));
@@ -123,10 +123,11 @@ separation-facts b sound id suffix account series parts accepted =
           (before-differs (λ (id : ℤ). later) inverted (partRecords r later parts) (below-next next) (parts-later (λ (id : ℤ). later) r later parts (≤ℤ-refl later)))
           (parts-differ r later parts);
       added-sound = allOf-intro (soundRecord inverted) (map soundRecord (partRecords r later parts))
-          (inverse-sound r (n .sound) (n .status) next up (suffix-small inverted (anyOf-head (suffixIsAbove inverted) (map suffixIsAbove (partRecords r later parts)) a))
+          (inverse-sound r (n .sound) (n .not-inverse) next up (suffix-small inverted (anyOf-head (suffixIsAbove inverted) (map suffixIsAbove (partRecords r later parts)) a))
           separationKind (pos 0) (pos 0) (pos 0) kind-valid nothing-booked nothing-booked into-zero)
-          (parts-sound r (n .sound) (n .status) later parts (omega (zarith, +-lin next (pos 1)))
+          (parts-sound r (n .sound) (n .not-inverse) later parts (omega (zarith, +-lin next (pos 1)))
           (anyOf-tail (suffixIsAbove inverted) (map suffixIsAbove (partRecords r later parts)) a) (p .parts-valid));
       positions-distinct = distinct-nil positionKey;
+      process-kept = tt;
       answered = ap pos (omega (arith, parts-count r later parts));
     }

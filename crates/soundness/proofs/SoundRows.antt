@@ -1,13 +1,13 @@
 -- The rows that rules make are sound: a new one from its figures, an adjusted, an inverse and an adjustable one from a sound record that they come from.
 -- Cells that are copied are sound as they were; the others by their ranges. Assumes nothing.
-use mathlib.Core.Path.{_≡_, refl, subst}
+use mathlib.Core.Path.{_≡_, refl, ap}
 use mathlib.Core.Bool.{true, false}
 use lib.IntN.{ℤ, pos}
 use lib.Signed.{_≤ℤ_, _<ℤ_}
 use Rattle.integers.specs.Order.{eqZ, inRange}
 use Rattle.integers.proofs.Linear.{zarith}
-use Rattle.rules.specs.Figures.{magnitudeAtMost, validId, validSuffix, validAccount, validSeries, validPrice, validSide, mostQuantity, greatestOfSuffixes, adjustable, adjusted, inverse}
-use Rattle.rules.specs.Rows.{validKind, validStatus, validSignedQuantity, validBooked, validInto, validParent, soundRecord, adjustedRecord, newRecord, inverseRecord, adjustableRecord}
+use Rattle.rules.specs.Figures.{magnitudeAtMost, validId, validSuffix, validAccount, validSeries, validPrice, validSide, mostQuantity, greatestOfSuffixes, adjustable, adjusted, inverse, underGiveUp}
+use Rattle.rules.specs.Rows.{validKind, validStatus, validSignedQuantity, validBooked, validInto, validParent, soundRecord, withStatus, adjustedRecord, newRecord, inverseRecord, adjustableRecord}
 use Rattle.rules.specs.Plan.{suffixIsAbove}
 use Rattle.rules.specs.declared.Record.{Record}
 use Rattle.soundness.proofs.SoundRecord.{SoundRecord, sound-record}
@@ -31,6 +31,10 @@ status-inverse : validStatus inverse ≡ true
 unfolding validStatus inRange
 status-inverse = refl
 
+status-under-give-up : validStatus underGiveUp ≡ true
+unfolding validStatus inRange
+status-under-give-up = refl
+
 suffix-zero : validSuffix (pos 0) ≡ true
 unfolding validSuffix inRange
 suffix-zero = refl
@@ -47,9 +51,21 @@ pub nothing-booked : validBooked (pos 0) ≡ true
 unfolding validBooked magnitudeAtMost inRange
 nothing-booked = refl
 
--- The quantity of a sound record of status 0.
+-- A status that isn't inverse: 0, and 3 of a record under give-up.
+pub adjustable-open : (status : ℤ) → status ≡ adjustable → eqZ status inverse ≡ false
+unfolding eqZ
+adjustable-open status e = ap (λ (z : ℤ). eqZ z inverse) e
+
+pub under-give-up-open : (status : ℤ) → status ≡ underGiveUp → eqZ status inverse ≡ false
+unfolding eqZ
+under-give-up-open status e = ap (λ (z : ℤ). eqZ z inverse) e
+
+-- The quantity of a sound record that isn't inverse; of one with status 0.
+pub open-quantity : (r : Record) → SoundRecord r → eqZ (r .status) inverse ≡ false → (pos 1 ≤ℤ r .quantity) × (r .quantity ≤ℤ pos mostQuantity)
+open-quantity r s e = signed-range (r .status) (r .quantity) e (s .quantity)
+
 pub quantity-of : (r : Record) → SoundRecord r → r .status ≡ adjustable → (pos 1 ≤ℤ r .quantity) × (r .quantity ≤ℤ pos mostQuantity)
-quantity-of r s e = signed-range (r .quantity) (subst (λ (z : ℤ). validSignedQuantity z (r .quantity) ≡ true) e (s .quantity))
+quantity-of r s e = open-quantity r s (adjustable-open (r .status) e)
 
 pub new-sound : (id kind account series side quantity price long short : ℤ) →
     validId id ≡ true → validKind kind ≡ true → validAccount account ≡ true → validSeries series ≡ true → validSide side ≡ true →
@@ -75,28 +91,40 @@ new-sound id kind account series side quantity price long short i k a s d q₀ q
       parent-below = parent-zero;
     })
 
--- From a sound record of status 0.
-module _ (r : Record) (s : SoundRecord r) (e : r .status ≡ adjustable) where
-  pub adjusted-sound : soundRecord (adjustedRecord r) ≡ true
-  unfolding adjustedRecord eqZ
-  adjusted-sound =
-      sound-record (adjustedRecord r)
+-- From a sound record that isn't inverse.
+module _ (r : Record) (s : SoundRecord r) (e : eqZ (r .status) inverse ≡ false) where
+  -- In any other status that isn't inverse.
+  pub restated-sound : (status : ℤ) → validStatus status ≡ true → eqZ status inverse ≡ false → soundRecord (withStatus status r) ≡ true
+  restated-sound status valid stays =
+      sound-record (withStatus status r)
       (record {
         id = s .id;
         suffix = s .suffix;
         parent = s .parent;
         kind = s .kind;
-        status = status-adjusted;
+        status = valid;
         account = s .account;
         series = s .series;
         side = s .side;
-        quantity = in-signed adjusted (r .quantity) refl (quantity-of r s e .0) (quantity-of r s e .1);
+        quantity = in-signed status (r .quantity) stays (open-quantity r s e .0) (open-quantity r s e .1);
         price = s .price;
         long = s .long;
         short = s .short;
         into = s .into;
         parent-below = s .parent-below;
       })
+
+  pub adjusted-sound : soundRecord (adjustedRecord r) ≡ true
+  unfolding adjustedRecord eqZ
+  adjusted-sound = restated-sound adjusted status-adjusted refl
+
+  pub adjustable-again-sound : soundRecord (withStatus adjustable r) ≡ true
+  unfolding eqZ
+  adjustable-again-sound = restated-sound adjustable status-adjustable refl
+
+  pub under-give-up-sound : soundRecord (withStatus underGiveUp r) ≡ true
+  unfolding eqZ
+  under-give-up-sound = restated-sound underGiveUp status-under-give-up refl
 
   -- A row that comes out of it has a greater suffix.
   module _ (suffix : ℤ) (above : r .suffix <ℤ suffix) (small : suffix ≤ℤ greatestOfSuffixes) where
@@ -117,7 +145,7 @@ module _ (r : Record) (s : SoundRecord r) (e : r .status ≡ adjustable) where
           account = s .account;
           series = s .series;
           side = s .side;
-          quantity = inverse-signed (r .quantity) (quantity-of r s e .0) (quantity-of r s e .1);
+          quantity = inverse-signed (r .quantity) (open-quantity r s e .0) (open-quantity r s e .1);
           price = s .price;
           long = l;
           short = m;

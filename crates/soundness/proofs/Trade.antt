@@ -153,5 +153,6 @@ trade-facts b sound id account series side quantity price accepted =
           (q .0) (q .1) (p .price-valid) (long-booked side quantity c (closed .0) (closed .1) (q .1)) (short-booked side quantity c (closed .0) (closed .1) (q .1)))
           allOf-nil;
       positions-distinct = distinct-intro positionKey (moved old (inBooked long short)) [] allOf-nil (distinct-nil positionKey);
+      process-kept = tt;
       answered = one-row error (quantity -ℤ c);
     }

@@ -12,14 +12,14 @@ use Rattle.integers.proofs.Parts.{eqZ-false}
 use Rattle.integers.proofs.Linear.{zarith, neg-lin, +-lin}
 use Rattle.rules.specs.Figures.{validId, validSuffix, validAccount, validSeries, isBuy, transferKind}
 use Rattle.rules.specs.Keyed.{Key, isSome, find, same}
-use Rattle.rules.specs.NamedRecord.{isNotAdjustable}
+use Rattle.rules.specs.NamedRecord.{isNotAdjustable, statusTest}
 use Rattle.rules.specs.Rows.{keyOf, recordKey, positionKey, adjustedRecord, inverseRecord, adjustableRecord, moved, soundRecord, validKind, validBooked}
 use Rattle.rules.specs.Refusal.{test, anyOf}
 use Rattle.rules.specs.Request.{transfer}
 use Rattle.rules.specs.Books.{Books, viewOf}
 use Rattle.rules.specs.Handle.{planOf}
-use Rattle.rules.specs.Plan.{suffixIsAbove}
-use Rattle.rules.specs.Transfer.{transferFigures, inLong, inShort, inSide, transferPlan}
+use Rattle.rules.specs.Plan.{Effects, suffixIsAbove}
+use Rattle.rules.specs.Transfer.{transferFigures, inLong, inShort, inSide, transferEffects, transferPlan}
 use Rattle.rules.specs.declared.Record.{Record}
 use Rattle.rules.specs.declared.Position.{Position}
 use Rattle.keys.proofs.Split.{split, and-left, and-right}
@@ -34,7 +34,7 @@ use Rattle.soundness.proofs.FigureRanges.{in-booked}
 use Rattle.soundness.proofs.SoundRows.{suffix-small, into-zero, nothing-booked, adjusted-sound, inverse-sound, adjustable-sound}
 use Rattle.soundness.proofs.NamedRecord.{recordOf, nextOf, Named, named, adjusted-stands}
 use Rattle.soundness.proofs.LaterRows.{below-next, atLeastOf, at-least, later-absent, before-differs}
-use Rattle.soundness.proofs.BookingFacts.{PlanFacts}
+use Rattle.soundness.proofs.BookingFacts.{BookingFacts, PlanFacts}
 
 -- ---- what it has passed
 
@@ -45,7 +45,7 @@ pub record TransferPassed (t : List Record) (id suffix from to : ℤ) : Type 0 w
   pub record-adjustable : isNotAdjustable (recordOf t (keyOf id suffix)) ≡ false
 
 pub transfer-passed : (b : Books) (id suffix from to series : ℤ) → Accepts b (transfer id suffix from to series) → TransferPassed (b .records) id suffix from to
-unfolding planOf transferPlan viewOf test transferFigures
+unfolding planOf transferPlan viewOf test statusTest transferFigures
 transfer-passed b id suffix from to series accepted =
     let p = own-passed b _ _ accepted in
     let first : Bool = validId id && validSuffix suffix && validAccount from in
@@ -88,21 +88,21 @@ positions-differ old new from to series d f g =
     (ap not (same-ne (positionKey old) (positionKey new) (λ (e : positionKey old ≡ positionKey new). eqZ-false from to d (ap (λ (k : Key). k .major) (sym f ∙ e ∙ g))))) allOf-nil)
     (distinct-intro positionKey new [] allOf-nil (distinct-nil positionKey))
 
-pub transfer-facts : (b : Books) → SoundBooks b → (id suffix from to series : ℤ) → Accepts b (transfer id suffix from to series) →
-    PlanFacts b (planOn b (transfer id suffix from to series))
-unfolding planOf transferPlan viewOf inverseRecord adjustableRecord moved
-transfer-facts b sound id suffix from to series accepted =
+-- The rows of the named record, of these types, and the positions of both accounts: of a transfer, and of the step that completes a give-up.
+pub transfer-effects-facts : (b : Books) (id suffix from to series inverseKind newKind : ℤ) → Named (b .records) (keyOf id suffix)
+    → validKind inverseKind ≡ true → validKind newKind ≡ true → validAccount to ≡ true → eqZ from to ≡ false
+    → (let e : Effects = transferEffects inverseKind newKind (recordOf (b .records) (keyOf id suffix)) (nextOf (b .records) id) to (readAt from series (b .positions)) (readAt to series (b .positions)) in
+    anyOf (map suffixIsAbove (e .added)) ≡ false → BookingFacts b e)
+unfolding inverseRecord adjustableRecord moved
+transfer-effects-facts b id suffix from to series inverseKind newKind n inverse-valid new-valid to-valid accounts-differ a =
     let t : List Record = b .records in
     let k : Key = keyOf id suffix in
     let r : Record = recordOf t k in
     let q : ℤ = r .quantity in
     let next : ℤ = nextOf t id in
     let later : ℤ = next +ℤ pos 1 in
-    let inverted : Record = inverseRecord r next transferKind (inLong (r .side) (negℤ q)) (inShort (r .side) (negℤ q)) (pos 0) in
-    let arrived : Record = adjustableRecord r later transferKind to q (inLong (r .side) q) (inShort (r .side) q) in
-    let p : TransferPassed t id suffix from to = transfer-passed b id suffix from to series accepted in
-    let n : Named t k = named t k (sound .records-sound) (p .record-found) (p .record-adjustable) in
-    let a : anyOf (map suffixIsAbove (inverted ∷ arrived ∷ [])) ≡ false = booking-passed b _ _ accepted .suffixes in
+    let inverted : Record = inverseRecord r next inverseKind (inLong (r .side) (negℤ q)) (inShort (r .side) (negℤ q)) (pos 0) in
+    let arrived : Record = adjustableRecord r later newKind to q (inLong (r .side) q) (inShort (r .side) q) in
     let up : r .suffix <ℤ next = n .next-above in
     let reached : nextOf t (r .id) ≤ℤ next = n .next-reached in
     let low : pos 1 ≤ℤ q = n .positive in
@@ -111,7 +111,7 @@ transfer-facts b sound id suffix from to series accepted =
     let back : validBooked q ≡ true = in-booked q (omega zarith) high in
     record {
       changed-present = hasAll-intro recordKey t (adjustedRecord r) r [] (adjusted-stands t k n) allOf-nil;
-      changed-sound = allOf-intro (soundRecord (adjustedRecord r)) [] (adjusted-sound r (n .sound) (n .status)) allOf-nil;
+      changed-sound = allOf-intro (soundRecord (adjustedRecord r)) [] (adjusted-sound r (n .sound) (n .not-inverse)) allOf-nil;
       added-absent = later-absent t (inverted ∷ arrived ∷ [])
           (only-intro recordKey (atLeastOf (nextOf t)) inverted (arrived ∷ []) (at-least (nextOf t) inverted reached)
           (only-intro recordKey (atLeastOf (nextOf t)) arrived [] (at-least (nextOf t) arrived (omega (zarith, +-lin next (pos 1)))) allOf-nil));
@@ -120,16 +120,26 @@ transfer-facts b sound id suffix from to series accepted =
           (only-intro recordKey (atLeastOf (λ (id : ℤ). later)) arrived [] (at-least (λ (id : ℤ). later) arrived (≤ℤ-refl later)) allOf-nil))
           (distinct-intro recordKey arrived [] allOf-nil (distinct-nil recordKey));
       added-sound = allOf-intro (soundRecord inverted) (soundRecord arrived ∷ [])
-          (inverse-sound r (n .sound) (n .status) next up (suffix-small inverted (anyOf-head (suffixIsAbove inverted) (suffixIsAbove arrived ∷ []) a))
-          transferKind (inLong (r .side) (negℤ q)) (inShort (r .side) (negℤ q)) (pos 0) kind-valid (long-booked (r .side) (negℤ q) out) (short-booked (r .side) (negℤ q) out) into-zero)
+          (inverse-sound r (n .sound) (n .not-inverse) next up (suffix-small inverted (anyOf-head (suffixIsAbove inverted) (suffixIsAbove arrived ∷ []) a))
+          inverseKind (inLong (r .side) (negℤ q)) (inShort (r .side) (negℤ q)) (pos 0) inverse-valid (long-booked (r .side) (negℤ q) out) (short-booked (r .side) (negℤ q) out) into-zero)
           (allOf-intro (soundRecord arrived) []
-          (adjustable-sound r (n .sound) (n .status) later (omega (zarith, +-lin next (pos 1)))
+          (adjustable-sound r (n .sound) (n .not-inverse) later (omega (zarith, +-lin next (pos 1)))
           (suffix-small arrived (anyOf-head (suffixIsAbove arrived) [] (anyOf-tail (suffixIsAbove inverted) (suffixIsAbove arrived ∷ []) a)))
-          transferKind to q (inLong (r .side) q) (inShort (r .side) q) kind-valid (p .to-valid) low high (long-booked (r .side) q back) (short-booked (r .side) q back))
+          newKind to q (inLong (r .side) q) (inShort (r .side) q) new-valid to-valid low high (long-booked (r .side) q back) (short-booked (r .side) q back))
           allOf-nil);
       positions-distinct = positions-differ
           (moved (readAt from series (b .positions)) (inSide (r .side) (negℤ q)))
           (moved (readAt to series (b .positions)) (inSide (r .side) q))
-          from to series (p .accounts-differ) (read-key from series (b .positions)) (read-key to series (b .positions));
+          from to series accounts-differ (read-key from series (b .positions)) (read-key to series (b .positions));
+      process-kept = tt;
       answered = refl;
     }
+
+pub transfer-facts : (b : Books) → SoundBooks b → (id suffix from to series : ℤ) → Accepts b (transfer id suffix from to series) →
+    PlanFacts b (planOn b (transfer id suffix from to series))
+unfolding planOf transferPlan viewOf
+transfer-facts b sound id suffix from to series accepted =
+    let p : TransferPassed (b .records) id suffix from to = transfer-passed b id suffix from to series accepted in
+    transfer-effects-facts b id suffix from to series transferKind transferKind
+    (named (b .records) (keyOf id suffix) (sound .records-sound) (p .record-found) (p .record-adjustable)) kind-valid kind-valid (p .to-valid) (p .accounts-differ)
+    (booking-passed b _ _ accepted .suffixes)

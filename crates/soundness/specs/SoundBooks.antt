@@ -1,4 +1,4 @@
--- Sound books: what tests 1 and 2 say of the two tables, as rows. And requests on them, before any cell is thought of.
+-- Sound books: what tests 1, 2 and 19 say of the tables, as rows. And requests on them, before any cell is thought of.
 use Prim.Native.Nat.{_≤_}
 use mathlib.Core.Path.{_≡_}
 use mathlib.Core.Bool.{true}
@@ -7,6 +7,7 @@ use mathlib.Core.Option.{none}
 use lib.ListN.{length}
 use Rattle.rules.specs.Keyed.{rising}
 use Rattle.rules.specs.Rows.{recordKey, positionKey, soundRecord, soundPosition}
+use Rattle.rules.specs.ProcessRows.{processNumber, soundProcess}
 use Rattle.rules.specs.Refusal.{allOf, firstRefusal}
 use Rattle.rules.specs.Request.{Request}
 use Rattle.rules.specs.Books.{Books, viewOf}
@@ -20,6 +21,9 @@ pub record SoundBooks (b : Books) : Type 0 where
   pub positions-rise : rising positionKey (b .positions) ≡ true
   pub positions-sound : allOf (map soundPosition (b .positions)) ≡ true
   pub positions-fit : length (b .positions) ≤ b .positionsRoom
+  pub processes-rise : rising processNumber (b .processes) ≡ true
+  pub processes-sound : allOf (map soundProcess (b .processes)) ≡ true
+  pub processes-fit : length (b .processes) ≤ b .processesRoom
 
 -- The plan of a request on these books.
 abbrev pub planOn : Books → Request → Plan
