@@ -13,20 +13,21 @@ use tables::positions;
 use tables::records;
 use verdict::Verdict;
 ghost use mathlib.Core.Path.{_≡_};
-ghost use mathlib.Core.Bool.{true, false};
+ghost use mathlib.Core.Bool.{true};
 ghost use lib.IntN.{pos, negℤ};
-ghost use Rattle.rules.specs.Figures.{magnitudeAtMost, isToClose};
+ghost use Rattle.rules.specs.Figures.{magnitudeAtMost};
 ghost use Rattle.rules.specs.Rows.{soundPosition, moved, inverseRecord, adjustableRecord};
-ghost use Rattle.rules.specs.NamedRecord.{isElsewhere, isNotAdjustable};
 ghost use Rattle.rules.specs.Request as Request;
 ghost use Rattle.rules.specs.Tables.{soundRecords, soundPositions};
 ghost use Rattle.rules.specs.Handle.{answered};
 ghost use Rattle.rules.specs.Transfer.{transferFigures, inLong, inShort, inSide, holdsTooLittle};
 ghost use Rattle.requests.specs.KnownPosition.{KnownPosition};
 ghost use Rattle.requests.specs.KnownRecord.{KnownRecord};
+ghost use Rattle.verdict.specs.Moving.{movingEffects, movingVerdict, recordsAfter, positionsAfter};
 ghost use Rattle.verdict.specs.Verdict.{verdictOn, acceptedOn};
 ghost use Rattle.verdict.specs.HandledSoundly.{HandledSoundly};
 ghost use Rattle.verdict.specs.declared.Verdict.the-variants.{Accepted};
+ghost use Rattle.transfer.specs.MovingReady.{MovingReady};
 
 pub fn figures_valid(id: i64, suffix: i64, from: i64, to: i64, series: i64) -> bool
     ensures { λ r. ⌜ r ≡ transferFigures id suffix from to series ⌝ }
@@ -139,7 +140,7 @@ pub fn verdict(
         return Verdict::Refused(6, 0);
     }
     if r.status != ADJUSTABLE {
-        return Verdict::Refused(7, 0);
+        return Verdict::Refused(requests::status_refusal(r.status), 0);
     }
     if figures::is_to_close(r.side) {
         return Verdict::Refused(8, 0);
@@ -158,8 +159,8 @@ pub fn verdict(
     )
 }
 
-// Tests 12 to 16, of a record that passes 5 to 8.
-fn verdict_on_positions(
+// Tests 12 to 16 of a record that moves to another account: of a transfer, and of the step that completes a give-up.
+pub fn verdict_on_positions(
     records: &[i64],
     positions: &[i64],
     named: Named,
@@ -172,9 +173,8 @@ fn verdict_on_positions(
     series: i64,
 ) -> Verdict
     requires { ⌜ (soundRecords (now records) ≡ true) × (soundPositions (now positions) ≡ true) ⌝ }
-    requires { ⌜ (transferFigures id suffix from to series ≡ true) × KnownRecord (now records) id suffix named × KnownPosition (now positions) from series old × KnownPosition (now positions) to series new ⌝ }
-    requires { ⌜ (isElsewhere from series (named .record) ≡ false) × (isNotAdjustable (named .record) ≡ false) × (isToClose (named .record .side) ≡ false) ⌝ }
-    ensures { λ v. ⌜ v ≡ verdictOn (now (records .entry)) (now (positions .entry)) (Request.transfer id suffix from to series) ⌝ }
+    requires { ⌜ KnownRecord (now records) id suffix named × KnownPosition (now positions) from series old × KnownPosition (now positions) to series new ⌝ }
+    ensures { λ v. ⌜ v ≡ movingVerdict (now (records .entry)) (now (positions .entry)) (named .record) id from to series ⌝ }
 {
     let r = named.record;
     if holds_too_little(r, old.position) {
@@ -201,7 +201,37 @@ fn verdict_on_positions(
     Verdict::Accepted
 }
 
-// The old account's row is there, since it holds the quantity: writing it moves no row, and what was found of the new account's is so still.
+// The record adjusted, the two rows that come out of it, and both positions: of a transfer, and of the step that completes a give-up, which differ in the rows' types. The old account's
+// row is there, since it holds the quantity: writing it moves no row, and what was found of the new account's is so still.
+pub fn book_moved(
+    records: &mut [i64],
+    positions: &mut [i64],
+    named: Named,
+    old: Held,
+    new: Held,
+    id: i64,
+    suffix: i64,
+    from: i64,
+    to: i64,
+    series: i64,
+    inverse_kind: i64,
+    new_kind: i64,
+)
+    requires { ⌜ MovingReady (now records) (now positions) named old new id suffix from to series inverse_kind new_kind ⌝ }
+    ensures { λ done. ⌜ (now (records .exit) ≡ recordsAfter (movingEffects inverse_kind new_kind (now (records .entry)) (now (positions .entry)) (named .record) id from to series) (now (records .entry))) × (now (positions .exit) ≡ positionsAfter (movingEffects inverse_kind new_kind (now (records .entry)) (now (positions .entry)) (named .record) id from to series) (now (positions .entry))) ⌝ }
+{
+    let r = named.record;
+    let next = named.next;
+    let inverse = inverse_row(r, next, inverse_kind);
+    let arrived = arrived_row(r, next + 1, to, new_kind);
+    let quantity = [r.quantity];
+    let old_found = old.found;
+    let new_found = new.found;
+    requests::adjust_named(records, id, suffix, named, inverse, arrived, &quantity);
+    positions::write_position(&mut *positions, old_found, taken_from(old.position, r));
+    positions::write_position(positions, new_found, given_to(new.position, r));
+}
+
 pub fn book(
     records: &mut [i64],
     positions: &mut [i64],
@@ -218,16 +248,20 @@ pub fn book(
     requires { ⌜ KnownRecord (now records) id suffix named × KnownPosition (now positions) from series old × KnownPosition (now positions) to series new ⌝ }
     ensures { λ r. ⌜ answered r (now (records .exit)) (now (positions .exit)) ≡ acceptedOn (now (records .entry)) (now (positions .entry)) (Request.transfer id suffix from to series) ⌝ }
 {
-    let r = named.record;
-    let next = named.next;
-    let inverse = inverse_row(r, next, TRANSFER);
-    let arrived = arrived_row(r, next + 1, to, TRANSFER);
-    let quantity = [r.quantity];
-    let old_found = old.found;
-    let new_found = new.found;
-    requests::adjust_named(records, id, suffix, named, inverse, arrived, &quantity);
-    positions::write_position(&mut *positions, old_found, taken_from(old.position, r));
-    positions::write_position(positions, new_found, given_to(new.position, r));
+    book_moved(
+        records,
+        positions,
+        named,
+        old,
+        new,
+        id,
+        suffix,
+        from,
+        to,
+        series,
+        TRANSFER,
+        TRANSFER,
+    );
     Reply::Booked {
         rows: 2,
         residual: 0,

@@ -9,11 +9,17 @@ use lib.IntN.{ℤ}
 use Rattle.rules.specs.Refusal.{Test, firstRefusal}
 use Rattle.rules.specs.Request.{Request}
 use Rattle.rules.specs.Plan.{planTests}
-use Rattle.rules.specs.Tables.{booksOf, soundRecords, soundPositions, tablesOf}
-use Rattle.cells.proofs.SoundBookCells.{books-records-rise, books-records-sound, books-records-fit, books-positions-rise, books-positions-sound, books-positions-fit}
+use Rattle.rules.specs.Tables.{booksOf, soundRecords, soundPositions, soundProcesses, noProcesses, tablesOf}
+use Rattle.rules.proofs.Computed.{Computed}
+use Rattle.cells.proofs.SoundBookCells.{books-records-rise, books-records-sound, books-records-fit, books-positions-rise, books-positions-sound, books-positions-fit, books-processes-rise, books-processes-sound, books-processes-fit}
 use Rattle.soundness.specs.SoundBooks.{SoundBooks, planOn, Accepts}
 use Rattle.verdict.specs.Verdict.{verdictOf, verdictOn}
 use Rattle.verdict.specs.declared.Verdict.the-variants.{Accepted}
+
+-- The process table that stands where none is lent.
+pub no-processes-sound : soundProcesses noProcesses ≡ true
+unfolding Computed
+no-processes-sound = refl
 
 pub sound-books : (rs ps : List ℤ) → soundRecords rs ≡ true → soundPositions ps ≡ true → SoundBooks (booksOf (tablesOf rs ps))
 sound-books rs ps h k = record {
@@ -23,9 +29,12 @@ sound-books rs ps h k = record {
   positions-rise = books-positions-rise (tablesOf rs ps) k;
   positions-sound = books-positions-sound (tablesOf rs ps) k;
   positions-fit = books-positions-fit (tablesOf rs ps) k;
+  processes-rise = books-processes-rise (tablesOf rs ps) no-processes-sound;
+  processes-sound = books-processes-sound (tablesOf rs ps) no-processes-sound;
+  processes-fit = books-processes-fit (tablesOf rs ps) no-processes-sound;
 }
 
-none-accepted : (o : Option Test) → verdictOf o ≡ Accepted → o ≡ none
+pub none-accepted : (o : Option Test) → verdictOf o ≡ Accepted → o ≡ none
 unfolding verdictOf
 none-accepted none h = refl
 none-accepted (some t) h = let z : _≡_ {A = ℕ} 0 1 = cc in absurd (omega arith)

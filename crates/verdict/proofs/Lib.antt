@@ -14,5 +14,6 @@ pub mod Trade
 pub mod TradeReady
 pub mod Separation
 pub mod SeparationReady
+pub mod Moving
+pub mod MovingReady
 pub mod Transfer
-pub mod TransferReady

@@ -14,15 +14,15 @@ use Rattle.integers.specs.Order.{eqZ}
 use Rattle.rules.specs.Figures.{separationKind, greatestOfSuffixes}
 use Rattle.rules.specs.Keyed.{find, isSome, upsertAll, absentFrom}
 use Rattle.rules.specs.Rows.{keyOf, recordKey, adjustedRecord, inverseRecord}
-use Rattle.rules.specs.NamedRecord.{theRecord, isElsewhere, isNotAdjustable}
-use Rattle.rules.specs.Refusal.{Test, test, anyOf, allOf, firstRefusal}
+use Rattle.rules.specs.NamedRecord.{theRecord, isElsewhere, statusTest}
+use Rattle.rules.specs.Refusal.{test, anyOf, allOf, firstRefusal}
 use Rattle.rules.specs.Request.{separate}
 use Rattle.rules.specs.Books.{viewOf}
-use Rattle.rules.specs.Plan.{planTests, bookingTests, suffixIsAbove, booked, planReply}
+use Rattle.rules.specs.Plan.{planTests, bookingTests, processRoomTest, suffixIsAbove, booked, planReply}
 use Rattle.rules.specs.Separation.{sumOf, separationFigures, partRecords, separationPlan}
 use Rattle.rules.specs.Layout.{roomOf, rowsOf, write}
 use Rattle.rules.specs.Tables.{booksOf, writeBooks, recordsLayout, positionsLayout, soundPositions}
-use Rattle.rules.specs.Handle.{planOf, planTables, answered}
+use Rattle.rules.specs.Handle.{planOf, planTables, writtenBy, answered}
 use Rattle.rules.specs.declared.Record.{Record}
 use Rattle.rules.specs.declared.Reply.the-variants.{Booked}
 use Rattle.cells.proofs.RowCells.{positions-lawful}
@@ -30,7 +30,7 @@ use Rattle.cells.proofs.Write.{write-own}
 use Rattle.cells.proofs.SoundCells.{positions-known}
 use Rattle.soundness.proofs.NamedRecord.{nextOf}
 use Rattle.verdict.specs.Verdict.{verdictOn, acceptedOn}
-use Rattle.verdict.proofs.Remaining.{row, fromTest, Remaining}
+use Rattle.verdict.proofs.Remaining.{Listed, row, statusRow, fromTest, Remaining}
 use Rattle.verdict.proofs.Room.{room-for-none}
 use Rattle.verdict.proofs.Suffixes.{above-parts, parts-count}
 
@@ -51,12 +51,12 @@ module _ (rs ps : List ℤ) (id suffix account series : ℤ) (parts : List ℤ) 
   -- ---- the verdict
 
   -- The tests of a separation that names the record r.
-  abbrev separationTests : Record → List Test
+  abbrev separationTests : Record → List Listed
   separationTests r =
       row 3 (not (separationFigures id suffix account series parts))
       ∷ row 5 (not (isSome named))
       ∷ row 6 (isElsewhere account series r)
-      ∷ row 7 (isNotAdjustable r)
+      ∷ statusRow r
       ∷ row 11 (not (eqZ (sumOf parts) (r .quantity)))
       ∷ row 13 (ltZ greatestOfSuffixes (next +ℤ pos (length parts)))
       ∷ row 14 (ltb (roomOf recordsLayout rs) (length (rowsOf recordsLayout rs) + (length parts + 1)))
@@ -67,7 +67,7 @@ module _ (rs ps : List ℤ) (id suffix account series : ℤ) (parts : List ℤ) 
   SeparationFrom n r = Remaining (verdictOn rs ps (separate id suffix account series parts)) (fromTest n (separationTests r))
 
   pub separation-tests : soundPositions ps ≡ true → (r : Record) → theRecord named ≡ r → SeparationFrom 3 r
-  unfolding verdictOn planOf separationPlan viewOf booksOf planTests bookingTests suffixIsAbove inverseRecord anyOf allOf absentFrom firstRefusal test
+  unfolding verdictOn planOf separationPlan viewOf booksOf planTests bookingTests processRoomTest statusTest suffixIsAbove inverseRecord anyOf allOf absentFrom firstRefusal test
   separation-tests positions-sound r e =
       let added : suc (length (partRecords (theRecord named) (next +ℤ pos 1) parts)) ≡ length parts + 1 = omega (arith, parts-count (theRecord named) (next +ℤ pos 1) parts) in
       record { is = rw (← e, above-parts, added, room-for-none ps positions-sound) }
@@ -78,7 +78,7 @@ module _ (rs ps : List ℤ) (id suffix account series : ℤ) (parts : List ℤ) 
     pub separation-booked : acceptedOn rs ps (separate id suffix account series parts)
         ≡ answered (Booked (pos (length parts) +ℤ pos 1) (pos 0))
         (write recordsLayout rs (upsertAll recordKey (separationRows r next parts) (rowsOf recordsLayout rs))) ps
-    unfolding acceptedOn planOf separationPlan viewOf booksOf planReply planTables writeBooks booked upsertAll theRecord
+    unfolding acceptedOn planOf separationPlan viewOf booksOf planReply planTables writtenBy writeBooks booked upsertAll theRecord
     separation-booked = λ i. answered (Booked (pos (length parts) +ℤ pos 1) (pos 0))
         (write recordsLayout rs (upsertAll recordKey (separationRows (theRecord (e i)) next parts) (rowsOf recordsLayout rs)))
         (write-own positionsLayout positions-lawful ps (positions-known ps positions-sound .count-sound) i)

@@ -9,20 +9,20 @@ use lib.IntN.{ℤ, pos, _-ℤ_}
 use lib.ListN.{length}
 use Rattle.rules.specs.Keyed.{greatest, isSome, upsert, upsertAll}
 use Rattle.rules.specs.Rows.{recordKey, positionKey, newRecord, inBooked, moved, soundPosition}
-use Rattle.rules.specs.Refusal.{Test, test, anyOf, allOf, firstRefusal}
+use Rattle.rules.specs.Refusal.{test, anyOf, allOf, firstRefusal}
 use Rattle.rules.specs.Request.{trade}
 use Rattle.rules.specs.Books.{viewOf}
-use Rattle.rules.specs.Plan.{planTests, bookingTests, suffixIsAbove, booked, planReply}
+use Rattle.rules.specs.Plan.{planTests, bookingTests, processRoomTest, suffixIsAbove, booked, planReply}
 use Rattle.rules.specs.Trade.{tradeFigures, closedBy, longBooked, shortBooked, isClosingError, tradeKind, tradeReply, tradePlan}
 use Rattle.rules.specs.Layout.{roomOf, rowsOf, write}
 use Rattle.rules.specs.Tables.{booksOf, writeBooks, recordsLayout, positionsLayout}
-use Rattle.rules.specs.Handle.{planOf, planTables, answered}
+use Rattle.rules.specs.Handle.{planOf, planTables, writtenBy, answered}
 use Rattle.rules.specs.declared.Record.{Record}
 use Rattle.rules.specs.declared.Position.{Position}
 use Rattle.rules.specs.declared.Movement.{Movement}
 use Rattle.rules.specs.declared.Reply.the-variants.{Booked, ClosingError}
 use Rattle.verdict.specs.Verdict.{verdictOn, acceptedOn, absentPosition}
-use Rattle.verdict.proofs.Remaining.{row, fromTest, Remaining, and-true}
+use Rattle.verdict.proofs.Remaining.{Listed, row, fromTest, Remaining, and-true}
 use Rattle.verdict.proofs.Room.{positionRead, absent-one}
 
 -- What a trade closes and books, the position that it leaves, and its row.
@@ -51,7 +51,7 @@ module _ (ps : List ℤ) (account series side quantity : ℤ) where
 module _ (rs ps : List ℤ) (id account series side quantity price : ℤ) where
   -- ---- the verdict
 
-  abbrev tradeTests : List Test
+  abbrev tradeTests : List Listed
   tradeTests =
       row 3 (not (tradeFigures id account series side quantity price))
       ∷ row 4 (isSome (greatest recordKey id (rowsOf recordsLayout rs)))
@@ -65,7 +65,7 @@ module _ (rs ps : List ℤ) (id account series side quantity price : ℤ) where
   TradeFrom n = Remaining (verdictOn rs ps (trade id account series side quantity price)) (fromTest n tradeTests)
 
   pub trade-tests : TradeFrom 3
-  unfolding verdictOn planOf tradePlan viewOf booksOf planTests bookingTests suffixIsAbove newRecord anyOf allOf firstRefusal test
+  unfolding verdictOn planOf tradePlan viewOf booksOf planTests bookingTests processRoomTest suffixIsAbove newRecord anyOf allOf firstRefusal test
   trade-tests = record { is = rw (absent-one, and-true) }
 
   -- ---- the booking
@@ -78,7 +78,7 @@ module _ (rs ps : List ℤ) (id account series side quantity price : ℤ) where
 
   pub trade-booked : acceptedOn rs ps (trade id account series side quantity price)
       ≡ answered (tradeReply (tradeError ps account series side quantity) (quantity -ℤ tradeClosed ps account series side quantity)) recordsAfter positionsAfter
-  unfolding acceptedOn planOf tradePlan viewOf booksOf planReply planTables writeBooks booked upsertAll
+  unfolding acceptedOn planOf tradePlan viewOf booksOf planReply planTables writtenBy writeBooks booked upsertAll
   trade-booked = refl
 
   pub trade-booked-error : tradeError ps account series side quantity ≡ true → acceptedOn rs ps (trade id account series side quantity price)

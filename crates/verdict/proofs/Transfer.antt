@@ -1,99 +1,117 @@
--- The tests of an account transfer in the shape in which code meets them, and the tables and answer of an accepted one. By the definitions. Assumes nothing.
-use Prim.Native.Nat.{ℕ, _+_}
-use mathlib.Core.Path.{_≡_, ap}
-use mathlib.Core.Bool.{true, not, _&&_}
-use mathlib.Core.List.{List, [], _∷_}
+-- The tests of an account transfer in the shape in which code meets them, what an accepted one asks of the record that moves, and its tables and answer. By the definitions.
+-- Assumes nothing.
+use Prim.Native.Nat.{ℕ}
+use mathlib.Core.Path.{_≡_, refl, sym, _∙_, ap, subst}
+use mathlib.Core.Bool.{true, false, not}
+use mathlib.Core.List.{List, _∷_}
 use mathlib.Core.Option.{Option, some}
-use lib.Dec.{ltb}
-use lib.IntN.{ℤ, pos, negℤ, _+ℤ_}
-use lib.ListN.{length}
-use lib.Signed.{ltZ, _≤ℤ_}
-use Rattle.integers.proofs.Linear.{zarith, +-lin}
-use Rattle.rules.specs.Figures.{isToClose, transferKind, greatestOfSuffixes}
-use Rattle.rules.specs.Keyed.{find, isSome, upsertAll}
-use Rattle.rules.specs.Rows.{keyOf, recordKey, positionKey, adjustedRecord, inverseRecord, adjustableRecord, moved, soundPosition}
-use Rattle.rules.specs.NamedRecord.{theRecord, isElsewhere, isNotAdjustable}
-use Rattle.rules.specs.Refusal.{Test, test, anyOf, allOf, firstRefusal}
+use lib.IntN.{ℤ, pos}
+use Rattle.integers.specs.Order.{eqZ}
+use Rattle.rules.specs.Figures.{isToClose, transferKind}
+use Rattle.rules.specs.Keyed.{find, isSome}
+use Rattle.rules.specs.Rows.{keyOf, recordKey, validKind}
+use Rattle.rules.specs.NamedRecord.{theRecord, isElsewhere, isNotAdjustable, statusTest}
+use Rattle.rules.specs.Refusal.{test, firstRefusal}
 use Rattle.rules.specs.Request.{transfer}
 use Rattle.rules.specs.Books.{viewOf}
-use Rattle.rules.specs.Plan.{planTests, bookingTests, suffixIsAbove, booked, planReply}
-use Rattle.rules.specs.Transfer.{transferFigures, inLong, inShort, inSide, holdsTooLittle, transferPlan}
-use Rattle.rules.specs.Layout.{roomOf, rowsOf, write}
-use Rattle.rules.specs.Tables.{booksOf, writeBooks, recordsLayout, positionsLayout}
-use Rattle.rules.specs.Handle.{planOf, planTables, answered}
+use Rattle.rules.specs.Plan.{Effects, planTests, booked, planReply}
+use Rattle.rules.specs.Transfer.{transferFigures, transferPlan}
+use Rattle.rules.specs.Layout.{rowsOf}
+use Rattle.rules.specs.Tables.{booksOf, writeBooks, recordsLayout, soundRecords, soundPositions, tablesOf}
+use Rattle.rules.specs.Handle.{planOf, planTables, writtenBy, answered}
 use Rattle.rules.specs.declared.Record.{Record}
-use Rattle.rules.specs.declared.Position.{Position}
 use Rattle.rules.specs.declared.Reply.the-variants.{Booked}
-use Rattle.soundness.proofs.NamedRecord.{nextOf}
-use Rattle.verdict.specs.Verdict.{verdictOn, acceptedOn, absentPosition}
-use Rattle.verdict.proofs.Remaining.{row, fromTest, Remaining, _past_, and-true, or-nothing}
-use Rattle.verdict.proofs.Room.{positionRead, absent-moved, absent-one}
-use Rattle.verdict.proofs.Suffixes.{above-later}
-
--- The rows that a transfer puts, from the named record and its id's next suffix.
-abbrev pub transferInverse : Record → ℤ → Record
-transferInverse r next = inverseRecord r next transferKind (inLong (r .side) (negℤ (r .quantity))) (inShort (r .side) (negℤ (r .quantity))) (pos 0)
-
-abbrev pub transferArrived : Record → ℤ → ℤ → Record
-transferArrived r next to = adjustableRecord r (next +ℤ pos 1) transferKind to (r .quantity) (inLong (r .side) (r .quantity)) (inShort (r .side) (r .quantity))
-
-abbrev pub transferRows : Record → ℤ → ℤ → List Record
-transferRows r next to = adjustedRecord r ∷ transferInverse r next ∷ transferArrived r next to ∷ []
-
--- The positions that it leaves: the old account's and the new one's.
-abbrev pub transferOld : List ℤ → Record → ℤ → ℤ → Position
-transferOld ps r from series = moved (positionRead ps from series) (inSide (r .side) (negℤ (r .quantity)))
-
-abbrev pub transferNew : List ℤ → Record → ℤ → ℤ → Position
-transferNew ps r to series = moved (positionRead ps to series) (inSide (r .side) (r .quantity))
+use Rattle.soundness.proofs.SoundRows.{adjustable-open}
+use Rattle.soundness.proofs.Transfer.{TransferPassed, transfer-passed}
+use Rattle.verdict.specs.Verdict.{verdictOn, acceptedOn}
+use Rattle.verdict.specs.Moving.{movingEffects, movingVerdict, recordsAfter, positionsAfter}
+use Rattle.verdict.specs.declared.Verdict.the-variants.{Accepted}
+use Rattle.verdict.proofs.Acceptance.{accepted-accepts}
+use Rattle.verdict.proofs.Moving.{movingTests, moving-first, moving-tests}
+use Rattle.verdict.proofs.MovingReady.{Movable}
+use Rattle.verdict.proofs.Remaining.{Listed, row, statusRow, fromTest, Remaining, _past_, passes}
+use Rattle.verdict.proofs.SoundReads.{status-adjustable}
 
 module _ (rs ps : List ℤ) (id suffix from to series : ℤ) where
-  abbrev next : ℤ
-  next = nextOf (rowsOf recordsLayout rs) id
-
   abbrev named : Option Record
   named = find recordKey (keyOf id suffix) (rowsOf recordsLayout rs)
 
   -- ---- the verdict
 
   -- The tests of a transfer that names the record r.
-  abbrev transferTests : Record → List Test
+  abbrev transferTests : Record → List Listed
   transferTests r =
       row 3 (not (transferFigures id suffix from to series))
       ∷ row 5 (not (isSome named))
       ∷ row 6 (isElsewhere from series r)
-      ∷ row 7 (isNotAdjustable r)
+      ∷ statusRow r
       ∷ row 8 (isToClose (r .side))
-      ∷ row 12 (holdsTooLittle r (positionRead ps from series))
-      ∷ row 13 (ltZ greatestOfSuffixes (next +ℤ pos 1))
-      ∷ row 14 (ltb (roomOf recordsLayout rs) (length (rowsOf recordsLayout rs) + 2))
-      ∷ row 15 (ltb (roomOf positionsLayout ps) (length (rowsOf positionsLayout ps) + (absentPosition ps from series + absentPosition ps to series)))
-      ∷ row 16 (not (soundPosition (transferOld ps r from series) && soundPosition (transferNew ps r to series)))
-      ∷ []
+      ∷ movingTests rs ps id from to series r
 
   -- The verdict is that of the tests from number n on.
   abbrev pub TransferFrom : ℕ → Record → Type 0
   TransferFrom n r = Remaining (verdictOn rs ps (transfer id suffix from to series)) (fromTest n (transferTests r))
 
   pub transfer-tests : (r : Record) → theRecord named ≡ r → TransferFrom 3 r
-  unfolding verdictOn planOf transferPlan viewOf booksOf planTests bookingTests suffixIsAbove inverseRecord adjustableRecord anyOf allOf firstRefusal test
-  transfer-tests r e =
-      let later : next ≤ℤ (next +ℤ pos 1) = omega (zarith, +-lin next (pos 1)) in
-      record { is = rw (← e, or-nothing, above-later greatestOfSuffixes next (next +ℤ pos 1) later, absent-moved, absent-one, and-true) }
+  unfolding verdictOn planOf transferPlan viewOf booksOf planTests statusTest firstRefusal test
+  transfer-tests r e = record { is = rw (← e, moving-first rs ps id from to series (theRecord named)) }
 
   -- Past tests 3 and 5: r is the record that is named.
   pub transfer-named : (r : Record) → transferFigures id suffix from to series ≡ true → named ≡ some r → TransferFrom 6 r
   unfolding isSome theRecord
   transfer-named r figures e = transfer-tests r (ap theRecord e) past ap not figures past ap (λ (o : Option Record). not (isSome o)) e
 
+  -- Past test 8 it is that of what moves.
+  pub transfer-moving : (r : Record) → TransferFrom 12 r → movingVerdict rs ps r id from to series ≡ verdictOn rs ps (transfer id suffix from to series)
+  transfer-moving r m = moving-tests rs ps id from to series r .is ∙ sym (m .is)
+
+  -- ---- an accepted transfer
+
+  kind-valid : validKind transferKind ≡ true
+  unfolding validKind eqZ
+  kind-valid = refl
+
+  module _ (records-sound : soundRecords rs ≡ true) (positions-sound : soundPositions ps ≡ true)
+      (accepted : verdictOn rs ps (transfer id suffix from to series) ≡ Accepted) (r : Record) (e : named ≡ some r) where
+    has-passed : TransferPassed (rowsOf recordsLayout rs) id suffix from to
+    unfolding booksOf
+    has-passed = transfer-passed (booksOf (tablesOf rs ps)) id suffix from to series (accepted-accepts rs ps (transfer id suffix from to series) accepted)
+
+    moves : movingVerdict rs ps r id from to series ≡ Accepted
+    unfolding theRecord
+    moves =
+        let at-3 : TransferFrom 3 r = transfer-tests r (ap theRecord e) in
+        let at-5 : TransferFrom 5 r = at-3 past passes at-3 accepted in
+        let at-6 : TransferFrom 6 r = at-5 past passes at-5 accepted in
+        let at-7 : TransferFrom 7 r = at-6 past passes at-6 accepted in
+        let at-8 : TransferFrom 8 r = at-7 past passes at-7 accepted in
+        transfer-moving r (at-8 past passes at-8 accepted) ∙ accepted
+
+    pub transfer-movable : Movable rs ps id suffix from to series transferKind transferKind r
+    unfolding theRecord
+    transfer-movable = record {
+      records-sound = records-sound;
+      positions-sound = positions-sound;
+      named = e;
+      not-inverse = adjustable-open (r .status)
+          (status-adjustable r (subst (λ (o : Option Record). isNotAdjustable (theRecord o) ≡ false) e (has-passed .record-adjustable)));
+      accounts-differ = has-passed .accounts-differ;
+      to-valid = has-passed .to-valid;
+      inverse-kind = kind-valid;
+      new-kind = kind-valid;
+      accepted = moves;
+    }
+
   -- ---- the booking
 
-  pub transfer-booked : (r : Record) → named ≡ some r → acceptedOn rs ps (transfer id suffix from to series)
-      ≡ answered (Booked (pos 2) (pos 0))
-      (write recordsLayout rs (upsertAll recordKey (transferRows r next to) (rowsOf recordsLayout rs)))
-      (write positionsLayout ps (upsertAll positionKey (transferOld ps r from series ∷ transferNew ps r to series ∷ []) (rowsOf positionsLayout ps)))
-  unfolding acceptedOn planOf transferPlan viewOf booksOf planReply planTables writeBooks booked upsertAll theRecord
-  transfer-booked r e = λ i. answered (Booked (pos 2) (pos 0))
-      (write recordsLayout rs (upsertAll recordKey (transferRows (theRecord (e i)) next to) (rowsOf recordsLayout rs)))
-      (write positionsLayout ps
-      (upsertAll positionKey (transferOld ps (theRecord (e i)) from series ∷ transferNew ps (theRecord (e i)) to series ∷ []) (rowsOf positionsLayout ps)))
+  module _ (r : Record) (e : named ≡ some r) where
+    abbrev effects : Record → Effects
+    effects x = movingEffects transferKind transferKind rs ps x id from to series
+
+    transfer-booked : acceptedOn rs ps (transfer id suffix from to series) ≡ answered (Booked (pos 2) (pos 0)) (recordsAfter (effects r) rs) (positionsAfter (effects r) ps)
+    unfolding acceptedOn planOf transferPlan viewOf booksOf planReply planTables writtenBy writeBooks booked theRecord
+    transfer-booked = λ i. answered (Booked (pos 2) (pos 0)) (recordsAfter (effects (theRecord (e i))) rs) (positionsAfter (effects (theRecord (e i))) ps)
+
+    pub transfer-returns : (rs₁ ps₁ : List ℤ) → rs₁ ≡ recordsAfter (effects r) rs → ps₁ ≡ positionsAfter (effects r) ps
+        → answered (Booked (pos 2) (pos 0)) rs₁ ps₁ ≡ acceptedOn rs ps (transfer id suffix from to series)
+    transfer-returns rs₁ ps₁ f g = (λ i. answered (Booked (pos 2) (pos 0)) (f i) (g i)) ∙ sym transfer-booked

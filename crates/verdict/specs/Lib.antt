@@ -1,3 +1,4 @@
 pub mod Verdict
 pub mod HandledSoundly
 pub mod MovedReady
+pub mod Moving

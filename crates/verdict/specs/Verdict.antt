@@ -7,11 +7,11 @@ use lib.IntN.{ℤ, pos}
 use Rattle.rules.specs.Keyed.{find, isSome}
 use Rattle.rules.specs.Rows.{keyOf, positionKey}
 use Rattle.rules.specs.Refusal.{Test, test, firstRefusal}
-use Rattle.rules.specs.Request.{Request, trade, separate, transfer, merge, lineage}
+use Rattle.rules.specs.Request.{Request, trade, separate, transfer, merge, lineage, giveUp}
 use Rattle.rules.specs.Books.{viewOf}
 use Rattle.rules.specs.Plan.{Plan, planTests, planReply}
 use Rattle.rules.specs.Layout.{rowsOf}
-use Rattle.rules.specs.Tables.{tablesOf, booksOf, positionsLayout, soundRecords, soundPositions}
+use Rattle.rules.specs.Tables.{Tables, tablesOf, booksOf, positionsLayout, soundRecords, soundPositions}
 use Rattle.rules.specs.Handle.{Answer, answeredBy, planOf, planTables}
 use Rattle.verdict.specs.declared.Verdict.{Verdict}
 use Rattle.verdict.specs.declared.Verdict.the-variants.{Accepted, Refused}
@@ -34,6 +34,7 @@ isBooking (separate id suffix account series parts) = true
 isBooking (transfer id suffix from to series) = true
 isBooking (merge id account series pairs) = true
 isBooking (lineage id suffix) = false
+isBooking (giveUp step process id suffix giving taking series) = true
 
 -- Refusals 3 to 16, on sound tables.
 unfoldable pub verdictOn : List ℤ → List ℤ → Request → Verdict
@@ -43,6 +44,13 @@ verdictOn records positions r = verdictOf (firstRefusal (planTests (booksOf (tab
 unfoldable pub acceptedOn : List ℤ → List ℤ → Request → Answer
 acceptedOn records positions r =
     answeredBy (planReply (planFor records positions r)) (planTables (planFor records positions r) (tablesOf records positions))
+
+-- The same on all tables, as a step of a give-up is lent them.
+unfoldable pub verdictIn : Tables → Request → Verdict
+verdictIn t r = verdictOf (firstRefusal (planTests (booksOf t) (planOf (viewOf (booksOf t)) r)))
+
+unfoldable pub acceptedIn : Tables → Request → Answer
+acceptedIn t r = answeredBy (planReply (planOf (viewOf (booksOf t)) r)) (planTables (planOf (viewOf (booksOf t)) r) t)
 
 -- 1 where the account and series have no row, else 0.
 unfoldable pub absentPosition : List ℤ → ℤ → ℤ → ℕ
