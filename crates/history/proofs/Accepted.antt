@@ -1,24 +1,50 @@
--- A request on the two tables, where it is accepted and where it is refused: a refused one changes no cell; an accepted one's answer and tables are those of its plan, and
--- its tests hold of the rows. Only a question is accepted on tables that are not both sound, and it writes nothing. Assumes nothing.
+-- A request on the tables, where it is accepted and where it is refused: a refused one changes no cell; an accepted one's answer and tables are those of its plan, and
+-- its tests hold of the rows. Only a question is accepted where the records or the positions are not sound, and it writes nothing; a step of a give-up only where the processes
+-- are sound too. Assumes nothing.
 use mathlib.Core.Path.{_≡_, refl, sym, _∙_, ap}
 use mathlib.Core.Bool.{true, false, not}
-use mathlib.Core.List.{List, []}
+use mathlib.Core.List.{List, [], _∷_}
 use mathlib.Core.Logic.{_⊎_, inl, inr}
 use mathlib.Core.Option.{Option, none, some}
 use borrow.Author.Tests.{not-true, not-false}
 use Rattle.rules.specs.Keyed.{isSome}
-use Rattle.rules.specs.Refusal.{Test, firstRefusal}
+use Rattle.rules.specs.Refusal.{Test, test, firstRefusal}
 use Rattle.rules.specs.Request.{Request}
 use Rattle.rules.specs.Reply.{refusedBy}
 use Rattle.rules.specs.Plan.{Effects, Plan, booking, question, planTests, planReply}
-use Rattle.rules.specs.Tables.{Tables, soundRecords, soundPositions, booksOf}
-use Rattle.rules.specs.Handle.{soundnessTests, refusals, planTables, answer, answeredBy, refusalOf, handle}
+use Rattle.rules.specs.Tables.{Tables, soundRecords, soundPositions, soundProcesses, booksOf}
+use Rattle.rules.specs.Handle.{soundProcessesTest, soundnessTests, refusals, planTables, answer, answeredBy, refusalOf, handle}
+use Rattle.rules.specs.declared.ProcessRow.{ProcessRow}
 use Rattle.soundness.specs.SoundBooks.{planOn, Accepts}
 use Rattle.soundness.specs.SoundTables.{SoundTables}
 use Rattle.keys.proofs.Counts.{isSome-absent, isSome-present}
 use Rattle.keys.proofs.Clauses.{isSome-none}
 use Rattle.history.specs.History.{isAccepted}
 use Rattle.history.proofs.Refusals.{no-refusal, test-passes, rest-passes, passes-test, left-passes, right-passes, both-pass}
+
+-- Test 19, of a plan that puts a process row.
+abbrev pub ProcessesSound : Tables → Option ProcessRow → Type 0
+ProcessesSound t none = Unit {0}
+ProcessesSound t (some p) = soundProcesses (t .processes) ≡ true
+
+nineteen-passes : (t : Tables) (o : Option ProcessRow) → soundProcesses (t .processes) ≡ true → firstRefusal (soundProcessesTest t o) ≡ none
+unfolding soundProcessesTest
+nineteen-passes t none h = no-refusal
+nineteen-passes t (some p) h = passes-test 19 (not (soundProcesses (t .processes))) [] (ap not h) no-refusal
+
+nineteen-passed : (t : Tables) (o : Option ProcessRow) → firstRefusal (soundProcessesTest t o) ≡ none → ProcessesSound t o
+unfolding soundProcessesTest
+nineteen-passed t none h = tt
+nineteen-passed t (some p) h = not-false (soundProcesses (t .processes)) (test-passes 19 _ _ h)
+
+-- What is sound where a request that books is accepted.
+pub record BookedOn (t : Tables) (o : Option ProcessRow) : Type 0 where
+  pub records : soundRecords (t .records) ≡ true
+  pub positions : soundPositions (t .positions) ≡ true
+  pub processes : ProcessesSound t o
+
+pub all-sound : (t : Tables) (o : Option ProcessRow) → BookedOn t o → soundProcesses (t .processes) ≡ true → SoundTables t
+all-sound t o b h = record { records = b .records; positions = b .positions; processes = h }
 
 module _ (t : Tables) (r : Request) where
   abbrev pub planAt : Plan
@@ -64,11 +90,12 @@ module _ (t : Tables) (r : Request) where
     where
       go : (p : Plan) → firstRefusal (soundnessTests t p) ≡ none
       go (booking tests e) =
-          passes-test 1 (not (soundRecords (t .records))) _ (ap not (sound .records)) (passes-test 2 (not (soundPositions (t .positions))) [] (ap not (sound .positions)) no-refusal)
+          passes-test 1 (not (soundRecords (t .records))) (test 2 (not (soundPositions (t .positions))) ∷ soundProcessesTest t (e .process)) (ap not (sound .records))
+          (passes-test 2 (not (soundPositions (t .positions))) (soundProcessesTest t (e .process)) (ap not (sound .positions)) (nineteen-passes t (e .process) (sound .processes)))
       go (question tests reply) = passes-test 1 (not (soundRecords (t .records))) [] (ap not (sound .records)) no-refusal
 
-  -- A request that books is accepted on sound tables alone.
-  pub booked-on-sound : (tests : List Test) (e : Effects) → planAt ≡ booking tests e → isAccepted t r ≡ true → SoundTables t
+  -- A request that books is accepted on sound records and positions alone, and a step of a give-up on sound processes.
+  pub booked-on-sound : (tests : List Test) (e : Effects) → planAt ≡ booking tests e → isAccepted t r ≡ true → BookedOn t (e .process)
   unfolding refusals soundnessTests
   booked-on-sound tests e q h =
       let s : firstRefusal (soundnessTests t (booking tests e)) ≡ none =
@@ -76,13 +103,14 @@ module _ (t : Tables) (r : Request) where
       record {
         records = not-false (soundRecords (t .records)) (test-passes 1 _ _ s);
         positions = not-false (soundPositions (t .positions)) (test-passes 2 _ _ (rest-passes _ _ s));
+        processes = nineteen-passed t (e .process) (rest-passes _ _ (rest-passes _ _ s));
       }
 
-  -- Where a request is accepted, both tables are sound or it leaves them as they were.
-  pub sound-or-same : isAccepted t r ≡ true → (SoundTables t) ⊎ (handle t r .tables ≡ t)
+  -- Where a request is accepted beside sound processes, all tables are sound or it leaves them as they were.
+  pub sound-or-same : soundProcesses (t .processes) ≡ true → isAccepted t r ≡ true → (SoundTables t) ⊎ (handle t r .tables ≡ t)
   unfolding planTables
-  sound-or-same h = go planAt refl
+  sound-or-same processes h = go planAt refl
     where
       go : (p : Plan) → planAt ≡ p → (SoundTables t) ⊎ (handle t r .tables ≡ t)
-      go (booking tests e) q = inl (booked-on-sound tests e q h)
+      go (booking tests e) q = inl (all-sound t (e .process) (booked-on-sound tests e q h) processes)
       go (question tests reply) q = inr (accepted-tables h ∙ ap (λ (p : Plan). planTables p t) q)

@@ -1,20 +1,21 @@
 -- Accepted and answered are tied, for every kind of request and on any tables: the reply is a refusal exactly where the request is not accepted, and then its number and place
 -- are those of the first test that applies. An accepted request's reply is its plan's, and no plan replies with a refusal. Assumes nothing.
 use mathlib.Core.Path.{_≡_, refl, sym, _∙_, ap}
-use mathlib.Core.Bool.{Bool, true, false, not}
+use mathlib.Core.Bool.{Bool, true, false, cond, not}
 use mathlib.Core.Logic.{_⊎_, inl, inr}
 use mathlib.Core.Option.{Option, none, some}
 use lib.IntN.{ℤ, pos}
 use Rattle.rules.specs.Refusal.{Test}
 use Rattle.rules.specs.Reply.{refusedBy}
-use Rattle.rules.specs.Request.{Request, trade, separate, transfer, merge, lineage}
+use Rattle.rules.specs.Request.{Request, trade, separate, transfer, merge, lineage, giveUp}
 use Rattle.rules.specs.Books.{View, viewOf}
-use Rattle.rules.specs.Plan.{planReply}
+use Rattle.rules.specs.Plan.{Effects, planReply}
 use Rattle.rules.specs.Trade.{tradeReply, tradePlan}
 use Rattle.rules.specs.Separation.{separationPlan}
 use Rattle.rules.specs.Transfer.{transferPlan}
 use Rattle.rules.specs.Merge.{mergePlan}
 use Rattle.rules.specs.Lineage.{Origin, lineageReply, lineagePlan}
+use Rattle.rules.specs.GiveUp.{isComplete, giveUpEffects, giveUpPlan}
 use Rattle.rules.specs.Tables.{Tables, booksOf}
 use Rattle.rules.specs.Handle.{planOf, refusalOf, handle}
 use Rattle.rules.specs.declared.Reply.the-variants.{Refused}
@@ -35,13 +36,18 @@ unfolding isRefusal lineageReply
 lineage-replies none = refl
 lineage-replies (some o) = refl
 
+either-replies : (complete : Bool) (e f : Effects) → isRefusal (e .reply) ≡ false → isRefusal (f .reply) ≡ false → isRefusal (cond complete e f .reply) ≡ false
+either-replies true e f h k = h
+either-replies false e f h k = k
+
 plan-replies : (v : View) (r : Request) → isRefusal (planReply (planOf v r)) ≡ false
-unfolding isRefusal planReply planOf tradePlan separationPlan transferPlan mergePlan lineagePlan
+unfolding isRefusal planReply planOf tradePlan separationPlan transferPlan mergePlan lineagePlan giveUpPlan giveUpEffects
 plan-replies v (trade id account series side quantity price) = trade-replies _ _
 plan-replies v (separate id suffix account series parts) = refl
 plan-replies v (transfer id suffix from to series) = refl
 plan-replies v (merge id account series pairs) = refl
 plan-replies v (lineage id suffix) = lineage-replies _
+plan-replies v (giveUp step process id suffix giving taking series) = either-replies (isComplete _) _ _ refl refl
 
 -- ---- the tie
 

@@ -1,5 +1,5 @@
--- Demand 3. From any two tables, sound or not, hand in any list of requests, batches of trades among them. Take the accepted ones in any other order in which touching requests keep their order, and hand
--- those in from the same tables: each is accepted again with the same whole answer, what it writes to a lent output too, and every cell of both tables is the same at the end, those past the last row too.
+-- Demand 3. From any tables, sound or not, hand in any list of requests, batches of trades among them. Take the accepted ones in any other order in which touching requests keep their order, and hand
+-- those in from the same tables: each is accepted again with the same whole answer, what it writes to a lent output too, and every cell of all three tables is the same at the end, those past the last row too.
 --
 -- The claim is about one list of any length. Refused requests may stand anywhere in the first list. Both runs are of `handle`, the rules of document 01: a program that always
 -- refuses, or does nothing, is shut out by the rules themselves (demand 2), and not by this theorem, which such a program would satisfy.

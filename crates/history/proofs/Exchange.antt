@@ -1,7 +1,7 @@
 -- The exchange, on rows: of two neighbouring accepted requests that don't touch, the second is accepted first with the same plan, the first after it with the same plan,
 -- and the books at the end are the same. Room is the delicate point: what the two add together is the same in either order, and tables never shrink.
 -- Assumes nothing.
-use Prim.Native.Nat.{_+_}
+use Prim.Native.Nat.{_+_, _≤_}
 use mathlib.Core.Path.{_≡_, refl, sym, _∙_, ap, subst}
 use mathlib.Core.Bool.{false}
 use mathlib.Core.List.{List, [], _++_}
@@ -19,14 +19,14 @@ use Rattle.soundness.specs.SoundBooks.{SoundBooks, planOn, Accepts, after}
 use Rattle.rules.specs.declared.Record.{Record}
 use Rattle.rules.specs.declared.Position.{Position}
 use Rattle.soundness.proofs.Kept.{kept}
-use Rattle.soundness.proofs.Growth.{records-grow, positions-grow}
+use Rattle.soundness.proofs.Growth.{records-grow, positions-grow, absentProcess, processes-grow}
 use Rattle.keys.proofs.Clauses.{upsertAll-nil, absentFrom-nil}
 use Rattle.keys.proofs.Folds.{upsertAll-longer}
 use Rattle.history.proofs.Named.{Apart, untouched-apart, apart-turned}
 use Rattle.history.proofs.Locality.{local}
 use Rattle.history.proofs.Effects.{effectsOf, books-effects}
 use Rattle.history.proofs.OwnKeys.{OwnKeys, view-true, own-keys}
-use Rattle.history.proofs.Unseen.{agree-after, absent-after, either-order}
+use Rattle.history.proofs.Unseen.{agree-after, absent-after, absent-process-after, either-order}
 use Rattle.history.proofs.Room.{Room, own-pass, has-room, accepted-with-room}
 
 -- What is to be shown of two neighbours x, y on these books.
@@ -41,36 +41,42 @@ pub record Exchanged (b : Books) (x y : Request) : Type 0 where
 record Grows (b : Books) (e : Effects) : Type 0 where
   records : length (booked e b .records) ≡ length (b .records) + length (e .added)
   positions : length (booked e b .positions) ≡ length (b .positions) + absentFrom positionKey (b .positions) (e .positions)
+  processes : length (booked e b .processes) ≡ length (b .processes) + absentProcess (b .processes) (e .process)
 
 grows : (b : Books) → SoundBooks b → (r : Request) → Accepts b r → Grows b (effectsOf (planOn b r))
 unfolding booked
 grows b sound r ok = go (planOn b r) refl
   where
     go : (p : Plan) → planOn b r ≡ p → Grows b (effectsOf p)
-    go (booking tests e) q = record { records = records-grow b sound r ok tests e q; positions = positions-grow b sound r ok tests e q }
+    go (booking tests e) q = record { records = records-grow b sound r ok tests e q; positions = positions-grow b sound r ok tests e q; processes = processes-grow b sound e }
     go (question tests reply) q =
         let none-added : length (upsertAll recordKey [] (b .records)) ≡ length (b .records) = ap (λ (l : List Record). length l) (upsertAll-nil recordKey (b .records)) in
         let none-moved : length (upsertAll positionKey [] (b .positions)) ≡ length (b .positions) = ap (λ (l : List Position). length l) (upsertAll-nil positionKey (b .positions)) in
-        record { records = omega arith; positions = omega (arith, absentFrom-nil positionKey (b .positions)) }
+        record { records = omega arith; positions = omega (arith, absentFrom-nil positionKey (b .positions)); processes = processes-grow b sound (effectsOf (question tests reply)) }
 
 -- What the second adds to the books, then the first to those, is what the first adds, then the second.
 room-either-way : (b : Books) (e f : Effects) → Grows b e → Grows b f →
     absentFrom positionKey (booked e b .positions) (f .positions) ≡ absentFrom positionKey (b .positions) (f .positions) →
     absentFrom positionKey (booked f b .positions) (e .positions) ≡ absentFrom positionKey (b .positions) (e .positions) →
+    absentProcess (booked e b .processes) (f .process) ≡ absentProcess (b .processes) (f .process) →
+    absentProcess (booked f b .processes) (e .process) ≡ absentProcess (b .processes) (e .process) →
     Room (booked e b) f → Room (booked f b) e
 unfolding booked
-room-either-way b e f ge gf unseen unseen′ room = record {
+room-either-way b e f ge gf unseen unseen′ other other′ room = record {
   records = omega (arith, ge .records, gf .records, room .records);
   positions = omega (arith, ge .positions, gf .positions, room .positions);
+  processes = omega (arith, ge .processes, gf .processes, room .processes);
 }
 
 -- The room that the second found after the first was there before it: tables never shrink.
 room-before : (b : Books) (e f : Effects) →
-    absentFrom positionKey (booked e b .positions) (f .positions) ≡ absentFrom positionKey (b .positions) (f .positions) → Room (booked e b) f → Room b f
+    absentFrom positionKey (booked e b .positions) (f .positions) ≡ absentFrom positionKey (b .positions) (f .positions) →
+    absentProcess (booked e b .processes) (f .process) ≡ absentProcess (b .processes) (f .process) → length (b .processes) ≤ length (booked e b .processes) → Room (booked e b) f → Room b f
 unfolding booked
-room-before b e f unseen room = record {
+room-before b e f unseen other longer room = record {
   records = omega (arith, room .records, upsertAll-longer recordKey (e .changed ++ e .added) (b .records));
   positions = omega (arith, room .positions, upsertAll-longer positionKey (e .positions) (b .positions));
+  processes = omega (arith, room .processes);
 }
 
 module _ (b : Books) (sound : SoundBooks b) (x y : Request) (free : touch y x ≡ false) (ok-x : Accepts b x) (ok-y : Accepts (after b x) y) where
@@ -93,10 +99,13 @@ module _ (b : Books) (sound : SoundBooks b) (x y : Request) (free : touch y x �
       let room : Room (booked e b) f = has-room (booked e b) sound-later q later-y in
       let unseen : absentFrom positionKey (booked e b .positions) (f .positions) ≡ absentFrom positionKey (b .positions) (f .positions) = absent-after b x y apart e own-x f own-y in
       let unseen′ : absentFrom positionKey (booked f b .positions) (e .positions) ≡ absentFrom positionKey (b .positions) (e .positions) = absent-after b y x turned f own-y e own-x in
-      let first-y : Accepts b y = accepted-with-room (booked e b) b q later-y (room-before b e f unseen room) in
+      let other : absentProcess (booked e b .processes) (f .process) ≡ absentProcess (b .processes) (f .process) = absent-process-after b x y apart e own-x f own-y in
+      let other′ : absentProcess (booked f b .processes) (e .process) ≡ absentProcess (b .processes) (e .process) = absent-process-after b y x turned f own-y e own-x in
+      let longer : length (b .processes) ≤ length (booked e b .processes) = omega (arith, processes-grow b sound e) in
+      let first-y : Accepts b y = accepted-with-room (booked e b) b q later-y (room-before b e f unseen other longer room) in
       let plan-x : p ≡ planOn (booked f b) x = local (viewOf b) (viewOf (booked f b)) x (agree-after b y x turned f own-y) in
       let later-x : firstRefusal (planTests (booked f b) p) ≡ none =
-      accepted-with-room b (booked f b) p ok-x (room-either-way b e f (grows b sound x ok-x) (grows b sound y first-y) unseen unseen′ room) in
+      accepted-with-room b (booked f b) p ok-x (room-either-way b e f (grows b sound x ok-x) (grows b sound y first-y) unseen unseen′ other other′ room) in
       let plan-of-y : planOn (after b x) y ≡ q = ap (λ (c : Books). planOn c y) after-x ∙ sym plan-y in
       let plan-of-x : planOn (after b y) x ≡ p = ap (λ (c : Books). planOn c x) after-y ∙ sym plan-x in
       record {

@@ -3,6 +3,7 @@ pub mod Replay
 pub mod Named
 pub mod Refusals
 pub mod Locality
+pub mod ProcessesApart
 pub mod Effects
 pub mod OwnKeys
 pub mod Unseen

@@ -7,17 +7,19 @@ use mathlib.Core.Option.{Option}
 use lib.IntN.{ℤ}
 use Rattle.rules.specs.Keyed.{Key}
 use Rattle.rules.specs.Rows.{keyOf}
-use Rattle.rules.specs.Request.{Request, trade, separate, transfer, merge, lineage}
+use Rattle.rules.specs.Request.{Request, trade, separate, transfer, merge, lineage, giveUp}
 use Rattle.rules.specs.Books.{View}
 use Rattle.rules.specs.Trade.{tradePlan}
 use Rattle.rules.specs.Separation.{separationPlan}
 use Rattle.rules.specs.Transfer.{transferPlan}
 use Rattle.rules.specs.Merge.{Source, mergePlan, sourcesOf, pairsOf, isAmong}
 use Rattle.rules.specs.Lineage.{lineagePlan}
+use Rattle.rules.specs.GiveUp.{giveUpPlan}
 use Rattle.rules.specs.Touching.{idsOf, positionsOf, isNamedIn}
 use Rattle.rules.specs.Handle.{planOf}
 use Rattle.rules.specs.declared.Record.{Record}
 use Rattle.rules.specs.declared.Position.{Position}
+use Rattle.rules.specs.declared.ProcessRow.{ProcessRow}
 use Rattle.history.proofs.Named.{named-here, named-later, among-here, among-later}
 
 -- Two views agree at these ids.
@@ -29,6 +31,8 @@ pub record AgreeAtIds (v w : View) (ids : List ℤ) : Type 0 where
 pub record Agree (v w : View) (r : Request) : Type 0 where
   pub at-ids : AgreeAtIds v w (idsOf r)
   pub at-positions : (account series : ℤ) → isAmong (keyOf account series) (positionsOf r) ≡ true → v .positionAt account series ≡ w .positionAt account series
+  pub at-processes : (process : ℤ) → isNamedIn process (idsOf r) ≡ true → (id : ℤ) → v .processAt process id ≡ w .processAt process id
+  pub transaction-of : (process : ℤ) → isNamedIn process (idsOf r) ≡ true → v .transactionOf process ≡ w .transactionOf process
 
 module _ (v w : View) where
   fewer : (id : ℤ) (ids : List ℤ) → AgreeAtIds v w (id ∷ ids) → AgreeAtIds v w ids
@@ -37,7 +41,7 @@ module _ (v w : View) where
     greatest-at = λ x n. a .greatest-at x (named-later x id ids n);
   }
 
-  same-sources : (ks : List Key) → AgreeAtIds v w (map (λ (k : Key). k .major) ks) → sourcesOf v ks ≡ sourcesOf w ks
+  pub same-sources : (ks : List Key) → AgreeAtIds v w (map (λ (k : Key). k .major) ks) → sourcesOf v ks ≡ sourcesOf w ks
   unfolding sourcesOf
   same-sources [] a = refl
   same-sources (k ∷ rest) a =
@@ -71,3 +75,13 @@ module _ (v w : View) where
       (a .at-positions account series (among-here (keyOf account series) []))
   local (lineage id suffix) a =
       ap (λ (f : ℤ → Option Record). lineagePlan id suffix f) (fun-ext (a .at-ids .record-at id (named-here id [])))
+  local (giveUp step process id suffix giving taking series) a =
+      let first : isNamedIn process (process ∷ id ∷ []) ≡ true = named-here process (id ∷ []) in
+      let second : isNamedIn id (process ∷ id ∷ []) ≡ true = named-later id process (id ∷ []) (named-here id []) in
+      ap₂ (λ (u : Option ℤ) (p : Option ProcessRow). giveUpPlan step process id suffix giving taking series u p (v .recordAt id suffix) (v .greatestSuffix id) (v .positionAt giving series) (v .positionAt taking series))
+      (a .transaction-of process first) (a .at-processes process first id)
+      ∙ ap₂ (λ (f : Option Record) (g : Option ℤ). giveUpPlan step process id suffix giving taking series (w .transactionOf process) (w .processAt process id) f g (v .positionAt giving series) (v .positionAt taking series))
+      (a .at-ids .record-at id second suffix) (a .at-ids .greatest-at id second)
+      ∙ ap₂ (λ (o n : Position). giveUpPlan step process id suffix giving taking series (w .transactionOf process) (w .processAt process id) (w .recordAt id suffix) (w .greatestSuffix id) o n)
+      (a .at-positions giving series (among-here (keyOf giving series) (keyOf taking series ∷ [])))
+      (a .at-positions taking series (among-later (keyOf taking series) (keyOf giving series) (keyOf taking series ∷ []) (among-here (keyOf taking series) [])))

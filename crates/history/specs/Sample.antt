@@ -1,19 +1,24 @@
--- A history of all five kinds of request and of batches, with two refused requests and a batch that stops, another order of its accepted ones, and a touching pair that may not be exchanged.
+-- A history of every kind of request and of batches, with three refused requests and a batch that stops, another order of its accepted ones, and a touching pair that may not be exchanged.
 use Prim.Native.Nat.{ℕ}
 use mathlib.Core.List.{List, [], _∷_, _++_}
 use lib.IntN.{ℤ, pos, negℤ}
 use lib.ListN.{replicate}
-use Rattle.rules.specs.Request.{Request, trade, separate, transfer, merge, lineage}
+use Rattle.rules.specs.Request.{Request, trade, separate, transfer, merge, lineage, giveUp}
 use Rattle.rules.specs.Call.{Call, one, trades}
-use Rattle.rules.specs.Tables.{Tables}
+use Rattle.rules.specs.Tables.{Tables, allTables}
+use Rattle.rules.specs.declared.Step.{Step}
+use Rattle.rules.specs.declared.Step.the-variants.{Open, Claim, ApproveGiver, ApproveTaker}
 use Rattle.rules.specs.declared.Reply.{Reply}
 use Rattle.rules.specs.declared.Reply.the-variants.{Booked, Lineage}
 use Rattle.history.specs.History.{Entry, entriesTouch}
 use Rattle.history.specs.ByPlaces.{inOrder}
 
--- Two tables with no row; cells that hold no row hold -1.
+-- Tables with no row; cells that hold no row hold -1.
+abbrev pub blank : ℕ → List ℤ
+blank cells = pos 0 ∷ replicate cells (negℤ (pos 1))
+
 abbrev pub start : Tables
-start = record { records = pos 0 ∷ replicate 199 (negℤ (pos 1)); positions = pos 0 ∷ replicate 37 (negℤ (pos 1)) }
+start = allTables (blank 225) (blank 37) (blank 20)
 
 -- Trades 1 and 2, the first separated; trade 3, transferred; the parts of 1 merged into 5.
 abbrev pub trade1 : Request
@@ -51,10 +56,15 @@ stopping =
     (pos 13 ∷ pos 42 ∷ pos 6 ∷ pos 2 ∷ pos 8 ∷ pos 2 ∷ pos 2 ∷ pos 20 ∷ pos 5 ∷ pos 2 ∷ pos 50 ∷ pos 9 ∷ pos 14 ∷ pos 42 ∷ pos 6 ∷ pos 2 ∷ pos 8 ∷ pos 2 ∷ [])
     3
 
--- Trade 1 a second time is refused, and so is the lineage of an id that is not there.
+-- Process 90 gives trade 2 up from account 20 to account 21.
+abbrev pub giveUp2 : Step → Request
+giveUp2 step = giveUp step (pos 90) (pos 2) (pos 0) (pos 20) (pos 21) (pos 5)
+
+-- Trade 1 a second time is refused, and so is the lineage of an id that is not there, and the taker's approval before the claim.
 abbrev pub history : List Call
 history =
-    one trade1 ∷ one trade1 ∷ one trade2 ∷ one separate1 ∷ batch ∷ one lineage2 ∷ one (lineage (pos 9) (pos 0)) ∷ one trade3 ∷ stopping ∷ one transfer3 ∷ one merge1 ∷ []
+    one trade1 ∷ one trade1 ∷ one trade2 ∷ one separate1 ∷ one (giveUp2 Open) ∷ batch ∷ one lineage2 ∷ one (lineage (pos 9) (pos 0)) ∷ one (giveUp2 ApproveTaker) ∷ one trade3
+    ∷ one (giveUp2 Claim) ∷ stopping ∷ one (giveUp2 ApproveGiver) ∷ one transfer3 ∷ one merge1 ∷ one (giveUp2 ApproveTaker) ∷ []
 
 abbrev pub entry : Request → Reply → Entry
 entry request reply = record { call = one request; reply = reply; output = [] }
@@ -63,13 +73,15 @@ entry request reply = record { call = one request; reply = reply; output = [] }
 abbrev pub accepted : List Entry
 accepted =
     entry trade1 (Booked (pos 1) (pos 0)) ∷ entry trade2 (Booked (pos 1) (pos 0)) ∷ entry separate1 (Booked (pos 3) (pos 0))
+    ∷ entry (giveUp2 Open) (Booked (pos 0) (pos 0))
     ∷ record { call = batch; reply = Booked (pos 2) (pos 0); output = pos 0 ∷ pos 5 ∷ [] }
-    ∷ entry lineage2 (Lineage (pos 9) (pos 0)) ∷ entry trade3 (Booked (pos 1) (pos 0)) ∷ entry trade13 (Booked (pos 1) (pos 0))
-    ∷ entry transfer3 (Booked (pos 2) (pos 0)) ∷ entry merge1 (Booked (pos 3) (pos 0)) ∷ []
+    ∷ entry lineage2 (Lineage (pos 9) (pos 0)) ∷ entry trade3 (Booked (pos 1) (pos 0))
+    ∷ entry (giveUp2 Claim) (Booked (pos 0) (pos 0)) ∷ entry trade13 (Booked (pos 1) (pos 0)) ∷ entry (giveUp2 ApproveGiver) (Booked (pos 0) (pos 0))
+    ∷ entry transfer3 (Booked (pos 2) (pos 0)) ∷ entry merge1 (Booked (pos 3) (pos 0)) ∷ entry (giveUp2 ApproveTaker) (Booked (pos 2) (pos 0)) ∷ []
 
--- Trade 3, the batch, trade 2, trade 1, the transfer, trade 13, the separation, the merge, the lineage.
+-- Trade 3, the batch, trade 2, the opening, trade 1, the transfer, the lineage, the claim, the giver's approval, the taker's, trade 13, the separation, the merge.
 abbrev pub places : List ℕ
-places = 5 ∷ 3 ∷ 1 ∷ 0 ∷ 7 ∷ 6 ∷ 2 ∷ 8 ∷ 4 ∷ []
+places = 6 ∷ 4 ∷ 1 ∷ 3 ∷ 0 ∷ 10 ∷ 5 ∷ 7 ∷ 9 ∷ 12 ∷ 8 ∷ 2 ∷ 11 ∷ []
 
 -- An entry past the end, which no place needs.
 abbrev pub past : Entry
@@ -89,14 +101,16 @@ position account series long short cash = account ∷ series ∷ long ∷ short 
 abbrev pub finish : Tables
 finish = record {
   records =
-      pos 14
+      pos 16
       ∷ row (pos 1) (pos 0) (pos 0) (pos 0) (pos 1) (pos 10) (pos 5) (pos 1) (pos 100) (pos 7) (pos 100) (pos 0) (pos 0)
       ++ row (pos 1) (pos 1) (pos 0) (pos 6) (pos 2) (pos 10) (pos 5) (pos 1) (negℤ (pos 100)) (pos 7) (pos 0) (pos 0) (pos 0)
       ++ row (pos 1) (pos 2) (pos 0) (pos 6) (pos 1) (pos 10) (pos 5) (pos 1) (pos 40) (pos 7) (pos 0) (pos 0) (pos 0)
       ++ row (pos 1) (pos 3) (pos 0) (pos 6) (pos 1) (pos 10) (pos 5) (pos 1) (pos 60) (pos 7) (pos 0) (pos 0) (pos 0)
       ++ row (pos 1) (pos 4) (pos 2) (pos 901) (pos 2) (pos 10) (pos 5) (pos 1) (negℤ (pos 40)) (pos 7) (pos 0) (pos 0) (pos 5)
       ++ row (pos 1) (pos 5) (pos 3) (pos 901) (pos 2) (pos 10) (pos 5) (pos 1) (negℤ (pos 60)) (pos 7) (pos 0) (pos 0) (pos 5)
-      ++ row (pos 2) (pos 0) (pos 0) (pos 0) (pos 0) (pos 20) (pos 5) (pos 2) (pos 50) (pos 9) (pos 0) (pos 50) (pos 0)
+      ++ row (pos 2) (pos 0) (pos 0) (pos 0) (pos 1) (pos 20) (pos 5) (pos 2) (pos 50) (pos 9) (pos 0) (pos 50) (pos 0)
+      ++ row (pos 2) (pos 1) (pos 0) (pos 20) (pos 2) (pos 20) (pos 5) (pos 2) (negℤ (pos 50)) (pos 9) (pos 0) (negℤ (pos 50)) (pos 0)
+      ++ row (pos 2) (pos 2) (pos 0) (pos 30) (pos 0) (pos 21) (pos 5) (pos 2) (pos 50) (pos 9) (pos 0) (pos 50) (pos 0)
       ++ row (pos 3) (pos 0) (pos 0) (pos 0) (pos 1) (pos 30) (pos 6) (pos 1) (pos 5) (negℤ (pos 4)) (pos 5) (pos 0) (pos 0)
       ++ row (pos 3) (pos 1) (pos 0) (pos 4) (pos 2) (pos 30) (pos 6) (pos 1) (negℤ (pos 5)) (negℤ (pos 4)) (negℤ (pos 5)) (pos 0) (pos 0)
       ++ row (pos 3) (pos 2) (pos 0) (pos 4) (pos 0) (pos 31) (pos 6) (pos 1) (pos 5) (negℤ (pos 4)) (pos 5) (pos 0) (pos 0)
@@ -106,14 +120,16 @@ finish = record {
       ++ row (pos 13) (pos 0) (pos 0) (pos 0) (pos 0) (pos 42) (pos 6) (pos 2) (pos 8) (pos 2) (pos 0) (pos 8) (pos 0)
       ++ replicate 17 (negℤ (pos 1));
   positions =
-      pos 6
+      pos 7
       ∷ position (pos 10) (pos 5) (pos 100) (pos 0) (pos 0)
-      ++ position (pos 20) (pos 5) (pos 0) (pos 50) (pos 0)
+      ++ position (pos 20) (pos 5) (pos 0) (pos 0) (pos 0)
+      ++ position (pos 21) (pos 5) (pos 0) (pos 50) (pos 0)
       ++ position (pos 30) (pos 6) (pos 0) (pos 0) (pos 0)
       ++ position (pos 31) (pos 6) (pos 5) (pos 0) (pos 0)
       ++ position (pos 40) (pos 6) (pos 0) (pos 5) (pos 0)
       ++ position (pos 42) (pos 6) (pos 0) (pos 8) (pos 0)
-      ++ replicate 7 (negℤ (pos 1));
+      ++ replicate 2 (negℤ (pos 1));
+  processes = pos 1 ∷ pos 90 ∷ pos 2 ∷ pos 0 ∷ pos 20 ∷ pos 21 ∷ pos 5 ∷ pos 1 ∷ pos 1 ∷ pos 0 ∷ replicate 11 (negℤ (pos 1));
 }
 
 -- A buy to open, and a sell to close that closes part of it.

@@ -35,7 +35,7 @@ module _ (b : Books) (sound : SoundBooks b) where
   process-sound none f = sound .processes-sound
   process-sound (some p) f = all-upsert processKey soundProcess p (b .processes) (f .0) (sound .processes-sound)
 
-  process-fits : (o : Option ProcessRow) → ProcessRoom b o → length (b .processes) + absentProcess (b .processes) o ≤ b .processesRoom
+  pub process-fits : (o : Option ProcessRow) → ProcessRoom b o → length (b .processes) + absentProcess (b .processes) o ≤ b .processesRoom
   process-fits none room = omega (arith, sound .processes-fit)
   process-fits (some p) room = room
 
