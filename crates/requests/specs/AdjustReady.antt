@@ -6,8 +6,8 @@ use mathlib.Core.List.{List}
 use lib.IntN.{ℤ, pos, _+ℤ_}
 use lib.ListN.{length}
 use lib.Signed.{_≤ℤ_}
-use Rattle.rules.specs.Figures.{adjustable, greatestOfSuffixes}
-use Rattle.rules.specs.Rows.{keyOf, recordKey}
+use Rattle.rules.specs.Figures.{greatestOfSuffixes}
+use Rattle.rules.specs.Rows.{keyOf, recordKey, adjustedRecord, soundRecord}
 use Rattle.rules.specs.Layout.{roomOf, rowsOf}
 use Rattle.rules.specs.Tables.{recordsLayout, soundRecords}
 use Rattle.rules.specs.declared.Record.{Record}
@@ -17,7 +17,7 @@ use Rattle.requests.specs.KnownRecord.{KnownRecord}
 pub record AdjustReady (cells : List ℤ) (id suffix : ℤ) (named : Named) (inverse first : Record) (quantities : List ℤ) : Type 0 where
   pub sound : soundRecords cells ≡ true
   pub known : KnownRecord cells id suffix named
-  pub is-adjustable : named .record .status ≡ adjustable
+  pub adjusted-sound : soundRecord (adjustedRecord (named .record)) ≡ true
   pub inverse-key : recordKey inverse ≡ keyOf id (named .next)
   pub first-key : recordKey first ≡ keyOf id (named .next +ℤ pos 1)
   pub room : length (rowsOf recordsLayout cells) + suc (length quantities) ≤ roomOf recordsLayout cells

@@ -4,7 +4,9 @@ use rules::Movement;
 use rules::Position;
 use rules::Record;
 use rules::codes::ADJUSTABLE;
+use rules::codes::ADJUSTED;
 use rules::codes::INVERSE;
+use rules::codes::UNDER_GIVE_UP;
 use tables::new_rows;
 use tables::positions;
 use tables::records;
@@ -13,9 +15,10 @@ ghost use mathlib.Core.Bool.{true};
 ghost use mathlib.Core.List.{_∷_};
 ghost use Prim.Native.Nat.{_+_, _≤_};
 ghost use lib.Dec.{ltb};
+ghost use lib.IntN.{pos};
 ghost use lib.ListN.{length};
 ghost use Rattle.rules.specs.Figures.{magnitudeAtMost};
-ghost use Rattle.rules.specs.NamedRecord.{isElsewhere};
+ghost use Rattle.rules.specs.NamedRecord.{isElsewhere, statusRefusal};
 ghost use Rattle.rules.specs.Keyed.{upsertAll};
 ghost use Rattle.rules.specs.Rows as Rows;
 ghost use Rattle.rules.specs.Rows.{recordKey};
@@ -130,7 +133,7 @@ pub fn adjust_named(
 {
     let row = named.row;
     let place = named.place;
-    records::adjust_record(&mut *records, row);
+    records::set_status(&mut *records, row, ADJUSTED);
     new_rows::insert_rows(records, place, inverse, first, quantities);
 }
 
@@ -142,6 +145,16 @@ pub fn is_elsewhere(r: Record, account: i64, series: i64) -> bool
         return true;
     }
     r.series != series
+}
+
+// 7, or 17 while a give-up is under way: the refusal of a record of this status, which isn't 0.
+pub fn status_refusal(status: i64) -> i64
+    ensures { λ r. ⌜ r ≡ pos (statusRefusal status) ⌝ }
+{
+    if status == UNDER_GIVE_UP {
+        return 17;
+    }
+    7
 }
 
 // A row with suffix 0, parent 0 and status 0: a trade's, and the merged one.
