@@ -9,3 +9,4 @@ pub mod Greatest
 pub mod Folds
 pub mod Counts
 pub mod Runs
+pub mod FirstFigures
