@@ -1,8 +1,8 @@
 //! Compares the book, as a host links it, with the model of documents 01 and 02: `cargo run --release -- [--seed S] [--calls N] [--show K]`.
 //!
-//! A run has a fixed part (the ends of every range, every length around the limits, full tables, every step of a give-up at every stage: some 85,000 calls) and a random part of which the
-//! seed decides, until N calls are made. It prints which answers it saw, and ends with a line that says how many calls passed. The first difference is
-//! printed in full.
+//! A run has a fixed part (the ends of every range, every length around the limits, full tables, every step of a give-up at every stage: some 85,000
+//! calls) and a random part of which the seed decides, until N calls are made. It prints which answers it saw, and ends with a line that says how many
+//! calls passed. The first difference is printed in full.
 
 mod batch_sweeps;
 mod batches;
