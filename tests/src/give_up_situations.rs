@@ -6,7 +6,7 @@ use crate::tables::{processes_len, Tables, MOST_PROCESSES, PROCESS_CELLS};
 use model::{Reply, Request, Step};
 
 /// Situations that a good run has met.
-pub const GIVE_UP_SITUATIONS: [&str; 39] = [
+pub const GIVE_UP_SITUATIONS: [&str; 40] = [
     "give-up: every step at every stage, with any approvals",
     "give-up: opened below other processes",
     "give-up: opened on a record that was given up before",
@@ -42,6 +42,7 @@ pub const GIVE_UP_SITUATIONS: [&str; 39] = [
     "give-up: an earlier number, and processes that are not sound",
     "give-up: beside another process of the same record",
     "give-up: beside a row with equal accounts",
+    "give-up: from empty tables on, two records or more are held",
     "demand 3: a step of a give-up, in another order",
     "demand 3: a step that completes, in another order",
     "demand 3: steps of two processes change places",

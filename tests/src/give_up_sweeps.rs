@@ -298,7 +298,6 @@ fn openings(checker: &mut Checker) {
 
 /// What a later step tests, alone and together: each figure against the row's, the turn, the record, its account and series, status and side.
 fn later_steps(checker: &mut Checker) {
-    let steps = &EACH[1..];
     for (status, side) in statuses_and_sides() {
         for stage in [PENDING, CLAIMED] {
             let mut before = tables([0, 0, stage]);
@@ -310,16 +309,30 @@ fn later_steps(checker: &mut Checker) {
                     if let Some(figure) = names.get_mut(unlike) {
                         *figure += 2;
                     }
-                    for step in steps {
-                        let reply = checker.ask(&tables, &named(*step, &names)).reply;
-                        let first = if unlike < GIVEN.len() { 18 } else { [5, 6, 6, 7][which] };
-                        let turn = unlike < GIVEN.len() || (stage == PENDING) == (*step != Step::ApproveTaker) || *step == Step::ApproveGiver;
-                        if which < 3 && turn {
-                            assert_eq!(reply, Reply::Refused { number: first, place: 0 }, "{step:?} {names:?}");
-                        }
+                    for step in &EACH[1..] {
+                        let may = unlike == GIVEN.len() && has_turn(*step, stage);
+                        let expected = match (which, status, side) {
+                            _ if !may => Reply::Refused { number: 18, place: 0 },
+                            (0, ..) => Reply::Refused { number: 5, place: 0 },
+                            (1 | 2, ..) => Reply::Refused { number: 6, place: 0 },
+                            (_, 0..=2, _) => Reply::Refused { number: 7, place: 0 },
+                            (.., 3 | 4) => Reply::Refused { number: 8, place: 0 },
+                            _ => Reply::Booked { rows: 0, residual: 0 },
+                        };
+                        assert_eq!(checker.ask(&tables, &named(*step, &names)).reply, expected, "{step:?} {names:?}");
                     }
                 }
             }
         }
+    }
+}
+
+/// Of a process without approvals that is pending or claimed.
+fn has_turn(step: Step, stage: i64) -> bool {
+    match step {
+        Step::Open => false,
+        Step::Claim | Step::Cancel | Step::Refuse => stage == PENDING,
+        Step::ApproveGiver => true,
+        Step::ApproveTaker => stage == CLAIMED,
     }
 }

@@ -4,6 +4,7 @@ use crate::batches::{self, trades_of};
 use crate::checker::Checker;
 use crate::coverage::{column_of, POSSIBLE};
 use crate::draw::{any_request, damage, empty_tables, request, sound_tables, Lean, LEANS};
+use crate::give_ups::{CLAIMED, PENDING};
 use crate::orders::{entries_of, reordered};
 use crate::rng::Rng;
 use crate::tables::{Tables, POSITION_CELLS, RECORD_CELLS};
@@ -54,12 +55,16 @@ pub fn history(checker: &mut Checker, rng: &mut Rng) {
             sound_tables(rng, lean, 20)
         }
     };
+    let from_empty = start.records[0] == 0 && start.processes[0] == 0;
     let mut tables = start.clone();
     let mut entries = Vec::new();
     for _ in 0..4 + rng.below(44) {
         let request = any_request(rng, &tables);
         let before = tables.clone();
         let answer = checker.call(&mut tables, &request);
+        if from_empty {
+            held_by_one_process(checker, &tables);
+        }
         if rng.percent(20) {
             one_by_one(checker, &before, &request, &answer, &tables);
         }
@@ -82,6 +87,19 @@ pub fn large_batches(checker: &mut Checker, rng: &mut Rng, times: usize) {
         let count = rng.pick(&[999, 1_000, 1_000, 1_001]);
         let request = batches::of_trades(rng, &tables, count);
         checker.ask(&tables, &request);
+    }
+}
+
+/// From empty tables on: a record has status 3 exactly where a process that is pending or claimed names it, and then just one does.
+fn held_by_one_process(checker: &mut Checker, tables: &Tables) {
+    let mut named: Vec<&[i64]> = tables.process_rows().filter(|row| matches!(row[8], PENDING | CLAIMED)).map(|row| &row[1..3]).collect();
+    named.sort();
+    let held: Vec<&[i64]> = tables.record_rows().filter(|row| row[4] == 3).map(|row| &row[..2]).collect();
+    if named != held {
+        checker.fail_later(&format!("the records of status 3 and the processes that hold them\n{}", tables.print()));
+    }
+    if held.len() > 1 {
+        checker.coverage.situation("give-up: from empty tables on, two records or more are held");
     }
 }
 
