@@ -10,8 +10,9 @@ fn position_key(k: usize) -> (i64, i64) {
     (1 + k as i64 / 20, 1 + k as i64 % 20)
 }
 
-/// A request that is accepted, and the tables for it, with so many records and a quarter as many positions. In the middle stands one id with five suffixes, each the parent of the next; the
-/// other records are adjustable buys under even ids. What a request names lies in the middle of its table, so that half of the rows move.
+/// A request that is accepted, and the tables for it, with so many records and a quarter as many positions. In the middle stands one id with five
+/// suffixes, each the parent of the next; the other records are adjustable buys under even ids. What a request names lies in the middle of its table,
+/// so that half of the rows move.
 pub fn case(kind: usize, rows: usize) -> (Request, [Vec<i64>; 2]) {
     let position_count = (rows / 4).clamp(4, 1_000);
     let singles = rows - 5;

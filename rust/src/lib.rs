@@ -199,18 +199,18 @@ pub mod c {
             id: i64, suffix: i64, from: i64, to: i64, series: i64) -> Coded;
         pub fn velichundam_merge(records: *mut i64, records_len: usize, positions: *mut i64, positions_len: usize,
             id: i64, account: i64, series: i64, pairs: *const i64, pairs_len: usize) -> Coded;
-        pub fn velichundam_give_up_open(records: *mut i64, records_len: usize, positions: *mut i64, positions_len: usize, processes: *mut i64, processes_len: usize,
-            process: i64, id: i64, suffix: i64, giving: i64, taking: i64, series: i64) -> Coded;
-        pub fn velichundam_give_up_claim(records: *mut i64, records_len: usize, positions: *mut i64, positions_len: usize, processes: *mut i64, processes_len: usize,
-            process: i64, id: i64, suffix: i64, giving: i64, taking: i64, series: i64) -> Coded;
-        pub fn velichundam_give_up_cancel(records: *mut i64, records_len: usize, positions: *mut i64, positions_len: usize, processes: *mut i64, processes_len: usize,
-            process: i64, id: i64, suffix: i64, giving: i64, taking: i64, series: i64) -> Coded;
-        pub fn velichundam_give_up_refuse(records: *mut i64, records_len: usize, positions: *mut i64, positions_len: usize, processes: *mut i64, processes_len: usize,
-            process: i64, id: i64, suffix: i64, giving: i64, taking: i64, series: i64) -> Coded;
-        pub fn velichundam_give_up_approve_giver(records: *mut i64, records_len: usize, positions: *mut i64, positions_len: usize, processes: *mut i64, processes_len: usize,
-            process: i64, id: i64, suffix: i64, giving: i64, taking: i64, series: i64) -> Coded;
-        pub fn velichundam_give_up_approve_taker(records: *mut i64, records_len: usize, positions: *mut i64, positions_len: usize, processes: *mut i64, processes_len: usize,
-            process: i64, id: i64, suffix: i64, giving: i64, taking: i64, series: i64) -> Coded;
+        pub fn velichundam_give_up_open(records: *mut i64, records_len: usize, positions: *mut i64, positions_len: usize,
+            processes: *mut i64, processes_len: usize, process: i64, id: i64, suffix: i64, giving: i64, taking: i64, series: i64) -> Coded;
+        pub fn velichundam_give_up_claim(records: *mut i64, records_len: usize, positions: *mut i64, positions_len: usize,
+            processes: *mut i64, processes_len: usize, process: i64, id: i64, suffix: i64, giving: i64, taking: i64, series: i64) -> Coded;
+        pub fn velichundam_give_up_cancel(records: *mut i64, records_len: usize, positions: *mut i64, positions_len: usize,
+            processes: *mut i64, processes_len: usize, process: i64, id: i64, suffix: i64, giving: i64, taking: i64, series: i64) -> Coded;
+        pub fn velichundam_give_up_refuse(records: *mut i64, records_len: usize, positions: *mut i64, positions_len: usize,
+            processes: *mut i64, processes_len: usize, process: i64, id: i64, suffix: i64, giving: i64, taking: i64, series: i64) -> Coded;
+        pub fn velichundam_give_up_approve_giver(records: *mut i64, records_len: usize, positions: *mut i64, positions_len: usize,
+            processes: *mut i64, processes_len: usize, process: i64, id: i64, suffix: i64, giving: i64, taking: i64, series: i64) -> Coded;
+        pub fn velichundam_give_up_approve_taker(records: *mut i64, records_len: usize, positions: *mut i64, positions_len: usize,
+            processes: *mut i64, processes_len: usize, process: i64, id: i64, suffix: i64, giving: i64, taking: i64, series: i64) -> Coded;
         pub fn velichundam_lineage(records: *const i64, records_len: usize, id: i64, suffix: i64) -> Coded;
     }
 }

@@ -154,8 +154,8 @@ mod peer_behind_the_interface {
     macro_rules! step {
         ($name:ident, $step:expr) => {
             #[no_mangle]
-            unsafe extern "C" fn $name(records: *mut i64, records_len: usize, positions: *mut i64, positions_len: usize, processes: *mut i64, processes_len: usize,
-                process: i64, id: i64, suffix: i64, giving: i64, taking: i64, series: i64) -> Coded {
+            unsafe extern "C" fn $name(records: *mut i64, records_len: usize, positions: *mut i64, positions_len: usize,
+                processes: *mut i64, processes_len: usize, process: i64, id: i64, suffix: i64, giving: i64, taking: i64, series: i64) -> Coded {
                 let (records, positions) = (from_raw_parts_mut(records, records_len), from_raw_parts_mut(positions, positions_len));
                 coded(peer::give_up($step, records, positions, from_raw_parts_mut(processes, processes_len), process, id, suffix, giving, taking, series))
             }

@@ -295,7 +295,8 @@ fn try_transfer(records: &mut [i64], positions: &mut [i64], id: i64, suffix: i64
     change_account(&mut records, &mut positions, at, row, to, [TRANSFER; 2])
 }
 
-/// Tests 12 to 16 of a record, by its place and a copy of it, that goes to another account; then its inverse row and the row in the new account, of these types.
+/// Tests 12 to 16 of a record, by its place and a copy of it, that goes to another account; then its inverse row and the row in the new account, of
+/// these types.
 #[inline(always)]
 fn change_account(records: &mut Records, positions: &mut Positions, at: usize, mut row: RecordRow, to: i64, kinds: [i64; 2]) -> Outcome {
     let (id, suffix, from, series) = (row[ID], row[SUFFIX], row[ACCOUNT], row[SERIES]);
