@@ -23,7 +23,7 @@ unfoldable pub verdictOf : Option Test → Verdict
 verdictOf none = Accepted
 verdictOf (some t) = Refused (pos (t .number)) (pos (t .place))
 
--- Refusals 1 and 2, of a request that books: accepted where both tables are sound.
+-- Refusals 1 and 2, of a request that books: accepted where both tables are sound. (A step of a give-up has 19 after them.)
 unfoldable pub verdictOnTables : List ℤ → List ℤ → Verdict
 verdictOnTables records positions = verdictOf (firstRefusal (test 1 (not (soundRecords records)) ∷ test 2 (not (soundPositions positions)) ∷ []))
 
@@ -36,7 +36,7 @@ isBooking (merge id account series pairs) = true
 isBooking (lineage id suffix) = false
 isBooking (giveUp step process id suffix giving taking series) = true
 
--- Refusals 3 to 16, on sound tables.
+-- Refusals 3 to 17, on sound tables.
 unfoldable pub verdictOn : List ℤ → List ℤ → Request → Verdict
 verdictOn records positions r = verdictOf (firstRefusal (planTests (booksOf (tablesOf records positions)) (planFor records positions r)))
 
