@@ -1,0 +1,2 @@
+pub mod HandledIn
+pub mod StepTests
