@@ -1,3 +1,5 @@
 pub mod Answering
 pub mod StepVerdict
 pub mod StepBooked
+pub mod Opening
+pub mod Later

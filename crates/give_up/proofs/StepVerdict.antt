@@ -63,13 +63,13 @@ module _ (rs ps qs : List ℤ) (process id suffix giving taking series : ℤ) wh
   abbrev pub foundRecord : Option Record
   foundRecord = find recordKey (keyOf id suffix) (rowsOf recordsLayout rs)
 
-  abbrev next : ℤ
+  abbrev pub next : ℤ
   next = nextSuffix (greatest recordKey id (rowsOf recordsLayout rs))
 
-  abbrev old : Position
+  abbrev pub old : Position
   old = orZeros giving series (find positionKey (keyOf giving series) (rowsOf positionsLayout ps))
 
-  abbrev new : Position
+  abbrev pub new : Position
   new = orZeros taking series (find positionKey (keyOf taking series) (rowsOf positionsLayout ps))
 
   -- What the step makes of the process.
@@ -77,7 +77,7 @@ module _ (rs ps qs : List ℤ) (process id suffix giving taking series : ℤ) wh
   after step = stepped step (processBefore step process id suffix giving taking series foundProcess)
 
   -- The tests from 12 on, and from 6 on, of the record r.
-  abbrev tail : Step → Record → List Test
+  abbrev pub tail : Step → Record → List Test
   tail step r = test 12 (isComplete (after step) && holdsTooLittle r old) ∷ bookingTests (booksOf t) (giveUpEffects step r (after step) next taking old new)
 
   abbrev pub fromRecord : Step → Record → List Test
