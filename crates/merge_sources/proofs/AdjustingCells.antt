@@ -8,7 +8,6 @@ use mathlib.Core.List.{List, [], map}
 use mathlib.Core.Option.{some}
 use lib.IntN.{ℤ}
 use lib.ListN.{length}
-use Rattle.rules.specs.Figures.{adjustable}
 use Rattle.rules.specs.Keyed.{Key, find, upsert, upsertAll}
 use Rattle.rules.specs.Rows.{recordKey, soundRecord, adjustedRecord}
 use Rattle.rules.specs.NamedRecord.{noRecord, isNotAdjustable}
@@ -21,10 +20,13 @@ use Rattle.cells.proofs.RowCells.{records-lawful}
 use Rattle.cells.proofs.SoundCells.{records-known}
 use Rattle.cells.proofs.Write.{rows-write}
 use Rattle.keys.proofs.Split.{some-inj}
+use Rattle.keys.proofs.Lookup.{find-all}
 use Rattle.lookup.specs.Lookup.{foundIn}
 use Rattle.lookup.proofs.KeysKept.{found-kept}
 use Rattle.lookup.proofs.TableLookup.{records-first}
 use Rattle.soundness.proofs.NamedRecord.{recordOf}
+use Rattle.soundness.proofs.SoundRecord.{record-sound}
+use Rattle.soundness.proofs.SoundRows.{adjustable-open, adjusted-sound}
 use Rattle.merge_sources.specs.Sources.{allFound, sourceRecords}
 use Rattle.merge_sources.specs.Pairs.{pairAt, repeatsFrom}
 use Rattle.merge_sources.proofs.SourceRows.{RowOfPair, row-within, row-record}
@@ -76,8 +78,14 @@ module _ (cells pairs : List ℤ) where
     same-record : rowAt recordsLayout now row ≡ source
     same-record = some-inj (row-record now pairs i row row-now) found-now
 
-    pub adjust-ready : (soundRecords now ≡ true) × (row < length (rowsOf recordsLayout now)) × (rowAt recordsLayout now row .status ≡ adjustable)
-    adjust-ready = (a .sound, row-within now pairs i row row-now, ap (λ (r : Record). r .status) same-record ∙ source-adjustable cells pairs i h free)
+    -- It stays sound in its new status, since it is no inverse.
+    adjusted-stays : soundRecord (adjustedRecord source) ≡ true
+    adjusted-stays =
+        adjusted-sound source (record-sound source (find-all recordKey soundRecord (pairAt pairs i) (rowsOf recordsLayout now) source (records-known now (a .sound) .rows-sound) found-now))
+        (adjustable-open (source .status) (source-adjustable cells pairs i h free))
+
+    pub adjust-ready : (soundRecords now ≡ true) × (row < length (rowsOf recordsLayout now)) × (soundRecord (adjustedRecord (rowAt recordsLayout now row)) ≡ true)
+    adjust-ready = (a .sound, row-within now pairs i row row-now, ap (λ (r : Record). soundRecord (adjustedRecord r)) same-record ∙ adjusted-stays)
 
     -- The record stands under its own key.
     own-key : find recordKey (recordKey (adjustedRecord (rowAt recordsLayout now row))) (rowsOf recordsLayout now) ≡ some source

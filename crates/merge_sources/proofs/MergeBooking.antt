@@ -14,7 +14,7 @@ use Rattle.rules.specs.Refusal.{allOf}
 use Rattle.rules.specs.Request.{merge}
 use Rattle.rules.specs.Books.{viewOf}
 use Rattle.rules.specs.Plan.{planReply, booked}
-use Rattle.rules.specs.Handle.{Answer, planOf, planTables, answered}
+use Rattle.rules.specs.Handle.{Answer, planOf, planTables, writtenBy, answered}
 use Rattle.rules.specs.Layout.{roomOf, rowsOf, write}
 use Rattle.rules.specs.Tables.{booksOf, writeBooks, recordsLayout, positionsLayout, soundRecords, tablesOf}
 use Rattle.rules.specs.Merge.{Source, pairsOf, sourcesOf, recordsOf, mergeInverses, mergedRecord, mergeResidual, mergePlan}
@@ -230,7 +230,7 @@ module _ (rs ps : List ℤ) (id account series : ℤ) (pairs : List ℤ) (sound 
       (write positionsLayout ps (upsertAll positionKey (mergePosition ps account series (recordsOf sources) ∷ []) (rowsOf positionsLayout ps)))
 
   ruled-accepted : acceptedOn rs ps (merge id account series pairs) ≡ ruled (sourcesOf (viewOf (booksOf (tablesOf rs ps))) (pairsOf pairs))
-  unfolding acceptedOn planOf mergePlan viewOf booksOf planReply planTables writeBooks booked
+  unfolding acceptedOn planOf mergePlan viewOf booksOf planReply planTables writtenBy writeBooks booked
   ruled-accepted = refl
 
   pub merge-booked : acceptedOn rs ps (merge id account series pairs)

@@ -11,19 +11,19 @@ use lib.Signed.{ltZ}
 use Rattle.rules.specs.Figures.{mostQuantity}
 use Rattle.rules.specs.Keyed.{greatest, isSome}
 use Rattle.rules.specs.Rows.{recordKey, inCash, moved, soundPosition}
-use Rattle.rules.specs.NamedRecord.{isElsewhere, isNotAdjustable}
-use Rattle.rules.specs.Refusal.{Test, test, testEach, anyOf, allOf}
+use Rattle.rules.specs.NamedRecord.{isElsewhere}
+use Rattle.rules.specs.Refusal.{test, testEach, anyOf, allOf}
 use Rattle.rules.specs.Request.{merge}
 use Rattle.rules.specs.Books.{viewOf}
-use Rattle.rules.specs.Plan.{planTests, bookingTests, suffixIsAbove}
-use Rattle.rules.specs.Merge.{pairsOf, mergeFigures, isMissing, closes, firstOf, sideDiffers, sumOfQuantities, mergeInverses, mergedRecord, mergeResidual, mergePlan}
+use Rattle.rules.specs.Plan.{planTests, bookingTests, processRoomTest, suffixIsAbove}
+use Rattle.rules.specs.Merge.{pairsOf, mergeFigures, isMissing, statusOfEach, closes, firstOf, sideDiffers, sumOfQuantities, mergeInverses, mergedRecord, mergeResidual, mergePlan}
 use Rattle.rules.specs.Layout.{roomOf, rowsOf}
 use Rattle.rules.specs.Tables.{booksOf, recordsLayout, positionsLayout}
 use Rattle.rules.specs.Handle.{planOf}
 use Rattle.rules.specs.declared.Record.{Record}
 use Rattle.rules.specs.declared.Position.{Position}
 use Rattle.verdict.specs.Verdict.{verdictOn, absentPosition}
-use Rattle.verdict.proofs.Remaining.{row, rowEach, fromTest, Remaining, and-true}
+use Rattle.verdict.proofs.Remaining.{Listed, row, rowEach, statusRowEach, fromTest, Remaining, and-true}
 use Rattle.verdict.proofs.Room.{positionRead, absent-one}
 use Rattle.merge_sources.specs.Sources.{sourcesIn, sourceRecords}
 use Rattle.merge_sources.specs.Pairs.{repeatsFrom}
@@ -39,13 +39,13 @@ module _ (rs ps : List ℤ) (id account series : ℤ) (pairs : List ℤ) where
   abbrev theRecords : List Record
   theRecords = sourceRecords rs pairs
 
-  abbrev mergeTests : List Test
+  abbrev mergeTests : List Listed
   mergeTests =
       row 3 (not (mergeFigures id account series pairs))
       ∷ row 4 (isSome (greatest recordKey id (rowsOf recordsLayout rs)))
       ∷ rowEach 5 (map isMissing (sourcesIn rs pairs))
       ∷ rowEach 6 (map (isElsewhere account series) theRecords)
-      ∷ rowEach 7 (map isNotAdjustable theRecords)
+      ∷ statusRowEach theRecords
       ∷ rowEach 8 (map closes theRecords)
       ∷ rowEach 9 (repeatsFrom [] (pairsOf pairs))
       ∷ rowEach 10 (map (sideDiffers (firstOf theRecords)) theRecords)
@@ -66,5 +66,5 @@ module _ (rs ps : List ℤ) (id account series : ℤ) (pairs : List ℤ) where
       (arith, length-append (mergeInverses id [] (sourcesIn rs pairs)) (mergedRecord id theRecords ∷ []), inverse-count id [] (sourcesIn rs pairs), source-count rs pairs)
 
   pub merge-tests : MergeFrom 3
-  unfolding verdictOn planOf mergePlan viewOf booksOf planTests bookingTests allOf test testEach
+  unfolding verdictOn planOf mergePlan viewOf booksOf planTests bookingTests processRoomTest statusOfEach allOf test testEach
   merge-tests = record { is = rw (← sources-in-books rs pairs ps, sources-stood-earlier, suffixes-above id theRecords (sourcesIn rs pairs), added-count, absent-one, and-true) }

@@ -15,7 +15,7 @@ use Rattle.rules.specs.NamedRecord.{noRecord, theRecord}
 use Rattle.rules.specs.Refusal.{anyOf}
 use Rattle.rules.specs.Books.{Books, viewOf}
 use Rattle.rules.specs.Layout.{rowsOf}
-use Rattle.rules.specs.Tables.{booksOf, recordsLayout}
+use Rattle.rules.specs.Tables.{tablesOf, booksOf, recordsLayout}
 use Rattle.rules.specs.Merge.{Source, pairsOf, sourcesOf, recordsOf, isMissing, firstOf}
 use Rattle.rules.specs.declared.Record.{Record}
 use Rattle.keys.proofs.Clauses.{isSome-none, isSome-some}
@@ -67,9 +67,9 @@ module _ (cells pairs : List ℤ) where
   abbrev sources : List Source
   sources = sourcesIn cells pairs
 
-  pub sources-in-books : (ps : List ℤ) → sourcesIn cells pairs ≡ sourcesOf (viewOf (booksOf (record { records = cells; positions = ps }))) (pairsOf pairs)
+  pub sources-in-books : (ps : List ℤ) → sourcesIn cells pairs ≡ sourcesOf (viewOf (booksOf (tablesOf cells ps))) (pairsOf pairs)
   unfolding sourcesIn booksOf
-  sources-in-books ps = sym (sources-of (booksOf (record { records = cells; positions = ps })) (pairsOf pairs))
+  sources-in-books ps = sym (sources-of (booksOf (tablesOf cells ps)) (pairsOf pairs))
 
   as-map : sources ≡ map (sourceOf rows) (pairsOf pairs)
   unfolding sourcesIn

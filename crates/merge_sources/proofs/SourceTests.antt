@@ -1,13 +1,21 @@
--- The tests that one function makes by their number are tests 6, 7, 8 and 10 of the rules. By the definitions. Assumes nothing.
-use mathlib.Core.Path.{_≡_, refl, ap}
-use mathlib.Core.Bool.{Bool, true, false, not, Bool·beq}
+-- The tests that one function makes by their number are tests 6, 7, 8 and 10 of the rules; and the number of the status test, 7 or 17, is that of the source at the place that it gives.
+-- By the definitions. Assumes nothing.
+use Prim.Native.Nat.{ℕ, suc}
+use mathlib.Core.Path.{_≡_, refl, _∙_, ap}
+use mathlib.Core.Bool.{Bool, true, false, cond, not, _||_, Bool·beq}
+use mathlib.Core.List.{List, [], _∷_, map}
 use lib.IntN.{ℤ, pos}
+use lib.ListN.{getD}
 use Rattle.integers.specs.Order.{eqZ}
 use Rattle.rules.specs.Figures.{isBuy, isToClose}
-use Rattle.rules.specs.NamedRecord.{isElsewhere, isNotAdjustable}
-use Rattle.rules.specs.Merge.{closes, sideDiffers}
+use Rattle.rules.specs.NamedRecord.{noRecord, isElsewhere, isNotAdjustable, statusRefusal}
+use Rattle.rules.specs.Refusal.{anyOf, firstPlace}
+use Rattle.rules.specs.Merge.{firstStatusRefusal, closes, sideDiffers}
 use Rattle.rules.specs.declared.Record.{Record}
-use Rattle.merge_sources.specs.Sources.{failsTest}
+use Rattle.keys.proofs.Split.{clash}
+use Rattle.merge_sources.specs.Sources.{placeOf, failsTest}
+use Rattle.merge_sources.specs.declared.Place.the-variants.{At}
+use Rattle.merge_sources.proofs.Places.{place-tells}
 
 -- ---- by a number that is compared in turn
 
@@ -61,3 +69,23 @@ module _ (account series : ℤ) (buy : Bool) where
   pub fails-10 : (first : Record) → buy ≡ isBuy (first .side) → failsTest (pos 10) account series buy ≡ sideDiffers first
   unfolding failsTest eqZ sideDiffers
   fails-10 first e = λ i r. not (Bool·beq (isBuy (r .side)) (e i))
+
+-- ---- the number of the status test
+
+first-status : (rs : List Record) → anyOf (map isNotAdjustable rs) ≡ true → firstStatusRefusal rs ≡ statusRefusal (getD rs (firstPlace (map isNotAdjustable rs)) noRecord .status)
+unfolding anyOf firstPlace firstStatusRefusal
+first-status [] e = clash e refl
+first-status (r ∷ rest) e = go (isNotAdjustable r) (first-status rest) e
+  where
+    go : (b : Bool)
+        → (anyOf (map isNotAdjustable rest) ≡ true → firstStatusRefusal rest ≡ statusRefusal (getD rest (firstPlace (map isNotAdjustable rest)) noRecord .status))
+        → (b || anyOf (map isNotAdjustable rest)) ≡ true
+        → cond b (statusRefusal (r .status)) (firstStatusRefusal rest) ≡ statusRefusal (getD (r ∷ rest) (cond b 0 (suc (firstPlace (map isNotAdjustable rest)))) noRecord .status)
+    go true later k = refl
+    go false later k = later k
+
+-- Of the source at the place that is answered.
+pub status-at : (rs : List Record) (i : ℕ) → placeOf (map isNotAdjustable rs) ≡ At i → firstStatusRefusal rs ≡ statusRefusal (getD rs i noRecord .status)
+status-at rs i e =
+    let t : (anyOf (map isNotAdjustable rs) ≡ true) × (firstPlace (map isNotAdjustable rs) ≡ i) = place-tells (map isNotAdjustable rs) i e in
+    first-status rs (t .0) ∙ ap (λ (n : ℕ). statusRefusal (getD rs n noRecord .status)) (t .1)

@@ -2,3 +2,4 @@ pub mod PositionRange
 pub mod OnSound
 pub mod AbsentRow
 pub mod Adjusting
+pub mod StatusRefusal

@@ -13,13 +13,14 @@ use Rattle.verdict.specs.Verdict.{verdictOn, acceptedOn}
 use Rattle.verdict.specs.HandledSoundly.{HandledSoundly}
 use Rattle.verdict.specs.declared.Verdict.{Verdict}
 use Rattle.verdict.specs.declared.Verdict.the-variants as Verdict
+use Rattle.verdict.proofs.Acceptance.{no-processes-sound}
 use Rattle.verdict.proofs.Handled.{handled-refused, handled-accepted}
 
 module _ (rs ps : List ℤ) (sound : (soundRecords rs ≡ true) × (soundPositions ps ≡ true)) (r : Request) where
   -- Tables that a request on sound tables leaves are sound.
   pub handled-soundly : (a : Answer) → a ≡ handle (tablesOf rs ps) r → HandledSoundly rs ps r a
   handled-soundly a e =
-      let after : SoundTables (handle (tablesOf rs ps) r .tables) = stays-sound (tablesOf rs ps) (record { records = sound .0; positions = sound .1 }) r in
+      let after : SoundTables (handle (tablesOf rs ps) r .tables) = stays-sound (tablesOf rs ps) (record { records = sound .0; positions = sound .1; processes = no-processes-sound }) r in
       record {
         handled = e;
         records-sound = ap (λ (b : Answer). soundRecords (b .tables .records)) e ∙ after .records;

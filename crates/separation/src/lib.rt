@@ -92,7 +92,7 @@ pub fn verdict(
         return Verdict::Refused(6, 0);
     }
     if r.status != ADJUSTABLE {
-        return Verdict::Refused(7, 0);
+        return Verdict::Refused(requests::status_refusal(r.status), 0);
     }
     if sum_of(parts) != r.quantity {
         return Verdict::Refused(11, 0);

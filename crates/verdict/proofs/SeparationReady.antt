@@ -9,10 +9,10 @@ use lib.IntN.{ℤ, pos, _+ℤ_}
 use lib.ListN.{length}
 use lib.Signed.{ltZ, _≤ℤ_}
 use Rattle.integers.proofs.Linear.{zarith}
-use Rattle.rules.specs.Figures.{adjustable, greatestOfSuffixes}
+use Rattle.rules.specs.Figures.{greatestOfSuffixes}
 use Rattle.rules.specs.Keyed.{find}
-use Rattle.rules.specs.Rows.{keyOf, recordKey, adjustedRecord, inverseRecord}
-use Rattle.rules.specs.NamedRecord.{theRecord, isNotAdjustable}
+use Rattle.rules.specs.Rows.{keyOf, recordKey, adjustedRecord, inverseRecord, soundRecord}
+use Rattle.rules.specs.NamedRecord.{theRecord}
 use Rattle.rules.specs.Refusal.{anyOf}
 use Rattle.rules.specs.Request.{separate}
 use Rattle.rules.specs.Books.{viewOf}
@@ -23,16 +23,17 @@ use Rattle.rules.specs.Tables.{booksOf, recordsLayout, soundRecords, soundPosit
 use Rattle.rules.specs.Handle.{planOf, answered}
 use Rattle.rules.specs.declared.Record.{Record}
 use Rattle.rules.specs.declared.Reply.the-variants.{Booked}
+use Rattle.keys.proofs.Clauses.{allOf-head}
 use Rattle.soundness.specs.SoundBooks.{Accepts}
 use Rattle.soundness.proofs.Accepted.{booking-passed}
 use Rattle.soundness.proofs.NamedRecord.{nextOf}
-use Rattle.soundness.proofs.Separation.{SeparationPassed, separation-passed, separation-facts}
+use Rattle.soundness.proofs.Separation.{separation-facts}
 use Rattle.verdict.specs.Verdict.{verdictOn, acceptedOn}
 use Rattle.verdict.specs.declared.Verdict.the-variants.{Accepted}
 use Rattle.verdict.proofs.Acceptance.{sound-books, accepted-accepts}
 use Rattle.verdict.proofs.Puts.{putAll}
 use Rattle.verdict.proofs.Ready.{Ready, ready}
-use Rattle.verdict.proofs.SoundReads.{next-range, status-adjustable}
+use Rattle.verdict.proofs.SoundReads.{next-range}
 use Rattle.verdict.proofs.Suffixes.{parts-count, above-parts}
 use Rattle.verdict.proofs.Separation.{separationInverse, separationRows, separation-booked}
 
@@ -43,10 +44,6 @@ module _ (rs ps : List ℤ) (id suffix account series : ℤ) (parts : List ℤ)
     (accepted : verdictOn rs ps (separate id suffix account series parts) ≡ Accepted) where
   accepts : Accepts (booksOf (tablesOf rs ps)) (separate id suffix account series parts)
   accepts = accepted-accepts rs ps (separate id suffix account series parts) accepted
-
-  has-passed : SeparationPassed (rowsOf recordsLayout rs) id suffix parts
-  unfolding booksOf
-  has-passed = separation-passed (booksOf (tablesOf rs ps)) id suffix account series parts accepts
 
   abbrev next : ℤ
   next = nextOf (rowsOf recordsLayout rs) id
@@ -62,10 +59,6 @@ module _ (rs ps : List ℤ) (id suffix account series : ℤ) (parts : List ℤ)
       (next-range rs records-sound id .0, omega zarith)
 
   module _ (r : Record) (named : find recordKey (keyOf id suffix) (rowsOf recordsLayout rs) ≡ some r) where
-    pub separation-status : r .status ≡ adjustable
-    unfolding theRecord
-    separation-status = status-adjustable r (subst (λ (o : Option Record). isNotAdjustable (theRecord o) ≡ false) named (has-passed .record-adjustable))
-
     pub separation-ready : Ready rs ps (adjustedRecord r ∷ []) (separationInverse r next ∷ partRecords r (next +ℤ pos 1) parts) []
     unfolding planOf separationPlan viewOf booksOf theRecord
     separation-ready =
@@ -73,6 +66,9 @@ module _ (rs ps : List ℤ) (id suffix account series : ℤ) (parts : List ℤ)
         (λ (o : Option Record). Ready rs ps (adjustedRecord (theRecord o) ∷ []) (separationInverse (theRecord o) next ∷ partRecords (theRecord o) (next +ℤ pos 1) parts) [])
         named
         (ready rs ps _ _ (separation-facts (booksOf (tablesOf rs ps)) (sound-books rs ps records-sound positions-sound) id suffix account series parts accepts) accepts)
+
+    pub separation-adjusted : soundRecord (adjustedRecord r) ≡ true
+    separation-adjusted = allOf-head (soundRecord (adjustedRecord r)) [] (separation-ready .changed-sound)
 
     -- Room for the inverse and the parts' rows.
     pub separation-room : length (rowsOf recordsLayout rs) + suc (length parts) ≤ roomOf recordsLayout rs

@@ -25,7 +25,7 @@ use Rattle.soundness.proofs.NamedRecord.{nextOf}
 use Rattle.verdict.proofs.Puts.{putAll}
 use Rattle.verdict.proofs.SoundReads.{FoundRecord, found-record}
 use Rattle.verdict.proofs.Separation.{separationInverse, separationRows}
-use Rattle.verdict.proofs.SeparationReady.{separation-next, separation-status, separation-room, separation-returns}
+use Rattle.verdict.proofs.SeparationReady.{separation-next, separation-adjusted, separation-room, separation-returns}
 use Rattle.separation.proofs.PartRows.{firstPart, separation-rows}
 use Rattle.separation.proofs.book.Statement.{statement}
 use Rattle.separation.proofs.book.Tie as tie
@@ -115,8 +115,8 @@ module _ (c : tie.After-adjustable-record) where
       record {
         sound = s2 .pre .0;
         known = s2 .pre .3;
-        is-adjustable =
-            separation-status (rs s2) (s2 .args .positions .now) (s2 .args .id) (s2 .args .suffix) (s2 .args .account) (s2 .args .series) (parts s2) (s2 .pre .0) (s2 .pre .1) (s2 .pre .2)
+        adjusted-sound =
+            separation-adjusted (rs s2) (s2 .args .positions .now) (s2 .args .id) (s2 .args .suffix) (s2 .args .account) (s2 .args .series) (parts s2) (s2 .pre .0) (s2 .pre .1) (s2 .pre .2)
             (r s2) (s2 .pre .3 .found);
         inverse-key = ap (λ (z : Record). recordKey z) e ∙ (λ i. keyOf (found s2 .id-is i) (own i));
         first-key = ap (λ (z : Record). recordKey z) f ∙ (λ i. keyOf (found s2 .id-is i) (own i +ℤ pos 1));

@@ -23,8 +23,10 @@ use Rattle.rules.specs.Layout.{rowsOf}
 use Rattle.rules.specs.Tables.{recordsLayout}
 use Rattle.rules.specs.declared.Record.{Record}
 use Rattle.figures.proofs.Tests.{is-literal, not-literal}
+use Rattle.requests.proofs.StatusRefusal.{status-number}
 use Rattle.scan.proofs.ReadBack.{read-back}
 use Rattle.soundness.proofs.NamedRecord.{nextOf}
+use Rattle.verdict.specs.declared.Verdict.the-variants.{Refused}
 use Rattle.verdict.proofs.Remaining.{_past_, stops, ends}
 use Rattle.verdict.proofs.SoundReads.{next-range}
 use Rattle.verdict.proofs.Separation.{SeparationFrom, separation-tests}
@@ -89,7 +91,10 @@ status-fits c = sfits-of (c .struct-told .given .1 .1 .1 .1 .0 .1)
 
 returns-2 : tie.Need-returns-2
 unfolding isNotAdjustable
-returns-2 c = stops (at-7 (c .before .before .before)) (ap not (not-literal 0 (status-fits (c .before)) (c .if2 .taken)))
+returns-2 c =
+    let t : tie.After-struct-told = c .before .before .before in
+    ap (λ (n : ℤ). Refused n (pos 0)) (status-number (sfits-of (c .status-refusal .ok)) (status-fits t) (c .status-refusal .ensures))
+    ∙ stops (at-7 (t .before .before)) (ap not (not-literal 0 (status-fits t) (c .before .before .if2 .taken)))
 
 -- ---- 11: the parts' sum
 
@@ -97,17 +102,17 @@ at-11 : (c : tie.Else2) → From (start7 (c .before)) 11
 unfolding isNotAdjustable
 at-11 c = at-7 (c .before .before .before) past ap not (is-literal 0 tt (status-fits (c .before)) (c .if2 .left))
 
-abbrev summed : tie.After-struct-told2 → tie.After-sum-of
+abbrev summed : tie.After-struct-told3 → tie.After-sum-of
 summed c = c .before .before
 
-abbrev start11 : tie.After-struct-told2 → tie.Start
+abbrev start11 : tie.After-struct-told3 → tie.Start
 start11 c = start7 (summed c .before .before)
 
 sum-fits : (c : tie.After-sum-of) → SFits w64 (c .sum-of .result)
 sum-fits c = sfits-of (c .sum-of .ok)
 
-quantity-fits : (c : tie.After-struct-told2) → SFits w64 (r (start11 c) .quantity)
-quantity-fits c = sfits-of (c .struct-told2 .given .1 .1 .1 .1 .1 .1 .1 .1 .0 .1)
+quantity-fits : (c : tie.After-struct-told3) → SFits w64 (r (start11 c) .quantity)
+quantity-fits c = sfits-of (c .struct-told3 .given .1 .1 .1 .1 .1 .1 .1 .1 .0 .1)
 
 sum-of-requires : tie.Need-sum-of-requires
 sum-of-requires c κs = parts (start7 (c .before))
@@ -130,7 +135,7 @@ at-13 c =
 cast-last : tie.Need-cast-last
 cast-last c = omega (zarith, parts (start13 c) .0)
 
-module _ (c : tie.After-struct-told3) where
+module _ (c : tie.After-struct-told4) where
   abbrev else3 : tie.Else3
   else3 = c .before .before
 
@@ -138,7 +143,7 @@ module _ (c : tie.After-struct-told3) where
   s13 = start13 else3
 
   next-is : toZ w64 (ofZ w64 (s13 .args .named .next)) ≡ next s13
-  next-is = read-back (s13 .args .named .next) (c .struct-told3 .given .1 .1 .0 .1) ∙ s13 .pre .3 .next-is
+  next-is = read-back (s13 .args .named .next) (c .struct-told4 .given .1 .1 .0 .1) ∙ s13 .pre .3 .next-is
 
   last-is : toZ w64 (ofZ w64 (toZ w64 (ofZ w64 (s13 .args .named .next)) +ℤ toZ w64 (length (s13 .args .parts .now)))) ≡ next s13 +ℤ count s13
   last-is = simp (next-is, counted s13) (toZ-ofZ (last-fits s13))
@@ -169,6 +174,7 @@ verdict-spec =
     (tie.spec
     (λ c κs. search needs)
     returns
+    (λ c κs. search needs)
     returns-2
     sum-of-requires
     returns-3
