@@ -4,7 +4,7 @@ use rules::Stage;
 use rules::Step;
 ghost use mathlib.Core.Path.{_≡_};
 ghost use mathlib.Core.Bool.{_||_};
-ghost use Rattle.rules.specs.ProcessRows.{pending, claimed, rowOfProcess, withProgress, openedProcess, stageNumber};
+ghost use Rattle.rules.specs.ProcessRows.{pending, claimed, rowOfProcess, withProgress, withStage, openedProcess, stageNumber};
 ghost use Rattle.rules.specs.declared.Step.the-variants.{ApproveGiver, ApproveTaker};
 ghost use Rattle.rules.specs.GiveUp as GiveUp;
 ghost use Rattle.rules.specs.GiveUp.{isAt, hasFigures, hasTurn, isComplete};
@@ -114,6 +114,13 @@ fn with_progress(p: Process, giver: i64, taker: i64, stage: Stage) -> Process
     }
 }
 
+// The process with another stage.
+fn with_stage(p: Process, stage: Stage) -> Process
+    ensures { λ r. ⌜ rowOfProcess r ≡ withStage (stageNumber stage) (rowOfProcess p) ⌝ }
+{
+    with_progress(p, p.giver, p.taker, stage)
+}
+
 pub fn opened(process: i64, id: i64, suffix: i64, giving: i64, taking: i64, series: i64) -> Process
     ensures { λ r. ⌜ rowOfProcess r ≡ openedProcess process id suffix giving taking series ⌝ }
 {
@@ -136,9 +143,9 @@ pub fn stepped(step: Step, p: Process) -> Process
     let stage = p.stage;
     match step {
         Step::Open => p,
-        Step::Claim => with_progress(p, p.giver, p.taker, Stage::Claimed),
-        Step::Cancel => with_progress(p, p.giver, p.taker, Stage::Cancelled),
-        Step::Refuse => with_progress(p, p.giver, p.taker, Stage::Refused),
+        Step::Claim => with_stage(p, Stage::Claimed),
+        Step::Cancel => with_stage(p, Stage::Cancelled),
+        Step::Refuse => with_stage(p, Stage::Refused),
         Step::ApproveGiver => with_progress(p, 1, p.taker, stage),
         Step::ApproveTaker => with_progress(p, p.giver, 1, stage),
     }
@@ -162,7 +169,7 @@ pub fn finished(p: Process) -> Process
     ensures { λ r. ⌜ rowOfProcess r ≡ GiveUp.finished (rowOfProcess p) ⌝ }
 {
     if is_complete(p) {
-        return with_progress(p, p.giver, p.taker, Stage::Done);
+        return with_stage(p, Stage::Done);
     }
     p
 }
