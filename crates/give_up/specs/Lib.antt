@@ -1,2 +1,3 @@
 pub mod HandledIn
 pub mod StepTests
+pub mod Named
