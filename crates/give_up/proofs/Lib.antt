@@ -1,4 +1,5 @@
 pub mod Answering
+pub mod OnAllTables
 pub mod StepVerdict
 pub mod StepBooked
 pub mod Opening

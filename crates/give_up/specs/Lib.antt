@@ -1,3 +1,4 @@
 pub mod HandledIn
+pub mod OnAllTables
 pub mod StepTests
 pub mod Named
