@@ -1,5 +1,6 @@
 /*
- * A host: lends two tables, books document 01's worked example P11, and prints both tables, a refusal, and a list of trades that stops.
+ * A host: lends its tables, books document 01's worked example P11, and prints the tables, a refusal, a list of trades that stops, and a give-up from its
+ * opening to the booked rows.
  *
  *     cc -std=c11 -Iinclude examples/host.c target/staticlib/libvelichundam.a -o host
  */
@@ -10,9 +11,11 @@
 
 #define RECORDS_LEN VELICHUNDAM_RECORDS_LEN(12)
 #define POSITIONS_LEN VELICHUNDAM_POSITIONS_LEN(4)
+#define PROCESSES_LEN VELICHUNDAM_PROCESSES_LEN(3)
 
 static int64_t records[RECORDS_LEN];
 static int64_t positions[POSITIONS_LEN];
+static int64_t processes[PROCESSES_LEN];
 
 static const char *why(int64_t number)
 {
@@ -33,6 +36,10 @@ static const char *why(int64_t number)
     case VELICHUNDAM_RECORDS_FULL: return "no room for the new records";
     case VELICHUNDAM_POSITIONS_FULL: return "no room for the new positions";
     case VELICHUNDAM_BEYOND_LIMIT: return "a position would leave its range";
+    case VELICHUNDAM_BEING_GIVEN_UP: return "the record is under give-up";
+    case VELICHUNDAM_OUT_OF_TURN: return "no such process, or not its turn";
+    case VELICHUNDAM_PROCESSES_NOT_SOUND: return "process table not sound";
+    case VELICHUNDAM_PROCESSES_FULL: return "no room for the new process";
     default: return "unknown";
     }
 }
@@ -90,6 +97,37 @@ static void book_a_morning(void)
     print_table("positions", positions, VELICHUNDAM_POSITION_CELLS);
 }
 
+/* A step of a give-up, as the six calls have it. */
+typedef velichundam_reply step(int64_t *records, size_t records_len, int64_t *positions, size_t positions_len,
+    int64_t *processes, size_t processes_len,
+    int64_t process, int64_t id, int64_t suffix, int64_t giving, int64_t taking, int64_t series);
+
+/* Process 9001 gives one of the separated parts, suffix 4, up from account 2 to account 5. */
+static void print_step(const char *who, step *call)
+{
+    print_reply(who, call(records, RECORDS_LEN, positions, POSITIONS_LEN, processes, PROCESSES_LEN, 9001, 456789, 4, 2, 5, 1));
+}
+
+/* While the process runs, the part can't be adjusted; the taker's clearing member approves after the claim. The last step books two rows. */
+static void give_up_a_part(void)
+{
+    const int64_t halves[] = {25, 25};
+
+    print_step("give-up opened", velichundam_give_up_open);
+    print_reply("separation meanwhile", velichundam_separate(records, RECORDS_LEN, positions, POSITIONS_LEN,
+        456789, 4, 2, 1, halves, sizeof halves / sizeof halves[0]));
+    print_step("taker's approval, too early", velichundam_give_up_approve_taker);
+    print_step("claim", velichundam_give_up_claim);
+    print_step("taker's approval", velichundam_give_up_approve_taker);
+    print_table("processes", processes, VELICHUNDAM_PROCESS_CELLS);
+
+    printf("\n");
+    print_step("giver's approval", velichundam_give_up_approve_giver);
+    print_table("records", records, VELICHUNDAM_RECORD_CELLS);
+    print_table("positions", positions, VELICHUNDAM_POSITION_CELLS);
+    print_table("processes", processes, VELICHUNDAM_PROCESS_CELLS);
+}
+
 int main(void)
 {
     const int64_t parts[] = {50, 25, 25};
@@ -111,5 +149,8 @@ int main(void)
 
     printf("\n");
     book_a_morning();
+
+    printf("\n");
+    give_up_a_part();
     return 0;
 }

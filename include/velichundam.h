@@ -1,9 +1,10 @@
 /*
  * velichundam.h - a transaction book for clearing back offices
  *
- * The book lives in two tables that the host owns and lends for the length of a call: plain arrays of signed 64-bit numbers. Nothing is
+ * The book lives in tables that the host owns and lends for the length of a call: plain arrays of signed 64-bit numbers. Nothing is
  * allocated, nothing is kept between calls, and no call does input or output. Four requests book: trade, separation, account transfer and
- * average-price merge; a list of trades may be handed in by one call. One question, lineage, only reads.
+ * average-price merge; a list of trades may be handed in by one call. Six more are the steps by which a record is given up to another member's
+ * account; they alone are lent the third table, the processes. One question, lineage, only reads.
  *
  * Every call takes any tables of any length with any contents and any figures, and answers. A request that is refused changes nothing; a list of
  * trades stops at the first that is refused, and those before it stay booked. What each call answers and what it leaves in every cell is proved of
@@ -30,16 +31,21 @@
  *
  *     +0 account  +1 series  +2 long  +3 short  +4 cash
  *
- * The room of a table is the number of whole rows that fit after cell 0, at most 4,096 records and 1,024 positions. A longer array is fine: what
- * lies past the room is never touched, and neither is a part of a row at the end. Cells past the last row are neither read nor changed.
- * An empty table is a 0 in cell 0; the other cells may hold anything.
+ * Processes, of give-ups. Cell 0 is the row count. Row k has the 9 cells from 1 + 9 * k on:
  *
- * Rows strictly rise, records by id and then suffix, positions by account and then series. The book keeps them so. A new row goes where its key
- * belongs, and the rows above that place move up by one.
+ *     +0 process id  +1 id  +2 suffix  +3 giving account  +4 taking account  +5 series
+ *     +6 giver's approval   +7 taker's approval           +8 stage
+ *
+ * The room of a table is the number of whole rows that fit after cell 0, at most 4,096 records, 1,024 positions and 1,024 processes. A longer array
+ * is fine: what lies past the room is never touched, and neither is a part of a row at the end. Cells past the last row are neither read nor
+ * changed. An empty table is a 0 in cell 0; the other cells may hold anything.
+ *
+ * Rows strictly rise, records by id and then suffix, positions by account and then series, processes by process id. The book keeps them so. A new row
+ * goes where its key belongs, and the rows above that place move up by one. A process row, once made, stays, whatever becomes of the process.
  *
  * RANGES
  *
- *     id              1 to 999,999,999                        suffix, parent   0 to 65,535
+ *     id, process id  1 to 999,999,999                        suffix, parent   0 to 65,535
  *     account         1 to 9,999                              series           1 to 999,999
  *     quantity        1 to 1,000,000, in a request            side             1 to 4
  *     price           -1,000,000,000,000 to 1,000,000,000,000, in units of 0.0000001
@@ -47,17 +53,51 @@
  *     parts of a separation, sources of a merge               2 to 1,000
  *     trades in one call                                      1 to 1,000
  *
- * In a record the type is 0, 4, 6, 10 or 901; the status 0, 1 or 2; the quantity is not 0, has magnitude at most 1,000,000 and is negative
+ * In a record the type is 0, 4, 6, 10, 20, 30 or 901; the status 0 to 3; the quantity is not 0, has magnitude at most 1,000,000 and is negative
  * exactly where the status is 2; the two booked cells have magnitude at most 1,000,000; into is 0 or an id; the parent is below the suffix, or
- * both are 0. A table that breaks one of these rules, or whose count is not between 0 and the room, is not sound: refusals 1 and 2. (Account and
- * series of a position row are not tested; only that the rows rise by them.)
+ * both are 0. In a process the approvals are 0 or 1 and the stage is 0, 6, 9, 10 or 12. A table that breaks one of these rules, or whose count is not
+ * between 0 and the room, is not sound: refusals 1, 2 and 19. (Account and series of a position row are not tested; only that the rows rise by them.
+ * Nor is it tested that a process names a record under give-up, or two accounts that differ: a step of such a process is refused.)
+ *
+ * GIVE-UP AND TAKE-UP
+ *
+ * A record to open passes from one member's account to another's after the taker has claimed it and both clearing members have approved. The stages,
+ * with their numbers:
+ *
+ *                                   cancel (initiator)
+ *                               +----------------------> 12 CANCELLED    the record is adjustable again
+ *     open (initiator)          |
+ *    ------------------> 6 PENDING
+ *     the record's status       | |  refuse (taker)
+ *     becomes 3                 | +--------------------> 10 REFUSED      the record is adjustable again
+ *                               |
+ *                               |  claim (taker)
+ *                               v
+ *                        9 CLAIMED ---------------------> 0 DONE         the record is adjusted, two rows are booked
+ *                                   both have approved
+ *
+ * Who may do what, at which stage (anything else is refused 18):
+ *
+ *                                                 pending      claimed      cancelled, refused, done
+ *     cancel     the initiator                    yes          -            -
+ *     claim      the taker                        yes          -            -
+ *     refuse     the taker                        yes          -            -
+ *     approve    the giver's clearing member      once         once         -
+ *     approve    the taker's clearing member      -            once         -
+ *
+ * The step after which the process is claimed and both have approved completes the give-up, whichever step it is. It books what a transfer books,
+ * but for the types: an inverse row of type 20 in the giving account and an adjustable row of type 30 in the taking account, and both positions
+ * move. If one of 12 to 16 applies, it changes nothing, and may be tried again. While the status is 3 the record can't be separated, transferred,
+ * merged or opened on: refusal 17. After a cancellation or a refusal it can, and a new give-up takes a new process id. The host sees to it that a
+ * step comes from the one who may make it: the book knows accounts, not persons. (A table that these calls did not make may hold a claimed process
+ * with both approvals: it is sound, and no step ends it.)
  *
  * WHAT THE HOST GUARANTEES
  *
  * For the length of a call:
  *   - a pointer points to as many int64_t as its length says, aligned as int64_t is, and is not NULL even where the length is 0;
- *   - that memory may be read, and written for the two tables and the excesses (not for a parameter that is const);
- *   - records, positions, the list and the excesses share no cell with each other;
+ *   - that memory may be read, and written for the tables and the excesses (not for a parameter that is const);
+ *   - records, positions, processes, the list and the excesses share no cell with each other;
  *   - nobody else writes any of them, nor reads what the call may write: where threads share a book, hold a lock.
  *
  * Different tables may be used from different threads at the same time: the functions have no state of their own.
@@ -71,6 +111,7 @@
  *     lineage                                460,000 at the longest chain: 112 for each link, and 300
  *     merge                                    5,000
  *     trade, trades, separation, transfer      1,000
+ *     the steps of a give-up                   [TO BE MEASURED WITH THE ARCHIVE THAT HAS THEM]
  *
  * These were measured with this archive on x86-64, on full tables, the longest chain, and lists of 1,000. They are no part of what is proved. The
  * C library's memmove and memset are in them, but not the dynamic linker: where it looks these two up at the first call (lazy binding), that call
@@ -91,8 +132,11 @@ extern "C" {
 #define VELICHUNDAM_RECORD_CELLS 13
 #define VELICHUNDAM_POSITIONS_HEADER 1
 #define VELICHUNDAM_POSITION_CELLS 5
+#define VELICHUNDAM_PROCESSES_HEADER 1
+#define VELICHUNDAM_PROCESS_CELLS 9
 #define VELICHUNDAM_MOST_RECORDS 4096
 #define VELICHUNDAM_MOST_POSITIONS 1024
+#define VELICHUNDAM_MOST_PROCESSES 1024
 
 /* Figures of a trade in a list, and the most trades that one call takes. */
 #define VELICHUNDAM_TRADE_FIGURES 6
@@ -101,6 +145,7 @@ extern "C" {
 /* How many cells a table takes that has room for so many rows. */
 #define VELICHUNDAM_RECORDS_LEN(rows) (VELICHUNDAM_RECORDS_HEADER + (size_t)VELICHUNDAM_RECORD_CELLS * (rows))
 #define VELICHUNDAM_POSITIONS_LEN(rows) (VELICHUNDAM_POSITIONS_HEADER + (size_t)VELICHUNDAM_POSITION_CELLS * (rows))
+#define VELICHUNDAM_PROCESSES_LEN(rows) (VELICHUNDAM_PROCESSES_HEADER + (size_t)VELICHUNDAM_PROCESS_CELLS * (rows))
 
 /* Side codes. */
 enum {
@@ -110,20 +155,32 @@ enum {
     VELICHUNDAM_SELL_CLOSE = 4
 };
 
-/* Status of a record. */
+/* Status of a record. It is under give-up from the opening of a process to its end. */
 enum {
     VELICHUNDAM_ADJUSTABLE = 0,
     VELICHUNDAM_ADJUSTED = 1,
-    VELICHUNDAM_INVERSE = 2
+    VELICHUNDAM_INVERSE = 2,
+    VELICHUNDAM_UNDER_GIVE_UP = 3
 };
 
-/* Type of a record. */
+/* Type of a record. A completed give-up adds an inverse row of type 20 in the giving account and a row of type 30 in the taking account. */
 enum {
     VELICHUNDAM_TYPE_ORIGINAL = 0,
     VELICHUNDAM_TYPE_TRANSFER = 4,
     VELICHUNDAM_TYPE_SEPARATION = 6,
     VELICHUNDAM_TYPE_CLOSING_ERROR = 10,
+    VELICHUNDAM_TYPE_GIVE_UP = 20,
+    VELICHUNDAM_TYPE_TAKE_UP = 30,
     VELICHUNDAM_TYPE_MERGE = 901
+};
+
+/* Stage of a process. */
+enum {
+    VELICHUNDAM_STAGE_DONE = 0,
+    VELICHUNDAM_STAGE_PENDING = 6,
+    VELICHUNDAM_STAGE_CLAIMED = 9,
+    VELICHUNDAM_STAGE_REFUSED = 10,
+    VELICHUNDAM_STAGE_CANCELLED = 12
 };
 
 /*
@@ -133,7 +190,7 @@ enum {
  *     0 VELICHUNDAM_BOOKED            rows added to the records table  residual (0 but for a merge)
  *     1 VELICHUNDAM_CLOSING_ERROR     excess (the trade is booked)
  *     2 VELICHUNDAM_LINEAGE           price of the original            links followed
- *     3 VELICHUNDAM_REFUSED           number, 1 to 16                  place
+ *     3 VELICHUNDAM_REFUSED           number, 1 to 19 or 23            place
  *     4 VELICHUNDAM_STOPPED           trades booked                    number                          place
  */
 typedef struct velichundam_reply {
@@ -152,18 +209,20 @@ enum {
 };
 
 /*
- * Why a request is refused, or why a list of trades stops: the lowest number that applies.
+ * Why a request is refused, or why a list of trades stops: the first that applies, in the order of the tests. They go by number, but for those of
+ * give-ups: 1, 2, 19, 3, 18, 4, 5, 6, 7 or 17, 8, .. 16, 23. What a request is not said to refuse by, it does not test.
  *
- * The place is the position in the list, from 0, of the first source that fails, for 5 to 10 in a merge; otherwise 0. In a merge each test runs
- * over the whole list before the next number is tried.
+ * The place is the position in the list, from 0, of the first source that fails, for 5 to 10 and 17 in a merge; otherwise 0. In a merge each test
+ * runs over the whole list before the next number is tried; 7 and 17 are one test, and the first source whose status is not 0 gives number and
+ * place.
  */
 enum {
     /* The records table is not sound. */
     VELICHUNDAM_RECORDS_NOT_SOUND = 1,
     /* The positions table is not sound. Not for lineage. */
     VELICHUNDAM_POSITIONS_NOT_SOUND = 2,
-    /* A figure of the request, an element of its list or the list's count is out of range; the list of pairs has an odd length; from equals to;
-     * the list of trades has no multiple of six figures, or fewer cells for the excesses than trades. */
+    /* A figure of the request, an element of its list or the list's count is out of range; the list of pairs has an odd length; from equals to,
+     * or giving taking; the list of trades has no multiple of six figures, or fewer cells for the excesses than trades. */
     VELICHUNDAM_OUT_OF_RANGE = 3,
     /* Trade, merge: the new id has a record already, under whatever suffix. */
     VELICHUNDAM_ID_TAKEN = 4,
@@ -171,9 +230,9 @@ enum {
     VELICHUNDAM_NO_RECORD = 5,
     /* The record's account or series is not the one named. */
     VELICHUNDAM_ELSEWHERE = 6,
-    /* The record's status is not 0: it is adjusted, or an inverse. */
+    /* The record's status is not 0: it is adjusted, or an inverse. A step after the opening of a give-up: its status is not 3. */
     VELICHUNDAM_NOT_ADJUSTABLE = 7,
-    /* Transfer, merge: the record is to close. */
+    /* Transfer, merge, each step of a give-up: the record is to close. */
     VELICHUNDAM_TO_CLOSE = 8,
     /* Merge: this pair stood earlier in the list. */
     VELICHUNDAM_TWICE = 9,
@@ -181,7 +240,7 @@ enum {
     VELICHUNDAM_OTHER_SIDE = 10,
     /* Separation: the parts don't sum to the quantity. Merge: the quantities sum to more than 1,000,000. */
     VELICHUNDAM_WRONG_SUM = 11,
-    /* Transfer: the old account holds less than the quantity, long for a buy and short for a sell. */
+    /* Transfer, the step that completes a give-up: the old account holds less than the quantity, long for a buy and short for a sell. */
     VELICHUNDAM_NOT_HELD = 12,
     /* An id would need a suffix above 65,535. */
     VELICHUNDAM_NO_SUFFIX = 13,
@@ -190,7 +249,16 @@ enum {
     /* The rows that are needed and absent don't fit into the positions table's room. */
     VELICHUNDAM_POSITIONS_FULL = 15,
     /* Long, short or cash of a position would leave its range. */
-    VELICHUNDAM_BEYOND_LIMIT = 16
+    VELICHUNDAM_BEYOND_LIMIT = 16,
+    /* Separation, transfer, merge, the opening of a give-up: the record's status is 3, it is under give-up. */
+    VELICHUNDAM_BEING_GIVEN_UP = 17,
+    /* The opening of a give-up: there is a process with this id, whatever its stage. A later step: there is none, or its id, suffix, accounts or
+     * series are not those named, or it is not this step's turn, or this approval was given before. Tested after 3. */
+    VELICHUNDAM_OUT_OF_TURN = 18,
+    /* A step of a give-up: the process table is not sound. Tested after 2. */
+    VELICHUNDAM_PROCESSES_NOT_SOUND = 19,
+    /* The opening of a give-up: the process doesn't fit into the process table's room. Tested last. */
+    VELICHUNDAM_PROCESSES_FULL = 23
 };
 
 /*
@@ -223,7 +291,7 @@ velichundam_reply velichundam_trades(int64_t *records, size_t records_len, int64
  * Separates a record into parts, which use up its whole quantity. The record becomes adjusted; an inverse row and a row for each part follow, with
  * the id's next suffixes. The position does not move.
  *
- * Answers booked (1 + parts_len rows). Refuses by 1, 2, 3, 5, 6, 7, 11, 13, 14.
+ * Answers booked (1 + parts_len rows). Refuses by 1, 2, 3, 5, 6, 7 or 17, 11, 13, 14.
  */
 velichundam_reply velichundam_separate(int64_t *records, size_t records_len, int64_t *positions, size_t positions_len,
     int64_t id, int64_t suffix, int64_t account, int64_t series, const int64_t *parts, size_t parts_len);
@@ -232,7 +300,7 @@ velichundam_reply velichundam_separate(int64_t *records, size_t records_len, int
  * Moves a record to open, and its quantity, to another account. The record becomes adjusted; an inverse row in the old account and a row in the new
  * one follow, with the id's next suffixes. Both positions move.
  *
- * Answers booked (2 rows). Refuses by 1, 2, 3, 5, 6, 7, 8, 12, 13, 14, 15, 16.
+ * Answers booked (2 rows). Refuses by 1, 2, 3, 5, 6, 7 or 17, 8, 12, 13, 14, 15, 16.
  */
 velichundam_reply velichundam_transfer(int64_t *records, size_t records_len, int64_t *positions, size_t positions_len,
     int64_t id, int64_t suffix, int64_t from, int64_t to, int64_t series);
@@ -242,10 +310,75 @@ velichundam_reply velichundam_transfer(int64_t *records, size_t records_len, int
  * pairs holds id, suffix, id, suffix, ..: pairs_len is twice the number of sources. Each source becomes adjusted and gets an inverse row whose
  * cell into is the new id. What the rounding leaves, the residual, goes to the position's cash, in price units times quantity.
  *
- * Answers booked (a row for each source and one more, and the residual). Refuses by 1, 2, 3, 4, 5 to 10 with their place, 11, 13, 14, 15, 16.
+ * Answers booked (a row for each source and one more, and the residual). Refuses by 1, 2, 3, 4, 5 to 10 and 17 with their place, 11, 13,
+ * 14, 15, 16.
  */
 velichundam_reply velichundam_merge(int64_t *records, size_t records_len, int64_t *positions, size_t positions_len,
     int64_t id, int64_t account, int64_t series, const int64_t *pairs, size_t pairs_len);
+
+/*
+ * The six steps of a give-up. Each names the process, the record, the giving and the taking account and the series; the steps after the opening
+ * name what the opening did. See GIVE-UP AND TAKE-UP above for who may do what, and when.
+ */
+
+/*
+ * Opens a give-up of a record to open: the giving account's member offers it to another account. The process id is new. The record's status becomes
+ * 3, and a pending process without approvals goes where its process id belongs.
+ *
+ * Answers booked (0 rows). Refuses by 1, 2, 19, 3, 18, 5, 6, 7 or 17, 8, 23. Whether the account holds the quantity (12) is tested when the give-up
+ * is completed.
+ */
+velichundam_reply velichundam_give_up_open(int64_t *records, size_t records_len, int64_t *positions, size_t positions_len,
+    int64_t *processes, size_t processes_len,
+    int64_t process, int64_t id, int64_t suffix, int64_t giving, int64_t taking, int64_t series);
+
+/*
+ * The taker claims: a pending process becomes claimed. (On a table that these calls did not make, a pending process may have both approvals; then
+ * the claim completes the give-up, and answers and refuses as an approval does that completes it.)
+ *
+ * Answers booked (0 rows). Refuses by 1, 2, 19, 3, 18, 5, 6, 7, 8.
+ */
+velichundam_reply velichundam_give_up_claim(int64_t *records, size_t records_len, int64_t *positions, size_t positions_len,
+    int64_t *processes, size_t processes_len,
+    int64_t process, int64_t id, int64_t suffix, int64_t giving, int64_t taking, int64_t series);
+
+/*
+ * The initiator takes the give-up back: a pending process becomes cancelled, and the record's status 0 again.
+ *
+ * Answers booked (0 rows). Refuses by 1, 2, 19, 3, 18, 5, 6, 7, 8.
+ */
+velichundam_reply velichundam_give_up_cancel(int64_t *records, size_t records_len, int64_t *positions, size_t positions_len,
+    int64_t *processes, size_t processes_len,
+    int64_t process, int64_t id, int64_t suffix, int64_t giving, int64_t taking, int64_t series);
+
+/*
+ * The taker refuses: a pending process becomes refused, and the record's status 0 again.
+ *
+ * Answers booked (0 rows). Refuses by 1, 2, 19, 3, 18, 5, 6, 7, 8.
+ */
+velichundam_reply velichundam_give_up_refuse(int64_t *records, size_t records_len, int64_t *positions, size_t positions_len,
+    int64_t *processes, size_t processes_len,
+    int64_t process, int64_t id, int64_t suffix, int64_t giving, int64_t taking, int64_t series);
+
+/*
+ * The giver's clearing member approves, once, while the process is pending or claimed. Where it is claimed and the taker's clearing member has
+ * approved, this completes the give-up.
+ *
+ * Answers booked (0 rows, or 2 where it completes). Refuses by 1, 2, 19, 3, 18, 5, 6, 7, 8, and where it would complete by 12, 13, 14, 15, 16.
+ */
+velichundam_reply velichundam_give_up_approve_giver(int64_t *records, size_t records_len, int64_t *positions, size_t positions_len,
+    int64_t *processes, size_t processes_len,
+    int64_t process, int64_t id, int64_t suffix, int64_t giving, int64_t taking, int64_t series);
+
+/*
+ * The taker's clearing member approves, once, while the process is claimed. Where the giver's clearing member has approved, this completes the
+ * give-up.
+ *
+ * Answers booked (0 rows, or 2 where it completes). Refuses by 1, 2, 19, 3, 18, 5, 6, 7, 8, and where it would complete by 12, 13, 14, 15, 16.
+ */
+velichundam_reply velichundam_give_up_approve_taker(int64_t *records, size_t records_len, int64_t *positions, size_t positions_len,
+    int64_t *processes, size_t processes_len,
+    int64_t process, int64_t id, int64_t suffix, int64_t giving, int64_t taking, int64_t series);
 
 /*
  * Follows a record from parent to parent to suffix 0, the original. Writes nothing.

@@ -1,26 +1,19 @@
 //! The time of one call of each kind, on tables of 10, 400 and 4,000 records.
 
-use crate::request::{by_hand, ours, Book, Request, KINDS, REFUSED};
-use crate::stats::{spread, Spread};
-use std::hint::black_box;
-use std::time::Instant;
+use crate::request::{by_hand, ours, Book, Request, KINDS};
+use crate::stats::Spread;
+use crate::turns::{agree, take_turns};
 use velichundam::{positions_len, records_len};
-
-/// A request that is accepted on these tables.
-struct Case {
-    request: Request,
-    records: Vec<i64>,
-    positions: Vec<i64>,
-}
 
 /// Accounts and series of the positions: row k is account 1 + k / 20, series 1 + k % 20.
 fn position_key(k: usize) -> (i64, i64) {
     (1 + k as i64 / 20, 1 + k as i64 % 20)
 }
 
-/// Tables with so many records and a quarter as many positions. In the middle stands one id with five suffixes, each the parent of the next; the
-/// other records are adjustable buys under even ids. What a request names lies in the middle of its table, so that half of the rows move.
-fn case(kind: usize, rows: usize) -> Case {
+/// A request that is accepted, and the tables for it, with so many records and a quarter as many positions. In the middle stands one id with five
+/// suffixes, each the parent of the next; the other records are adjustable buys under even ids. What a request names lies in the middle of its table,
+/// so that half of the rows move.
+pub fn case(kind: usize, rows: usize) -> (Request, [Vec<i64>; 2]) {
     let position_count = (rows / 4).clamp(4, 1_000);
     let singles = rows - 5;
     let family_at = singles / 2;
@@ -58,33 +51,7 @@ fn case(kind: usize, rows: usize) -> Case {
         3 => Request::Merge { id: family + 1, account: 1, series: 1, pairs: sources.iter().flat_map(|&k| [id_of(k), 0]).collect() },
         _ => Request::Lineage { id: family, suffix: 4 },
     };
-    Case { request, records, positions }
-}
-
-/// Copies of the tables for a sample: a short call is timed many times in a row, each on tables of its own.
-struct Copies {
-    records: Vec<Vec<i64>>,
-    positions: Vec<Vec<i64>>,
-}
-
-impl Copies {
-    fn new(case: &Case, count: usize) -> Copies {
-        Copies { records: vec![case.records.clone(); count], positions: vec![case.positions.clone(); count] }
-    }
-
-    /// Restores every copy, and then times a call on each: nanoseconds a call.
-    fn sample(&mut self, case: &Case, book: Book) -> f64 {
-        for (records, positions) in self.records.iter_mut().zip(&mut self.positions) {
-            records.copy_from_slice(&case.records);
-            positions.copy_from_slice(&case.positions);
-        }
-        let request = black_box(&case.request);
-        let began = Instant::now();
-        for (records, positions) in self.records.iter_mut().zip(&mut self.positions) {
-            black_box(book(black_box(records), black_box(positions), request));
-        }
-        began.elapsed().as_nanos() as f64 / self.records.len() as f64
-    }
+    (request, [records, positions])
 }
 
 pub struct Line {
@@ -98,39 +65,18 @@ pub fn measure(samples: usize) -> Vec<Line> {
     let mut lines = Vec::new();
     for (rows, copies) in [(10, 64), (400, 8), (4_000, 1)] {
         for kind in 0..KINDS.len() {
-            let case = case(kind, rows);
-            agree(&case);
-            let mut copies = Copies::new(&case, copies);
-            let (mut first, mut second) = (Vec::new(), Vec::new());
-            for _ in 0..samples / 10 + 5 {
-                copies.sample(&case, ours);
-                copies.sample(&case, by_hand);
-            }
-            for k in 0..samples {
-                // Each goes first in turn.
-                if k % 2 == 0 {
-                    first.push(copies.sample(&case, ours));
-                    second.push(copies.sample(&case, by_hand));
-                } else {
-                    second.push(copies.sample(&case, by_hand));
-                    first.push(copies.sample(&case, ours));
+            let (request, tables) = case(kind, rows);
+            let of = |book: Book| {
+                let request = &request;
+                move |tables: &mut [Vec<i64>; 2]| {
+                    let [records, positions] = tables;
+                    book(records, positions, request)
                 }
-            }
-            lines.push(Line { kind, rows, ours: spread(first), by_hand: spread(second) });
+            };
+            agree(&tables, &format!("{request:?}"), of(ours), of(by_hand));
+            let (ours, by_hand) = take_turns(&tables, copies, samples, of(ours), of(by_hand));
+            lines.push(Line { kind, rows, ours, by_hand });
         }
     }
     lines
-}
-
-/// Both books accept the request, with the same answer, and leave the same cells.
-fn agree(case: &Case) {
-    let run = |book: Book| {
-        let (mut records, mut positions) = (case.records.clone(), case.positions.clone());
-        let answer = book(&mut records, &mut positions, &case.request);
-        (answer, records, positions)
-    };
-    let (first, second) = (run(ours), run(by_hand));
-    assert_eq!(first.0, second.0, "{:?}", case.request);
-    assert!(first.0.kind != REFUSED, "{:?} is refused: {:?}", case.request, first.0);
-    assert!(first.1 == second.1 && first.2 == second.2, "the cells differ after {:?}", case.request);
 }

@@ -4,10 +4,12 @@
 mod batch;
 mod calls;
 mod day;
+mod give_ups;
 mod request;
 mod rng;
 mod sqlite;
 mod stats;
+mod turns;
 
 use request::KINDS;
 use sqlite::SqlBook;
@@ -20,7 +22,9 @@ fn number(words: &[String], name: &str, otherwise: usize) -> usize {
 
 fn main() {
     let words: Vec<String> = std::env::args().collect();
-    print_calls(number(&words, "--samples", 1_000));
+    let samples = number(&words, "--samples", 1_000);
+    print_calls(samples);
+    print_give_ups(samples);
     print_batches(number(&words, "--batches", 50));
     print_day(number(&words, "--days", 15));
 }
@@ -36,6 +40,16 @@ fn print_calls(samples: usize) {
     for line in calls::measure(samples) {
         let ratio = line.ours.median / line.by_hand.median;
         println!("| {:<10} | {:>5} | {:>24} | {:>26} | {ratio:>14.2} |", KINDS[line.kind], line.rows, cell(line.ours), cell(line.by_hand));
+    }
+}
+
+fn print_give_ups(samples: usize) {
+    println!("\nOne step of a give-up, with 1,000 processes, likewise. Completing: the taker's approval, by which the give-up is booked.\n");
+    println!("| step       |  rows |                     ours |              by hand, Rust | ours / by hand |");
+    println!("|------------|------:|-------------------------:|---------------------------:|---------------:|");
+    for line in give_ups::measure(samples) {
+        let ratio = line.ours.median / line.by_hand.median;
+        println!("| {:<10} | {:>5} | {:>24} | {:>26} | {ratio:>14.2} |", line.step, line.rows, cell(line.ours), cell(line.by_hand));
     }
 }
 

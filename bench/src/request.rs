@@ -1,6 +1,9 @@
 //! A request, and the two books that answer it on lent tables: the archive through its C interface, and the peer by hand.
 
+use peer::Step;
 pub use velichundam::c::Coded;
+use velichundam::c::{velichundam_give_up_approve_giver, velichundam_give_up_approve_taker, velichundam_give_up_cancel};
+use velichundam::c::{velichundam_give_up_claim, velichundam_give_up_open, velichundam_give_up_refuse};
 use velichundam::c::{velichundam_lineage, velichundam_merge, velichundam_separate, velichundam_trade, velichundam_trades, velichundam_transfer};
 
 #[derive(Clone, Debug)]
@@ -13,13 +16,14 @@ pub enum Request {
 }
 
 pub const KINDS: [&str; 5] = ["trade", "separation", "transfer", "merge", "lineage"];
+pub const TRANSFER: usize = 2;
 
 impl Request {
     pub fn kind(&self) -> usize {
         match self {
             Request::Trade { .. } => 0,
             Request::Separate { .. } => 1,
-            Request::Transfer { .. } => 2,
+            Request::Transfer { .. } => TRANSFER,
             Request::Merge { .. } => 3,
             Request::Lineage { .. } => 4,
         }
@@ -100,4 +104,31 @@ pub fn one_by_one(records: &mut [i64], positions: &mut [i64], trades: &[i64], ex
         }
     }
     Coded { kind: 0, first: trades.len() as i64, second: 0, third: 0 }
+}
+
+/// What a step of a give-up names: process, id, suffix, giving, taking, series
+pub type Names = [i64; 6];
+
+/// The archive, a step of a give-up.
+#[inline(never)]
+pub fn step_of_ours(tables: &mut [Vec<i64>; 3], step: Step, names: &Names) -> Coded {
+    let call = match step {
+        Step::Open => velichundam_give_up_open,
+        Step::Claim => velichundam_give_up_claim,
+        Step::Cancel => velichundam_give_up_cancel,
+        Step::Refuse => velichundam_give_up_refuse,
+        Step::ApproveGiver => velichundam_give_up_approve_giver,
+        Step::ApproveTaker => velichundam_give_up_approve_taker,
+    };
+    let [(r, rn), (p, pn), (q, qn)] = tables.each_mut().map(|table| (table.as_mut_ptr(), table.len()));
+    let [process, id, suffix, giving, taking, series] = *names;
+    unsafe { call(r, rn, p, pn, q, qn, process, id, suffix, giving, taking, series) }
+}
+
+/// The peer, a step of a give-up.
+#[inline(never)]
+pub fn step_by_hand(tables: &mut [Vec<i64>; 3], step: Step, names: &Names) -> Coded {
+    let [records, positions, processes] = tables;
+    let [process, id, suffix, giving, taking, series] = *names;
+    coded(peer::give_up(step, records, positions, processes, process, id, suffix, giving, taking, series))
 }

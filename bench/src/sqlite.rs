@@ -1,5 +1,5 @@
 //! The same book kept in SQLite, in memory: the two tables as SQL tables, a transaction for each request or for a list of trades, prepared statements.
-//! SQLite keeps the rows sound by CHECK constraints and finds them by their keys; its tables have no room, so 14 and 15 are not tested.
+//! SQLite keeps the rows sound by CHECK constraints and finds them by their keys; its tables have no room, so 14 and 15 are not tested. Give-ups are not in it.
 //!
 //! The library is opened at run time, where it is installed.
 

@@ -16,6 +16,12 @@ pub const POSITIONS_HEADER: usize = 1;
 pub const POSITION_CELLS: usize = 5;
 /// The greatest room of a positions table; a longer slice is fine.
 pub const MOST_POSITIONS: usize = 1_024;
+/// Cells before the first row of the process table: cell 0 is the row count.
+pub const PROCESSES_HEADER: usize = 1;
+/// Cells of a process.
+pub const PROCESS_CELLS: usize = 9;
+/// The greatest room of a process table; a longer slice is fine.
+pub const MOST_PROCESSES: usize = 1_024;
 /// Figures of a trade in a list: id, account, series, side, quantity, price.
 pub const TRADE_FIGURES: usize = 6;
 /// The most trades that one call takes.
@@ -31,6 +37,45 @@ pub const fn positions_len(rows: usize) -> usize {
     POSITIONS_HEADER + POSITION_CELLS * rows
 }
 
+/// How many cells a process table takes that has room for so many rows.
+pub const fn processes_len(rows: usize) -> usize {
+    PROCESSES_HEADER + PROCESS_CELLS * rows
+}
+
+/// A step of a give-up. The header has a picture of who may do what, and when.
+#[derive(Clone, Copy, Debug, PartialEq, Eq)]
+pub enum Step {
+    /// The giving account's member opens a process.
+    Open,
+    /// The taker claims.
+    Claim,
+    /// The giving account's member takes the process back.
+    Cancel,
+    /// The taker refuses.
+    Refuse,
+    /// The giver's clearing member approves.
+    ApproveGiver,
+    /// The taker's clearing member approves.
+    ApproveTaker,
+}
+
+/// How far a give-up has come: the last cell of a process, by its number.
+#[derive(Clone, Copy, Debug, PartialEq, Eq)]
+pub enum Stage {
+    Done = 0,
+    Pending = 6,
+    Claimed = 9,
+    Refused = 10,
+    Cancelled = 12,
+}
+
+impl Stage {
+    /// The stage of that number, if it is one.
+    pub fn of(number: i64) -> Option<Stage> {
+        [Stage::Done, Stage::Pending, Stage::Claimed, Stage::Refused, Stage::Cancelled].into_iter().find(|stage| *stage as i64 == number)
+    }
+}
+
 /// An answer.
 #[derive(Clone, Copy, Debug, PartialEq, Eq)]
 pub enum Reply {
@@ -40,7 +85,7 @@ pub enum Reply {
     ClosingError { excess: i64 },
     /// The price of the original, and the links followed to it.
     Lineage { price: i64, links: i64 },
-    /// Refused, with the first number that applies, 1 to 16, and its place in the list; no cell has changed.
+    /// Refused, with the first number that applies, 1 to 19 or 23, and its place in the list; no cell has changed.
     Refused { number: i64, place: i64 },
     /// A list of trades stopped at one that is refused: how many trades before it are booked, and that refusal. Those stay booked.
     Stopped { booked: i64, number: i64, place: i64 },
@@ -98,6 +143,33 @@ pub fn merge(records: &mut [i64], positions: &mut [i64], id: i64, account: i64, 
     unsafe { c::velichundam_merge(r, records.len(), p, positions.len(), id, account, series, pairs.as_ptr(), pairs.len()) }.into()
 }
 
+/// A step of a give-up, by which a record passes to another account once its taker has claimed it and both clearing members have approved. Every step names the
+/// process, the record, both accounts and the series. The one that completes books two rows, any other none.
+#[allow(clippy::too_many_arguments)]
+pub fn give_up(
+    step: Step,
+    records: &mut [i64],
+    positions: &mut [i64],
+    processes: &mut [i64],
+    process: i64,
+    id: i64,
+    suffix: i64,
+    giving: i64,
+    taking: i64,
+    series: i64,
+) -> Reply {
+    let call = match step {
+        Step::Open => c::velichundam_give_up_open,
+        Step::Claim => c::velichundam_give_up_claim,
+        Step::Cancel => c::velichundam_give_up_cancel,
+        Step::Refuse => c::velichundam_give_up_refuse,
+        Step::ApproveGiver => c::velichundam_give_up_approve_giver,
+        Step::ApproveTaker => c::velichundam_give_up_approve_taker,
+    };
+    let (r, p, q) = (records.as_mut_ptr(), positions.as_mut_ptr(), processes.as_mut_ptr());
+    unsafe { call(r, records.len(), p, positions.len(), q, processes.len(), process, id, suffix, giving, taking, series) }.into()
+}
+
 /// Asks where a record came from.
 pub fn lineage(records: &[i64], id: i64, suffix: i64) -> Reply {
     unsafe { c::velichundam_lineage(records.as_ptr(), records.len(), id, suffix) }.into()
@@ -127,6 +199,18 @@ pub mod c {
             id: i64, suffix: i64, from: i64, to: i64, series: i64) -> Coded;
         pub fn velichundam_merge(records: *mut i64, records_len: usize, positions: *mut i64, positions_len: usize,
             id: i64, account: i64, series: i64, pairs: *const i64, pairs_len: usize) -> Coded;
+        pub fn velichundam_give_up_open(records: *mut i64, records_len: usize, positions: *mut i64, positions_len: usize,
+            processes: *mut i64, processes_len: usize, process: i64, id: i64, suffix: i64, giving: i64, taking: i64, series: i64) -> Coded;
+        pub fn velichundam_give_up_claim(records: *mut i64, records_len: usize, positions: *mut i64, positions_len: usize,
+            processes: *mut i64, processes_len: usize, process: i64, id: i64, suffix: i64, giving: i64, taking: i64, series: i64) -> Coded;
+        pub fn velichundam_give_up_cancel(records: *mut i64, records_len: usize, positions: *mut i64, positions_len: usize,
+            processes: *mut i64, processes_len: usize, process: i64, id: i64, suffix: i64, giving: i64, taking: i64, series: i64) -> Coded;
+        pub fn velichundam_give_up_refuse(records: *mut i64, records_len: usize, positions: *mut i64, positions_len: usize,
+            processes: *mut i64, processes_len: usize, process: i64, id: i64, suffix: i64, giving: i64, taking: i64, series: i64) -> Coded;
+        pub fn velichundam_give_up_approve_giver(records: *mut i64, records_len: usize, positions: *mut i64, positions_len: usize,
+            processes: *mut i64, processes_len: usize, process: i64, id: i64, suffix: i64, giving: i64, taking: i64, series: i64) -> Coded;
+        pub fn velichundam_give_up_approve_taker(records: *mut i64, records_len: usize, positions: *mut i64, positions_len: usize,
+            processes: *mut i64, processes_len: usize, process: i64, id: i64, suffix: i64, giving: i64, taking: i64, series: i64) -> Coded;
         pub fn velichundam_lineage(records: *const i64, records_len: usize, id: i64, suffix: i64) -> Coded;
     }
 }

@@ -1,7 +1,8 @@
-//! One call on the book and on the model, compared in everything: the answer, every cell of both tables and of the lent output, the lists, and the
+//! One call on the book and on the model, compared in everything: the answer, every cell of the tables and of the lent output, the lists, and the
 //! memory around them.
 
 use crate::coverage::Coverage;
+use crate::give_up_situations;
 use crate::lent::{note_call, Fence};
 use crate::situations;
 use crate::subject::{coded, lent_output, Coded, Outcome, Subject};
@@ -31,7 +32,7 @@ impl Checker {
         let fence = if self.calls & 1 == 0 { Fence::Before } else { Fence::After };
         let outcome = self.subject.call(tables, request, fence);
         let mut expected = tables.clone();
-        let answer = model::handle(&mut expected.records, &mut expected.positions, request);
+        let answer = model::handle(&mut expected.records, &mut expected.positions, &mut expected.processes, request);
         let output = expected_output(request, &answer);
         let same_cells = outcome.tables == expected && outcome.output == output;
         if !same_cells || outcome.answer != coded(answer.reply) || !outcome.guards_kept || !outcome.list_kept {
@@ -39,6 +40,7 @@ impl Checker {
         }
         self.coverage.answer(request, answer.reply);
         situations::note(&mut self.coverage, tables, &expected, request, &answer);
+        give_up_situations::note(&mut self.coverage, tables, &expected, request, answer.reply);
         *tables = expected;
         answer
     }
@@ -57,6 +59,7 @@ impl Checker {
         println!("First differing cells");
         print!("{}", first_differences("records", &outcome.tables.records, &expected.records));
         print!("{}", first_differences("positions", &outcome.tables.positions, &expected.positions));
+        print!("{}", first_differences("processes", &outcome.tables.processes, &expected.processes));
         print!("{}", first_differences("output", &outcome.output, &expected_output(request, answer)));
         if !outcome.guards_kept {
             println!("  a cell beside a lent slice was written");

@@ -1,11 +1,15 @@
 //! Which answers were seen, for each kind of request, and which special situations; a run that misses a possible one fails.
 
+use crate::give_up_situations::GIVE_UP_SITUATIONS;
 use model::{Reply, Request};
-use std::collections::BTreeMap;
+use std::collections::{BTreeMap, BTreeSet};
 
-pub const KINDS: [&str; 6] = ["trade", "separation", "transfer", "merge", "lineage", "batch"];
+pub const KINDS: [&str; 12] = ["trade", "separation", "transfer", "merge", "lineage", "batch", "open", "claim", "cancel", "refuse", "giver's", "taker's"];
 
-/// 0 to 5, in the order of `KINDS`.
+/// The first of the six steps of a give-up among the kinds.
+pub const STEPS: usize = 6;
+
+/// 0 to 11, in the order of `KINDS`.
 pub fn kind_of(request: &Request) -> usize {
     match request {
         Request::Trade { .. } => 0,
@@ -14,29 +18,38 @@ pub fn kind_of(request: &Request) -> usize {
         Request::Merge { .. } => 3,
         Request::Lineage { .. } => 4,
         Request::Trades { .. } => 5,
+        Request::GiveUp { step, .. } => STEPS + *step as usize,
     }
 }
 
-/// Columns 1 to 16 are the refusals; then booked, closing error, lineage; then the stops, by the number of the refusal.
-pub const BOOKED: usize = 17;
-pub const CLOSING_ERROR: usize = 18;
-pub const LINEAGE: usize = 19;
-const STOPPED: usize = 20;
-const COLUMNS: usize = STOPPED + 17;
+/// Columns 1 to 23 are the refusals; then booked, booked without a row, closing error, lineage; then the stops, by the number of the refusal.
+const REFUSALS: usize = 23;
+pub const BOOKED: usize = 24;
+pub const NO_ROW: usize = 25;
+pub const CLOSING_ERROR: usize = 26;
+pub const LINEAGE: usize = 27;
+const STOPPED: usize = 28;
+const COLUMNS: usize = STOPPED + REFUSALS + 1;
+
+fn refusal_column(number: i64) -> usize {
+    number.clamp(1, REFUSALS as i64) as usize
+}
 
 pub fn column_of(reply: Reply) -> usize {
     match reply {
-        Reply::Refused { number, .. } => number.clamp(1, 16) as usize,
+        Reply::Refused { number, .. } => refusal_column(number),
+        Reply::Booked { rows: 0, .. } => NO_ROW,
         Reply::Booked { .. } => BOOKED,
         Reply::ClosingError { .. } => CLOSING_ERROR,
         Reply::Lineage { .. } => LINEAGE,
-        Reply::Stopped { number, .. } => STOPPED + number.clamp(1, 16) as usize,
+        Reply::Stopped { number, .. } => STOPPED + refusal_column(number),
     }
 }
 
 fn column_name(column: usize) -> String {
     match column {
         BOOKED => "booked".to_string(),
+        NO_ROW => "booked, no row".to_string(),
         CLOSING_ERROR => "closing error".to_string(),
         LINEAGE => "lineage".to_string(),
         stop if stop > STOPPED => format!("stopped {}", stop - STOPPED),
@@ -48,18 +61,26 @@ fn column_name(column: usize) -> String {
 ///
 /// A trade names no record and its only suffix is 0, so 5 to 13 can't apply. A separation needs no position, so 12, 15 and 16 can't. A transfer adds
 /// no id; its list of one record has no 9 to 11. A merge takes nothing out of a position, so 12 can't apply. Lineage has 1, 3 and 5 alone. A
-/// batch is refused before its first trade alone; its tables being sound, it stops by the other numbers of a trade.
-pub const POSSIBLE: [&[usize]; 6] = [
+/// batch is refused before its first trade alone; its tables being sound, it stops by the other numbers of a trade. A record under give-up is refused 17
+/// wherever it would be adjusted or opened on. An opening books no row, and 23 is its own; a cancellation and a refusal end the process without a row; a claim
+/// or an approval may be the step that completes, the claim on foreign tables only, and is then tested and booked as a transfer.
+pub const POSSIBLE: [&[usize]; 12] = [
     &[1, 2, 3, 4, 14, 15, 16, BOOKED, CLOSING_ERROR],
-    &[1, 2, 3, 5, 6, 7, 11, 13, 14, BOOKED],
-    &[1, 2, 3, 5, 6, 7, 8, 12, 13, 14, 15, 16, BOOKED],
-    &[1, 2, 3, 4, 5, 6, 7, 8, 9, 10, 11, 13, 14, 15, 16, BOOKED],
+    &[1, 2, 3, 5, 6, 7, 11, 13, 14, 17, BOOKED],
+    &[1, 2, 3, 5, 6, 7, 8, 12, 13, 14, 15, 16, 17, BOOKED],
+    &[1, 2, 3, 4, 5, 6, 7, 8, 9, 10, 11, 13, 14, 15, 16, 17, BOOKED],
     &[1, 3, 5, LINEAGE],
     &[1, 2, 3, BOOKED, STOPPED + 3, STOPPED + 4, STOPPED + 14, STOPPED + 15, STOPPED + 16],
+    &[1, 2, 3, 5, 6, 7, 8, 17, 18, 19, 23, NO_ROW],
+    &[1, 2, 3, 5, 6, 7, 8, 12, 13, 14, 15, 16, 18, 19, NO_ROW, BOOKED],
+    &[1, 2, 3, 5, 6, 7, 8, 18, 19, NO_ROW],
+    &[1, 2, 3, 5, 6, 7, 8, 18, 19, NO_ROW],
+    &[1, 2, 3, 5, 6, 7, 8, 12, 13, 14, 15, 16, 18, 19, NO_ROW, BOOKED],
+    &[1, 2, 3, 5, 6, 7, 8, 12, 13, 14, 15, 16, 18, 19, NO_ROW, BOOKED],
 ];
 
-/// Situations that a good run has met besides.
-pub const SITUATIONS: [&str; 53] = [
+/// Situations that a good run has met besides, those of give-ups not among them.
+pub const SITUATIONS: [&str; 54] = [
     "trade: buy open",
     "trade: sell open",
     "trade: buy close, within the open short",
@@ -83,7 +104,8 @@ pub const SITUATIONS: [&str; 53] = [
     "merge: sells, residual above 0",
     "merge: two sources of one id",
     "merge: of 1,000 sources",
-    "merge: refused at a place above 0, each of 5 to 10",
+    "merge: refused at a place above 0, each of 5 to 10 and 17",
+    "merge: refused 7 and 17, each before a source of the other",
     "lineage: no link",
     "lineage: three links or more",
     "batch: of one trade",
@@ -118,22 +140,33 @@ pub const SITUATIONS: [&str; 53] = [
 pub struct Coverage {
     answers: [[u64; COLUMNS]; KINDS.len()],
     situations: BTreeMap<&'static str, u64>,
-    merge_places: [bool; 17],
-    late_stops: [bool; 17],
+    merge_places: [bool; REFUSALS + 1],
+    late_stops: [bool; REFUSALS + 1],
+    /// A merge was refused 7 before a source under give-up; 17 before one that is adjusted or an inverse.
+    before_other: [bool; 2],
+    /// Each step with the approvals and the stage that it found.
+    progress: BTreeSet<(usize, [i64; 3])>,
 }
 
 impl Coverage {
     pub fn new() -> Coverage {
-        Coverage { answers: [[0; COLUMNS]; KINDS.len()], situations: BTreeMap::new(), merge_places: [false; 17], late_stops: [false; 17] }
+        Coverage {
+            answers: [[0; COLUMNS]; KINDS.len()],
+            situations: BTreeMap::new(),
+            merge_places: [false; REFUSALS + 1],
+            late_stops: [false; REFUSALS + 1],
+            before_other: [false; 2],
+            progress: BTreeSet::new(),
+        }
     }
 
     pub fn answer(&mut self, request: &Request, reply: Reply) {
         self.answers[kind_of(request)][column_of(reply)] += 1;
         match (request, reply) {
-            (Request::Merge { .. }, Reply::Refused { number: number @ 5..=10, place }) => {
+            (Request::Merge { .. }, Reply::Refused { number: number @ (5..=10 | 17), place }) => {
                 self.merge_places[number as usize] |= place > 0;
-                if (5..=10).all(|n| self.merge_places[n]) {
-                    self.situation("merge: refused at a place above 0, each of 5 to 10");
+                if (5..=10).chain([17]).all(|n| self.merge_places[n]) {
+                    self.situation("merge: refused at a place above 0, each of 5 to 10 and 17");
                 }
             }
             (_, Reply::Stopped { booked: 1.., number: number @ 1..=16, .. }) => {
@@ -147,11 +180,27 @@ impl Coverage {
     }
 
     pub fn situation(&mut self, name: &'static str) {
-        debug_assert!(SITUATIONS.contains(&name), "{name}");
+        debug_assert!(SITUATIONS.contains(&name) || GIVE_UP_SITUATIONS.contains(&name), "{name}");
         *self.situations.entry(name).or_default() += 1;
     }
 
-    /// The two tables, and what is missing in them.
+    /// A merge refused 7 or 17 by a source before one that the other number is for.
+    pub fn status_before_other(&mut self, number: i64) {
+        self.before_other[usize::from(number == 17)] = true;
+        if self.before_other == [true; 2] {
+            self.situation("merge: refused 7 and 17, each before a source of the other");
+        }
+    }
+
+    /// A step on a process with these approvals and this stage: of six steps, two approvals and five stages there are 120.
+    pub fn progress(&mut self, step: usize, progress: [i64; 3]) {
+        self.progress.insert((step, progress));
+        if self.progress.len() == 120 {
+            self.situation("give-up: every step at every stage, with any approvals");
+        }
+    }
+
+    /// The two lists, and what is missing in them.
     pub fn report(&self) -> (String, Vec<String>) {
         let mut missing = Vec::new();
         let mut text = String::from("Answers seen, by kind of request ('.': not possible)\n");
@@ -163,12 +212,12 @@ impl Coverage {
             }
         }
         text += "\nSituations met\n";
-        for name in SITUATIONS {
+        for name in SITUATIONS.into_iter().chain(GIVE_UP_SITUATIONS) {
             let count = self.situations.get(name).copied().unwrap_or(0);
             if count == 0 {
                 missing.push(name.to_string());
             }
-            text += &format!("{name:<60}{:>10}\n", if count == 0 { "MISSING".to_string() } else { count.to_string() });
+            text += &format!("{name:<64}{:>10}\n", if count == 0 { "MISSING".to_string() } else { count.to_string() });
         }
         (text, missing)
     }

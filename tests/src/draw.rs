@@ -2,13 +2,15 @@
 //! requests meet each other's records and positions and the rules' limits.
 
 use crate::batches;
+use crate::coverage::STEPS;
+use crate::give_ups;
 use crate::rng::Rng;
-use crate::tables::{Tables, POSITION_CELLS, RECORD_CELLS};
+use crate::tables::{Tables, POSITION_CELLS, PROCESS_CELLS, RECORD_CELLS};
 use model::Request;
 use std::collections::{BTreeMap, BTreeSet};
 
-/// The ends of every range of document 01 with their neighbours, and those of the machine's numbers.
-pub const ENDS: [i64; 36] = [
+/// The ends of every range of document 01 with their neighbours, the codes of types and stages, and the ends of the machine's numbers.
+pub const ENDS: [i64; 40] = [
     i64::MIN,
     i64::MIN + 1,
     -1_000_000_000_000_001,
@@ -26,7 +28,11 @@ pub const ENDS: [i64; 36] = [
     4,
     5,
     6,
+    9,
     10,
+    12,
+    20,
+    30,
     901,
     902,
     9_999,
@@ -47,10 +53,10 @@ pub const ENDS: [i64; 36] = [
     i64::MAX,
 ];
 
-const ACCOUNTS: [i64; 5] = [1, 2, 3, 40, 9_999];
-const SERIES: [i64; 3] = [1, 2, 999_999];
+pub const ACCOUNTS: [i64; 5] = [1, 2, 3, 40, 9_999];
+pub const SERIES: [i64; 3] = [1, 2, 999_999];
 const QUANTITIES: [i64; 12] = [1, 1, 2, 3, 3, 4, 7, 100, 2_500, 333_333, 999_999, 1_000_000];
-const KINDS: [i64; 5] = [0, 4, 6, 10, 901];
+const KINDS: [i64; 7] = [0, 4, 6, 10, 20, 30, 901];
 
 /// What the drawn tables lean towards.
 #[derive(Clone, Copy, PartialEq, Eq)]
@@ -77,7 +83,7 @@ pub fn draw_id(rng: &mut Rng) -> i64 {
     }
 }
 
-fn draw_suffix(rng: &mut Rng, lean: Lean) -> i64 {
+pub fn draw_suffix(rng: &mut Rng, lean: Lean) -> i64 {
     if lean == Lean::LateSuffixes && rng.percent(60) {
         return rng.between(65_525, 65_535);
     }
@@ -148,7 +154,7 @@ fn records(rng: &mut Rng, lean: Lean, most: usize) -> Vec<Vec<i64>> {
             _ => rng.between(0, suffix - 1),
         };
         let keep = alike && !rng.percent(12);
-        let status = if rng.percent(if keep { 90 } else { 65 }) { 0 } else { rng.between(1, 2) };
+        let status = if rng.percent(if keep { 90 } else { 65 }) { 0 } else { rng.between(1, 3) };
         let quantity = if alike && rng.percent(80) { rng.between(1, 9) } else { draw_quantity(rng) };
         rows.push(vec![
             id,
@@ -209,25 +215,36 @@ fn positions(rng: &mut Rng, lean: Lean) -> Vec<Vec<i64>> {
     rows.into_iter().map(|((account, series), (long, short, cash))| vec![account, series, long, short, cash]).collect()
 }
 
-/// Two sound tables with at most about so many records.
+/// Sound tables with at most about so many records.
 pub fn sound_tables(rng: &mut Rng, lean: Lean, most: usize) -> Tables {
     let (record_rows, position_rows) = (records(rng, lean, most), positions(rng, lean));
-    Tables { records: table(rng, &record_rows, RECORD_CELLS, lean), positions: table(rng, &position_rows, POSITION_CELLS, lean) }
+    let process_rows = give_ups::processes(rng, &record_rows);
+    Tables {
+        records: table(rng, &record_rows, RECORD_CELLS, lean),
+        positions: table(rng, &position_rows, POSITION_CELLS, lean),
+        processes: table(rng, &process_rows, PROCESS_CELLS, lean),
+    }
 }
 
 /// Empty tables with so much room, and cells past it.
-pub fn empty_tables(rng: &mut Rng, records: usize, positions: usize) -> Tables {
-    let mut tables = Tables { records: vec![0], positions: vec![0] };
+pub fn empty_tables(rng: &mut Rng, records: usize, positions: usize, processes: usize) -> Tables {
+    let mut tables = Tables { records: vec![0], positions: vec![0], processes: vec![0] };
     let past = draw_cells(rng, records * RECORD_CELLS);
     tables.records.extend(past);
     let past = draw_cells(rng, positions * POSITION_CELLS + 3);
     tables.positions.extend(past);
+    let past = draw_cells(rng, processes * PROCESS_CELLS + 4);
+    tables.processes.extend(past);
     tables
 }
 
 /// Writes something into one cell, or cuts a table: the tables may be sound or not afterwards.
 pub fn damage(rng: &mut Rng, tables: &mut Tables) {
-    let (cells, width) = if rng.percent(60) { (&mut tables.records, RECORD_CELLS) } else { (&mut tables.positions, POSITION_CELLS) };
+    let (cells, width) = match rng.below(20) {
+        0..=9 => (&mut tables.records, RECORD_CELLS),
+        10..=14 => (&mut tables.positions, POSITION_CELLS),
+        _ => (&mut tables.processes, PROCESS_CELLS),
+    };
     if cells.is_empty() {
         return;
     }
@@ -267,7 +284,7 @@ pub fn damage(rng: &mut Rng, tables: &mut Tables) {
     }
 }
 
-/// A request of that kind (0 to 5, as in `coverage::KINDS`), mostly one that fits the tables.
+/// A request of that kind (0 to 11, as in `coverage::KINDS`), mostly one that fits the tables.
 pub fn request(rng: &mut Rng, tables: &Tables, kind: usize) -> Request {
     let mut request = match kind {
         0 => trade(rng, tables),
@@ -275,7 +292,8 @@ pub fn request(rng: &mut Rng, tables: &Tables, kind: usize) -> Request {
         2 => transfer(rng, tables),
         3 => merge(rng, tables),
         4 => lineage(rng, tables),
-        _ => batches::draw(rng, tables),
+        5 => batches::draw(rng, tables),
+        _ => give_ups::draw(rng, tables, give_ups::EACH[kind - STEPS]),
     };
     let count = figures(&request);
     if count > 0 && rng.percent(4) {
@@ -287,7 +305,7 @@ pub fn request(rng: &mut Rng, tables: &Tables, kind: usize) -> Request {
 }
 
 pub fn any_request(rng: &mut Rng, tables: &Tables) -> Request {
-    let kind = rng.pick(&[0, 0, 0, 1, 1, 2, 2, 3, 3, 4, 5]);
+    let kind = rng.pick(&[0, 0, 0, 1, 1, 2, 2, 3, 3, 4, 5, 6, 6, 6, 7, 7, 8, 9, 10, 10, 11, 11]);
     request(rng, tables, kind)
 }
 
@@ -300,6 +318,7 @@ pub fn figures(request: &Request) -> usize {
         Request::Merge { pairs, .. } => 3 + pairs.len(),
         Request::Lineage { .. } => 2,
         Request::Trades { figures, .. } => figures.len(),
+        Request::GiveUp { .. } => 6,
     }
 }
 
@@ -311,6 +330,7 @@ pub fn set_figure(request: &mut Request, which: usize, figure: i64) {
         Request::Merge { id, account, series, pairs } => [id, account, series].into_iter().chain(pairs).nth(which),
         Request::Lineage { id, suffix } => [id, suffix].into_iter().nth(which),
         Request::Trades { figures, .. } => figures.get_mut(which),
+        Request::GiveUp { process, id, suffix, giving, taking, series, .. } => [process, id, suffix, giving, taking, series].into_iter().nth(which),
     };
     *place.expect("the request has this figure") = figure;
 }
@@ -338,7 +358,7 @@ pub fn trade_figures(rng: &mut Rng) -> [i64; 5] {
 }
 
 /// A record, most of the time one that the test likes.
-fn some_record(rng: &mut Rng, tables: &Tables, likes: impl Fn(&[i64]) -> bool) -> Option<Vec<i64>> {
+pub fn some_record(rng: &mut Rng, tables: &Tables, likes: impl Fn(&[i64]) -> bool) -> Option<Vec<i64>> {
     let liked: Vec<&[i64]> = tables.record_rows().filter(|row| likes(row)).collect();
     if !liked.is_empty() && !rng.percent(12) {
         return Some(rng.pick(&liked).to_vec());

@@ -4,6 +4,7 @@ use crate::batches::{self, trades_of};
 use crate::checker::Checker;
 use crate::coverage::{column_of, POSSIBLE};
 use crate::draw::{any_request, damage, empty_tables, request, sound_tables, Lean, LEANS};
+use crate::give_ups::{CLAIMED, PENDING};
 use crate::orders::{entries_of, reordered};
 use crate::rng::Rng;
 use crate::tables::{Tables, POSITION_CELLS, RECORD_CELLS};
@@ -17,12 +18,11 @@ pub fn aimed(checker: &mut Checker, rng: &mut Rng, times: usize) {
                 for _ in 0..200_000 {
                     let lean = rng.pick(&LEANS);
                     let mut tables = sound_tables(rng, lean, 14);
-                    if answer <= 2 {
+                    if matches!(answer, 1 | 2 | 19) {
                         damage(rng, &mut tables);
                     }
                     let request = request(rng, &tables, kind);
-                    let mut trial = tables.clone();
-                    if column_of(model::handle(&mut trial.records, &mut trial.positions, &request).reply) == answer {
+                    if column_of(tables.model_reply(&request)) == answer {
                         checker.ask(&tables, &request);
                         break;
                     }
@@ -48,19 +48,23 @@ pub fn foreign_tables(checker: &mut Checker, rng: &mut Rng, calls: u64) {
 /// A history of requests, refused ones too; then its accepted entries again, in other orders.
 pub fn history(checker: &mut Checker, rng: &mut Rng) {
     let start = match rng.below(4) {
-        0 => empty_tables(rng, 60, 18),
-        1 => empty_tables(rng, 20, 6),
+        0 => empty_tables(rng, 60, 18, 12),
+        1 => empty_tables(rng, 20, 6, 4),
         _ => {
             let lean = rng.pick(&[Lean::Plain, Lean::Alike, Lean::LateSuffixes, Lean::Extreme, Lean::Tight]);
             sound_tables(rng, lean, 20)
         }
     };
+    let from_empty = start.records[0] == 0 && start.processes[0] == 0;
     let mut tables = start.clone();
     let mut entries = Vec::new();
     for _ in 0..4 + rng.below(44) {
         let request = any_request(rng, &tables);
         let before = tables.clone();
         let answer = checker.call(&mut tables, &request);
+        if from_empty {
+            held_by_one_process(checker, &tables);
+        }
         if rng.percent(20) {
             one_by_one(checker, &before, &request, &answer, &tables);
         }
@@ -77,12 +81,25 @@ pub fn history(checker: &mut Checker, rng: &mut Rng) {
 /// Batches of 999 to 1,001 trades, on tables with room for about as many. From empty tables most are booked whole or stop far in.
 pub fn large_batches(checker: &mut Checker, rng: &mut Rng, times: usize) {
     for k in 0..times {
-        let mut tables = if k % 3 > 0 { empty_tables(rng, 0, 16) } else { sound_tables(rng, Lean::Plain, 14) };
+        let mut tables = if k % 3 > 0 { empty_tables(rng, 0, 16, 0) } else { sound_tables(rng, Lean::Plain, 14) };
         tables.records.extend(vec![-3; RECORD_CELLS * (990 + rng.below(40))]);
         tables.positions.extend(vec![-3; POSITION_CELLS * 20]);
         let count = rng.pick(&[999, 1_000, 1_000, 1_001]);
         let request = batches::of_trades(rng, &tables, count);
         checker.ask(&tables, &request);
+    }
+}
+
+/// From empty tables on: a record has status 3 exactly where a process that is pending or claimed names it, and then just one does.
+fn held_by_one_process(checker: &mut Checker, tables: &Tables) {
+    let mut named: Vec<&[i64]> = tables.process_rows().filter(|row| matches!(row[8], PENDING | CLAIMED)).map(|row| &row[1..3]).collect();
+    named.sort();
+    let held: Vec<&[i64]> = tables.record_rows().filter(|row| row[4] == 3).map(|row| &row[..2]).collect();
+    if named != held {
+        checker.fail_later(&format!("the records of status 3 and the processes that hold them\n{}", tables.print()));
+    }
+    if held.len() > 1 {
+        checker.coverage.situation("give-up: from empty tables on, two records or more are held");
     }
 }
 

@@ -1,14 +1,18 @@
 //! Compares the book, as a host links it, with the model of documents 01 and 02: `cargo run --release -- [--seed S] [--calls N] [--show K]`.
 //!
-//! A run has a fixed part (the ends of every range, every length around the limits, full tables: some 41,000 calls) and a random part of which the
-//! seed decides, until N calls are made. It prints which answers it saw, and ends with a line that says how many calls passed. The first difference is
-//! printed in full.
+//! A run has a fixed part (the ends of every range, every length around the limits, full tables, every step of a give-up at every stage: some 85,000
+//! calls) and a random part of which the seed decides, until N calls are made. It prints which answers it saw, and ends with a line that says how many
+//! calls passed. The first difference is printed in full.
 
 mod batch_sweeps;
 mod batches;
 mod checker;
 mod coverage;
 mod draw;
+mod give_up_limits;
+mod give_up_situations;
+mod give_up_sweeps;
+mod give_ups;
 mod histories;
 mod lent;
 mod orders;
@@ -30,7 +34,7 @@ struct Options {
 }
 
 fn options() -> Result<Options, String> {
-    let mut options = Options { seed: 1, calls: 200_000, show: None };
+    let mut options = Options { seed: 1, calls: 250_000, show: None };
     let mut words = std::env::args().skip(1);
     while let Some(word) = words.next() {
         let mut number = || words.next().and_then(|n| n.replace([',', '_'], "").parse::<u64>().ok()).ok_or(format!("{word} needs a number"));
@@ -59,6 +63,7 @@ fn main() -> ExitCode {
 
     sweeps::run(&mut checker);
     batch_sweeps::run(&mut checker);
+    give_up_sweeps::run(&mut checker);
     println!("the ends of the ranges, the lengths and the limits: {} calls", checker.calls);
     let fixed = checker.calls;
     histories::aimed(&mut checker, &mut rng, 20);

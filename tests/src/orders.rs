@@ -4,7 +4,7 @@ use crate::batches::trades_of;
 use crate::checker::Checker;
 use crate::rng::Rng;
 use crate::tables::Tables;
-use model::{Answer, Reply, Request};
+use model::{Answer, Reply, Request, Step};
 use std::collections::BTreeSet;
 
 /// An accepted request with its whole answer.
@@ -68,6 +68,28 @@ fn note_order(checker: &mut Checker, entries: &[Entry], order: &[usize]) {
     if (0..order.len()).any(|k| entries[order[k]].of_a_stop && moved(k)) {
         checker.coverage.situation("demand 3: trades of a stopped batch, in another order");
     }
+    note_steps(checker, entries, order);
+}
+
+/// Steps of give-ups that have changed places with another entry, and with a step of another process.
+fn note_steps(checker: &mut Checker, entries: &[Entry], order: &[usize]) {
+    let step = |k: usize| matches!(entries[k].request, Request::GiveUp { .. });
+    let opens = |k: usize| matches!(entries[k].request, Request::GiveUp { step: Step::Open, .. });
+    let completes = |k: usize| step(k) && matches!(entries[k].answer.reply, Reply::Booked { rows: 2, .. });
+    let pairs = (0..order.len()).flat_map(|k| order[k + 1..].iter().map(move |later| (order[k], *later)));
+    let changed: Vec<(usize, usize)> = pairs.filter(|(first, second)| first > second).collect();
+    if changed.iter().any(|(a, b)| step(*a) || step(*b)) {
+        checker.coverage.situation("demand 3: a step of a give-up, in another order");
+    }
+    if changed.iter().any(|(a, b)| completes(*a) || completes(*b)) {
+        checker.coverage.situation("demand 3: a step that completes, in another order");
+    }
+    if changed.iter().any(|(a, b)| step(*a) && step(*b)) {
+        checker.coverage.situation("demand 3: steps of two processes change places");
+    }
+    if changed.iter().any(|(a, b)| opens(*a) && opens(*b)) {
+        checker.coverage.situation("demand 3: two openings change places");
+    }
 }
 
 /// A random order in which any two touching entries keep theirs: each time one of those is taken that no entry before them holds back.
@@ -89,7 +111,7 @@ fn other_order(rng: &mut Rng, entries: &[Entry]) -> Vec<usize> {
 /// Ids, and positions.
 type Names = (BTreeSet<i64>, BTreeSet<(i64, i64)>);
 
-/// "A request's ids are all it names, new ones included; its positions are each account it names with its series."
+/// "A request's ids are all it names, new ones included; its positions are each account it names with its series." K3: "the process id among the ids"
 fn names(request: &Request) -> Names {
     match request {
         Request::Trade { id, account, series, .. } => (BTreeSet::from([*id]), BTreeSet::from([(*account, *series)])),
@@ -100,6 +122,9 @@ fn names(request: &Request) -> Names {
             (ids, BTreeSet::from([(*account, *series)]))
         }
         Request::Lineage { id, .. } => (BTreeSet::from([*id]), BTreeSet::new()),
+        Request::GiveUp { process, id, giving, taking, series, .. } => {
+            (BTreeSet::from([*process, *id]), BTreeSet::from([(*giving, *series), (*taking, *series)]))
+        }
         // "names all their ids and positions", those of its trades
         Request::Trades { figures, .. } => {
             let trades: Vec<Names> = trades_of(figures).map(|trade| names(&trade)).collect();

@@ -11,6 +11,7 @@ pub fn note(seen: &mut Coverage, before: &Tables, after: &Tables, request: &Requ
         Reply::Lineage { links: 0, .. } => seen.situation("lineage: no link"),
         Reply::Lineage { links: 3.., .. } => seen.situation("lineage: three links or more"),
         Reply::Refused { number: 3, .. } => note_refused_batch(seen, request),
+        Reply::Refused { number: number @ (7 | 17), place } => note_status(seen, before, request, number, place as usize),
         Reply::Booked { .. } | Reply::ClosingError { .. } | Reply::Stopped { .. } => note_booked(seen, before, after, request, answer),
         _ => {}
     }
@@ -23,7 +24,8 @@ fn note_empty_slices(seen: &mut Coverage, before: &Tables, request: &Request) {
         Request::Trades { figures, cells } => figures.is_empty() || *cells == 0,
         _ => false,
     };
-    if before.records.is_empty() || before.positions.is_empty() || empty_list {
+    let no_processes = request.lends_processes() && before.processes.is_empty();
+    if before.records.is_empty() || before.positions.is_empty() || no_processes || empty_list {
         seen.situation("an empty slice is lent");
     }
 }
@@ -45,6 +47,8 @@ fn note_booked(seen: &mut Coverage, before: &Tables, after: &Tables, request: &R
         Request::Merge { pairs, .. } => note_merge(seen, before, pairs, answer.reply),
         Request::Lineage { .. } => {}
         Request::Trades { figures, cells } => note_batch(seen, before, after, figures, *cells, answer),
+        // in `give_up_situations`
+        Request::GiveUp { .. } => {}
     }
 }
 
@@ -123,6 +127,16 @@ fn note_merge(seen: &mut Coverage, before: &Tables, pairs: &[i64], reply: Reply)
     }
     if pairs.len() == 2_000 {
         seen.situation("merge: of 1,000 sources");
+    }
+}
+
+/// The first source whose status isn't 0 gives the number: a later one would give the other.
+fn note_status(seen: &mut Coverage, before: &Tables, request: &Request, number: i64, place: usize) {
+    let Request::Merge { pairs, .. } = request else { return };
+    let statuses = pairs.chunks(2).skip(place + 1).map(|pair| named(before, pair[0], pair[1])[4]);
+    let other = |status: i64| status != 0 && (status == 3) == (number == 7);
+    if statuses.into_iter().any(other) {
+        seen.status_before_other(number);
     }
 }
 

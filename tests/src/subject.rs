@@ -2,8 +2,10 @@
 
 use crate::lent::{Arena, Fence};
 use crate::tables::Tables;
-use model::{Reply, Request};
+use model::{Reply, Request, Step};
 pub use velichundam::c::Coded;
+use velichundam::c::{velichundam_give_up_approve_giver, velichundam_give_up_approve_taker, velichundam_give_up_cancel};
+use velichundam::c::{velichundam_give_up_claim, velichundam_give_up_open, velichundam_give_up_refuse};
 use velichundam::c::{velichundam_lineage, velichundam_merge, velichundam_separate, velichundam_trade, velichundam_trades, velichundam_transfer};
 
 /// The numbers by which include/velichundam.h gives an answer.
@@ -24,10 +26,23 @@ pub fn lent_output(request: &Request) -> Vec<i64> {
     (0..cells as i64).map(|k| -5_000_000_000 - k).collect()
 }
 
-/// The four pieces of memory that calls borrow.
+/// The call for a step of a give-up.
+fn call_of(step: Step) -> unsafe extern "C" fn(*mut i64, usize, *mut i64, usize, *mut i64, usize, i64, i64, i64, i64, i64, i64) -> Coded {
+    match step {
+        Step::Open => velichundam_give_up_open,
+        Step::Claim => velichundam_give_up_claim,
+        Step::Cancel => velichundam_give_up_cancel,
+        Step::Refuse => velichundam_give_up_refuse,
+        Step::ApproveGiver => velichundam_give_up_approve_giver,
+        Step::ApproveTaker => velichundam_give_up_approve_taker,
+    }
+}
+
+/// The five pieces of memory that calls borrow.
 pub struct Subject {
     records: Arena,
     positions: Arena,
+    processes: Arena,
     list: Arena,
     output: Arena,
 }
@@ -43,7 +58,8 @@ pub struct Outcome {
 
 impl Subject {
     pub fn new() -> Subject {
-        Subject { records: Arena::new(60_000), positions: Arena::new(8_000), list: Arena::new(8_000), output: Arena::new(2_000) }
+        let [records, positions, processes, list, output] = [60_000, 8_000, 10_000, 8_000, 2_000].map(Arena::new);
+        Subject { records, positions, processes, list, output }
     }
 
     pub fn call(&mut self, tables: &Tables, request: &Request, fence: Fence) -> Outcome {
@@ -55,6 +71,7 @@ impl Subject {
         };
         let records = self.records.lend(&tables.records, fence);
         let positions = self.positions.lend(&tables.positions, fence);
+        let processes = self.processes.lend(&tables.processes, fence);
         let lent_list = self.list.lend(list, fence);
         let output = self.output.lend(&lent_output(request), fence);
         let (r, rn, p, pn, l, ln) = (records.first, records.len, positions.first, positions.len, lent_list.first.cast_const(), lent_list.len);
@@ -66,17 +83,21 @@ impl Subject {
                 Request::Merge { id, account, series, .. } => velichundam_merge(r, rn, p, pn, id, account, series, l, ln),
                 Request::Lineage { id, suffix } => velichundam_lineage(r.cast_const(), rn, id, suffix),
                 Request::Trades { .. } => velichundam_trades(r, rn, p, pn, l, ln, output.first, output.len),
+                Request::GiveUp { step, process, id, suffix, giving, taking, series } => {
+                    call_of(step)(r, rn, p, pn, processes.first, processes.len, process, id, suffix, giving, taking, series)
+                }
             }
         };
         let (records, records_kept) = self.records.take_back(rn, fence);
         let (positions, positions_kept) = self.positions.take_back(pn, fence);
+        let (processes, processes_kept) = self.processes.take_back(processes.len, fence);
         let (list_after, list_guards_kept) = self.list.take_back(ln, fence);
         let (output, output_guards_kept) = self.output.take_back(output.len, fence);
         Outcome {
             answer,
-            tables: Tables { records: records.to_vec(), positions: positions.to_vec() },
+            tables: Tables { records: records.to_vec(), positions: positions.to_vec(), processes: processes.to_vec() },
             output: output.to_vec(),
-            guards_kept: records_kept && positions_kept && list_guards_kept && output_guards_kept,
+            guards_kept: records_kept && positions_kept && processes_kept && list_guards_kept && output_guards_kept,
             list_kept: list_after == list,
         }
     }
@@ -87,7 +108,7 @@ impl Subject {
 #[rustfmt::skip]
 mod peer_behind_the_interface {
     use super::Coded;
-    use peer::Reply;
+    use peer::{Reply, Step};
     use std::slice::{from_raw_parts, from_raw_parts_mut};
 
     fn coded(reply: Reply) -> Coded {
@@ -129,6 +150,24 @@ mod peer_behind_the_interface {
         id: i64, account: i64, series: i64, pairs: *const i64, pairs_len: usize) -> Coded {
         coded(peer::merge(from_raw_parts_mut(records, records_len), from_raw_parts_mut(positions, positions_len), id, account, series, from_raw_parts(pairs, pairs_len)))
     }
+
+    macro_rules! step {
+        ($name:ident, $step:expr) => {
+            #[no_mangle]
+            unsafe extern "C" fn $name(records: *mut i64, records_len: usize, positions: *mut i64, positions_len: usize,
+                processes: *mut i64, processes_len: usize, process: i64, id: i64, suffix: i64, giving: i64, taking: i64, series: i64) -> Coded {
+                let (records, positions) = (from_raw_parts_mut(records, records_len), from_raw_parts_mut(positions, positions_len));
+                coded(peer::give_up($step, records, positions, from_raw_parts_mut(processes, processes_len), process, id, suffix, giving, taking, series))
+            }
+        };
+    }
+
+    step!(velichundam_give_up_open, Step::Open);
+    step!(velichundam_give_up_claim, Step::Claim);
+    step!(velichundam_give_up_cancel, Step::Cancel);
+    step!(velichundam_give_up_refuse, Step::Refuse);
+    step!(velichundam_give_up_approve_giver, Step::ApproveGiver);
+    step!(velichundam_give_up_approve_taker, Step::ApproveTaker);
 
     #[no_mangle]
     unsafe extern "C" fn velichundam_lineage(records: *const i64, records_len: usize, id: i64, suffix: i64) -> Coded {

@@ -24,7 +24,7 @@ pub fn small() -> Tables {
         3, 2, 0, 8, 1,
     ];
     positions.extend((0..POSITION_CELLS as i64 * 2 + 3).map(|k| -2_000 - k));
-    Tables { records, positions }
+    Tables::without_processes(records, positions)
 }
 
 fn accepted() -> Vec<Request> {
@@ -115,7 +115,7 @@ pub fn many(rows: usize, room: usize, quantity: i64) -> Tables {
         records.extend([10 + k, 0, 0, 0, 0, 1, 1, 1, quantity, 50 + k % 7, quantity, 0, 0]);
     }
     records.extend(vec![-9; (room - rows) * RECORD_CELLS + 6]);
-    Tables { records, positions: vec![1, 1, 1, 1_000_000, 0, 0, -9, -9, -9, -9, -9] }
+    Tables::without_processes(records, vec![1, 1, 1, 1_000_000, 0, 0, -9, -9, -9, -9, -9])
 }
 
 /// Parts and pairs of every length around 2 and 1,000.
@@ -145,7 +145,7 @@ fn last_suffixes(checker: &mut Checker) {
             vec![4, greatest - 1, 0, 6, 0, 1, 1, 1, 6, 10, 0, 0, 0],
             vec![4, greatest, 0, 6, 0, 1, 1, 1, 6, 10, 0, 0, 0],
         ];
-        let mut tables = Tables { records: records.concat(), positions: vec![1, 1, 1, 99, 0, 0, 0, 0, 0, 0, 0] };
+        let mut tables = Tables::without_processes(records.concat(), vec![1, 1, 1, 99, 0, 0, 0, 0, 0, 0, 0]);
         tables.records.extend(vec![3; RECORD_CELLS * 9]);
         for count in 2..=6 {
             let mut parts = vec![1; count];
@@ -223,7 +223,7 @@ fn deep_lineage(checker: &mut Checker) {
     for gone in [0, 1, 2, 60, rows.len() - 1] {
         let mut cells = vec![rows.len() as i64 - 1];
         cells.extend(rows.iter().enumerate().filter(|(k, _)| *k != gone).flat_map(|(_, row)| row.clone()));
-        let holed = Tables { records: cells, positions: vec![] };
+        let holed = Tables::without_processes(cells, vec![]);
         for suffix in (0..suffix).step_by(7) {
             checker.ask(&holed, &Request::Lineage { id: 10, suffix });
         }
@@ -233,7 +233,7 @@ fn deep_lineage(checker: &mut Checker) {
 /// Merges whose value is at the ends, and every remainder of small ones: averages above, below and at a half.
 fn ends_of_averages(checker: &mut Checker) {
     let merge = |checker: &mut Checker, side: i64, sources: &[(i64, i64)], cash: i64| {
-        let mut tables = Tables { records: vec![sources.len() as i64], positions: vec![1, 1, 1, 0, 0, cash, 4, 4, 4, 4, 4] };
+        let mut tables = Tables::without_processes(vec![sources.len() as i64], vec![1, 1, 1, 0, 0, cash, 4, 4, 4, 4, 4]);
         for (k, (quantity, price)) in sources.iter().enumerate() {
             tables.records.extend([20 + k as i64, 0, 0, 0, 0, 1, 1, side, *quantity, *price, 0, 0, 0]);
         }

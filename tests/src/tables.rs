@@ -1,13 +1,16 @@
-//! The cells of both tables, and how they are printed.
+//! The cells of the three tables, and how they are printed.
 
+use model::{Reply, Request};
 use std::fmt::Write;
 
-pub use velichundam::{positions_len, records_len, MOST_POSITIONS, MOST_RECORDS, POSITION_CELLS, RECORD_CELLS};
+pub use velichundam::{positions_len, processes_len, records_len, MOST_POSITIONS, MOST_PROCESSES, MOST_RECORDS, POSITION_CELLS, PROCESS_CELLS, RECORD_CELLS};
 
+/// Only the steps of a give-up are lent the processes.
 #[derive(Clone, Debug, PartialEq, Eq)]
 pub struct Tables {
     pub records: Vec<i64>,
     pub positions: Vec<i64>,
+    pub processes: Vec<i64>,
 }
 
 /// The rows that cell 0 counts, as far as they lie in the cells: whatever the cells are.
@@ -17,6 +20,11 @@ fn counted(cells: &[i64], width: usize) -> impl Iterator<Item = &[i64]> {
 }
 
 impl Tables {
+    /// Tables for requests that are not lent processes.
+    pub fn without_processes(records: Vec<i64>, positions: Vec<i64>) -> Tables {
+        Tables { records, positions, processes: Vec::new() }
+    }
+
     pub fn record_rows(&self) -> impl Iterator<Item = &[i64]> {
         counted(&self.records, RECORD_CELLS)
     }
@@ -25,11 +33,21 @@ impl Tables {
         counted(&self.positions, POSITION_CELLS)
     }
 
+    pub fn process_rows(&self) -> impl Iterator<Item = &[i64]> {
+        counted(&self.processes, PROCESS_CELLS)
+    }
+
+    /// The answer of the model, without a look at the tables that it leaves.
+    pub fn model_reply(&self, request: &Request) -> Reply {
+        model::handle(&mut self.records.clone(), &mut self.positions.clone(), &mut self.processes.clone(), request).reply
+    }
+
     /// Every cell: the count, a line for each row, and the cells past the last row.
     pub fn print(&self) -> String {
         let mut text = String::new();
         print_table(&mut text, "records", &self.records, RECORD_CELLS, "id suffix parent type status account series side quantity price long short into");
         print_table(&mut text, "positions", &self.positions, POSITION_CELLS, "account series long short cash");
+        print_table(&mut text, "processes", &self.processes, PROCESS_CELLS, "process id suffix giving taking series giver taker stage");
         text
     }
 }

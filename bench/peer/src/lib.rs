@@ -1,9 +1,12 @@
 //! The transaction book as one would write it in Rust by hand: the same lent tables of flat cells, the same tests in the same order, the same
 //! bookings. The benchmark compares the proved book with it, and `tests/` can be run against it to try the harness itself.
 
+mod give_up;
 mod table;
 
-use table::{sound_rows, PositionRow, Positions, RecordRow, Records};
+pub use give_up::{give_up, Step};
+
+use table::{by_pair, sound_rows, PositionRow, Positions, RecordRow, Records};
 
 #[derive(Clone, Copy, Debug, PartialEq, Eq)]
 pub enum Reply {
@@ -59,11 +62,14 @@ const INTO: usize = 12;
 const ADJUSTABLE: i64 = 0;
 const ADJUSTED: i64 = 1;
 const INVERSE: i64 = 2;
+const UNDER_GIVE_UP: i64 = 3;
 
 const ORIGINAL: i64 = 0;
 const TRANSFER: i64 = 4;
 const SEPARATION: i64 = 6;
 const CLOSING_ERROR: i64 = 10;
+const GIVE_UP: i64 = 20;
+const TAKE_UP: i64 = 30;
 const MERGE: i64 = 901;
 
 const BUY_OPEN: i64 = 1;
@@ -106,12 +112,12 @@ fn is_sound_record(row: &RecordRow) -> bool {
         && is_suffix(suffix)
         && is_suffix(parent)
         && (parent < suffix || (parent == 0 && suffix == 0))
-        && matches!(kind, ORIGINAL | TRANSFER | SEPARATION | CLOSING_ERROR | MERGE)
+        && matches!(kind, ORIGINAL | TRANSFER | SEPARATION | CLOSING_ERROR | GIVE_UP | TAKE_UP | MERGE)
         && is_account(account)
         && is_series(series)
         && (1..=4).contains(&side)
         && match status {
-            ADJUSTABLE | ADJUSTED => is_quantity(quantity),
+            ADJUSTABLE | ADJUSTED | UNDER_GIVE_UP => is_quantity(quantity),
             INVERSE => (-MOST_QUANTITY..=-1).contains(&quantity),
             _ => false,
         }
@@ -131,18 +137,33 @@ const POSITIONS_ROOM: usize = 1_024;
 
 /// Tests 1 and 2.
 fn open<'a>(records: &'a mut [i64], positions: &'a mut [i64]) -> Result<(Records<'a>, Positions<'a>), Refusal> {
-    let records = Records::open(records, RECORDS_ROOM, is_sound_record).ok_or(Refusal { number: 1, place: 0 })?;
-    let positions = Positions::open(positions, POSITIONS_ROOM, is_sound_position).ok_or(Refusal { number: 2, place: 0 })?;
+    let records = Records::open(records, RECORDS_ROOM, by_pair, is_sound_record).ok_or(Refusal { number: 1, place: 0 })?;
+    let positions = Positions::open(positions, POSITIONS_ROOM, by_pair, is_sound_position).ok_or(Refusal { number: 2, place: 0 })?;
     Ok((records, positions))
 }
 
-/// Tests 5 to 7 of a request that names one record: its place in the table, and a copy of it.
+/// Tests 5 and 6 of a request that names one record: its place in the table, and a copy of it.
 fn named(records: &Records, id: i64, suffix: i64, account: i64, series: i64) -> Result<(usize, RecordRow), Refusal> {
     let at = records.find(id, suffix).map_err(|_| Refusal { number: 5, place: 0 })?;
     let row = records.rows()[at];
     refuse_if(row[ACCOUNT] != account || row[SERIES] != series, 6)?;
-    refuse_if(row[STATUS] != ADJUSTABLE, 7)?;
     Ok((at, row))
+}
+
+/// Tests 5 to 7, with 17, of a request that adjusts one record or opens a give-up of it.
+fn adjustable(records: &Records, id: i64, suffix: i64, account: i64, series: i64) -> Result<(usize, RecordRow), Refusal> {
+    let (at, row) = named(records, id, suffix, account, series)?;
+    refuse_if(row[STATUS] != ADJUSTABLE, status_refusal(&row))?;
+    Ok((at, row))
+}
+
+/// The number for a record that is not adjustable.
+fn status_refusal(row: &RecordRow) -> i64 {
+    if row[STATUS] == UNDER_GIVE_UP {
+        17
+    } else {
+        7
+    }
 }
 
 fn is_to_close(row: &RecordRow) -> bool {
@@ -236,7 +257,7 @@ fn try_separate(records: &mut [i64], positions: &mut [i64], id: i64, suffix: i64
         && (2..=1_000).contains(&parts.len())
         && parts.iter().all(|&part| is_quantity(part));
     refuse_if(!valid, 3)?;
-    let (at, mut row) = named(&records, id, suffix, account, series)?;
+    let (at, mut row) = adjustable(&records, id, suffix, account, series)?;
     refuse_if(parts.iter().sum::<i64>() != row[QUANTITY], 11)?;
     let added = parts.len() + 1;
     let (end, greatest) = end_of(&records, id);
@@ -269,15 +290,23 @@ fn try_transfer(records: &mut [i64], positions: &mut [i64], id: i64, suffix: i64
     let (mut records, mut positions) = open(records, positions)?;
     let valid = is_id(id) && is_suffix(suffix) && is_account(from) && is_account(to) && is_series(series) && from != to;
     refuse_if(!valid, 3)?;
-    let (at, mut row) = named(&records, id, suffix, from, series)?;
+    let (at, row) = adjustable(&records, id, suffix, from, series)?;
     refuse_if(is_to_close(&row), 8)?;
+    change_account(&mut records, &mut positions, at, row, to, [TRANSFER; 2])
+}
+
+/// Tests 12 to 16 of a record, by its place and a copy of it, that goes to another account; then its inverse row and the row in the new account, of
+/// these types.
+#[inline(always)]
+fn change_account(records: &mut Records, positions: &mut Positions, at: usize, mut row: RecordRow, to: i64, kinds: [i64; 2]) -> Outcome {
+    let (id, suffix, from, series) = (row[ID], row[SUFFIX], row[ACCOUNT], row[SERIES]);
     let quantity = row[QUANTITY];
     // The moved cell of a position row: its long for a buy, its short for a sell.
     let cell = if row[SIDE] == BUY_OPEN { 2 } else { 3 };
     let old = positions.find(from, series);
     let mut giver = positions.row_or_zeros(old, from, series);
     refuse_if(giver[cell] < quantity, 12)?;
-    let (end, greatest) = end_of(&records, id);
+    let (end, greatest) = end_of(records, id);
     refuse_if(greatest + 2 > GREATEST_SUFFIX, 13)?;
     refuse_if(records.is_full(2), 14)?;
     let new = positions.find(to, series);
@@ -291,13 +320,15 @@ fn try_transfer(records: &mut [i64], positions: &mut [i64], id: i64, suffix: i64
     (row[LONG], row[SHORT]) = if cell == 2 { (quantity, 0) } else { (0, quantity) };
     row[SUFFIX] = greatest + 1;
     row[PARENT] = suffix;
-    row[KIND] = TRANSFER;
     row[INTO] = 0;
     let gap = records.open_gap(end, 2);
     gap[1] = row;
     gap[1][SUFFIX] += 1;
+    gap[1][KIND] = kinds[1];
+    gap[1][STATUS] = ADJUSTABLE;
     gap[1][ACCOUNT] = to;
     gap[0] = row;
+    gap[0][KIND] = kinds[0];
     gap[0][STATUS] = INVERSE;
     gap[0][QUANTITY] = -quantity;
     gap[0][LONG] = -row[LONG];
@@ -331,7 +362,9 @@ fn try_merge(records: &mut [i64], positions: &mut [i64], id: i64, account: i64, 
         .collect::<Result<Vec<usize>, Refusal>>()?;
     let row = |at: usize| &records.rows()[at];
     refuse_each(&rows, 6, |&at| row(at)[ACCOUNT] != account || row(at)[SERIES] != series)?;
-    refuse_each(&rows, 7, |&at| row(at)[STATUS] != ADJUSTABLE)?;
+    if let Some(place) = rows.iter().position(|&at| row(at)[STATUS] != ADJUSTABLE) {
+        return Err(Refusal { number: status_refusal(row(rows[place])), place });
+    }
     refuse_each(&rows, 8, |&at| is_to_close(row(at)))?;
     if let Some(place) = (0..rows.len()).find(|&k| rows[..k].contains(&rows[k])) {
         return Err(Refusal { number: 9, place });
@@ -391,7 +424,7 @@ pub fn lineage(records: &[i64], id: i64, suffix: i64) -> Reply {
 }
 
 fn try_lineage(records: &[i64], id: i64, suffix: i64) -> Outcome {
-    let rows = sound_rows(records, RECORDS_ROOM, is_sound_record).ok_or(Refusal { number: 1, place: 0 })?;
+    let rows = sound_rows(records, RECORDS_ROOM, by_pair, is_sound_record).ok_or(Refusal { number: 1, place: 0 })?;
     refuse_if(!is_id(id) || !is_suffix(suffix), 3)?;
     let mut at = suffix;
     for links in 0.. {

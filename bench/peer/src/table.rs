@@ -1,12 +1,29 @@
-//! A lent table: cell 0 is the row count, the rows follow, sorted by their first two cells.
+//! A lent table: cell 0 is the row count, the rows follow, sorted by their first two cells, or the processes by their first alone.
 
 pub type RecordRow = [i64; 13];
 pub type PositionRow = [i64; 5];
+pub type ProcessRow = [i64; 9];
 pub type Records<'a> = Table<'a, 13>;
 pub type Positions<'a> = Table<'a, 5>;
+pub type Processes<'a> = Table<'a, 9>;
+
+/// Whether a row's key is below another's, by two cells.
+pub fn by_pair<const W: usize>(low: &[i64; W], high: &[i64; W]) -> bool {
+    (low[0], low[1]) < (high[0], high[1])
+}
+
+/// Whether a row's key is below another's, by one cell.
+pub fn by_first<const W: usize>(low: &[i64; W], high: &[i64; W]) -> bool {
+    low[0] < high[0]
+}
 
 /// The rows that cell 0 counts, where the table is sound: one pass over them.
-pub fn sound_rows<const W: usize>(cells: &[i64], most: usize, is_sound: impl Fn(&[i64; W]) -> bool) -> Option<&[[i64; W]]> {
+pub fn sound_rows<const W: usize>(
+    cells: &[i64],
+    most: usize,
+    rise: impl Fn(&[i64; W], &[i64; W]) -> bool,
+    is_sound: impl Fn(&[i64; W]) -> bool,
+) -> Option<&[[i64; W]]> {
     let (count, cells) = cells.split_first()?;
     let (rows, _) = cells.as_chunks::<W>();
     let count = usize::try_from(*count).ok()?;
@@ -16,7 +33,7 @@ pub fn sound_rows<const W: usize>(cells: &[i64], most: usize, is_sound: impl Fn(
     let rows = &rows[..count];
     let mut last: Option<&[i64; W]> = None;
     for row in rows {
-        let rises = last.is_none_or(|last| (last[0], last[1]) < (row[0], row[1]));
+        let rises = last.is_none_or(|last| rise(last, row));
         if !rises || !is_sound(row) {
             return None;
         }
@@ -32,8 +49,8 @@ pub struct Table<'a, const W: usize> {
 }
 
 impl<'a, const W: usize> Table<'a, W> {
-    pub fn open(cells: &'a mut [i64], most: usize, is_sound: impl Fn(&[i64; W]) -> bool) -> Option<Self> {
-        sound_rows(cells, most, is_sound)?;
+    pub fn open(cells: &'a mut [i64], most: usize, rise: impl Fn(&[i64; W], &[i64; W]) -> bool, is_sound: impl Fn(&[i64; W]) -> bool) -> Option<Self> {
+        sound_rows(cells, most, rise, is_sound)?;
         let (count, cells) = cells.split_first_mut()?;
         let (rows, _) = cells.as_chunks_mut::<W>();
         let room = rows.len().min(most);
@@ -61,6 +78,11 @@ impl<'a, const W: usize> Table<'a, W> {
     /// The place of the row with that key, or the place where it would go.
     pub fn find(&self, major: i64, minor: i64) -> Result<usize, usize> {
         self.rows().binary_search_by_key(&(major, minor), |row| (row[0], row[1]))
+    }
+
+    /// The same by the first cell alone.
+    pub fn find_first(&self, major: i64) -> Result<usize, usize> {
+        self.rows().binary_search_by_key(&major, |row| row[0])
     }
 
     /// Moves the rows from `at` on up by `more` rows, and lends the gap.

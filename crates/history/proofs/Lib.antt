@@ -22,3 +22,7 @@ pub mod Answers
 pub mod LineageAlone
 pub mod OnTables
 pub mod CallsOnTables
+pub mod OpenProcesses
+pub mod RecordsUnder
+pub mod StepMatched
+pub mod UnderGiveUp

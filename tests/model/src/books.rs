@@ -1,4 +1,4 @@
-//! The rows of the two tables as sorted maps, and the few ways in which requests look at them and change them.
+//! The rows of the three tables as sorted maps, and the few ways in which requests look at them and change them.
 
 use std::collections::BTreeMap;
 
@@ -26,15 +26,42 @@ pub struct Position {
     pub cash: i64,
 }
 
+/// Document 02, K3: how far a give-up has come.
+#[derive(Clone, Copy, Debug, PartialEq, Eq)]
+pub enum Stage {
+    Pending,
+    Claimed,
+    Refused,
+    Cancelled,
+    Done,
+}
+
+/// A row of the process table without its key, which is the process id. The approvals are those of the giver's and of the taker's clearing member.
+#[derive(Clone, Debug, PartialEq, Eq)]
+pub struct Process {
+    pub id: i64,
+    pub suffix: i64,
+    pub giving: i64,
+    pub taking: i64,
+    pub series: i64,
+    pub giver: bool,
+    pub taker: bool,
+    pub stage: Stage,
+}
+
 pub type Records = BTreeMap<(i64, i64), Record>;
 pub type Positions = BTreeMap<(i64, i64), Position>;
+pub type Processes = BTreeMap<i64, Process>;
 
 #[derive(Clone, Debug)]
 pub struct Books {
     pub records: Records,
     pub positions: Positions,
+    /// Empty, without room, for a request that is not lent the process table.
+    pub processes: Processes,
     pub records_room: usize,
     pub positions_room: usize,
+    pub processes_room: usize,
 }
 
 impl Record {

@@ -1,9 +1,9 @@
 //! Document 01, "Booking rules" and "Replies". Each request runs its tests in the order of the refusals' numbers and then books. A batch of trades
-//! (document 02, K1) is in `batch`.
+//! (document 02, K1) is in `batch`, the steps of a give-up (K3) are in `give_up`.
 
-use crate::batch;
 use crate::books::{Books, Record, Records};
 use crate::tables::{is_sound_position, ACCOUNTS, IDS, PRICES, QUANTITIES, SERIES, SIDES, SUFFIXES};
+use crate::{batch, give_up};
 
 /// What is asked of the book, with any figures. A batch has six figures for each trade, and the number of cells that are lent for the excesses.
 #[derive(Clone, Debug, PartialEq, Eq)]
@@ -14,6 +14,25 @@ pub enum Request {
     Merge { id: i64, account: i64, series: i64, pairs: Vec<i64> },
     Lineage { id: i64, suffix: i64 },
     Trades { figures: Vec<i64>, cells: usize },
+    GiveUp { step: Step, process: i64, id: i64, suffix: i64, giving: i64, taking: i64, series: i64 },
+}
+
+/// A step of a give-up (document 02, K3).
+#[derive(Clone, Copy, Debug, PartialEq, Eq)]
+pub enum Step {
+    Open,
+    Claim,
+    Cancel,
+    Refuse,
+    ApproveGiver,
+    ApproveTaker,
+}
+
+impl Request {
+    /// "a lent process table, read by these steps only"
+    pub fn lends_processes(&self) -> bool {
+        matches!(self, Request::GiveUp { .. })
+    }
 }
 
 #[derive(Clone, Copy, Debug, PartialEq, Eq)]
@@ -67,7 +86,7 @@ fn ensure_each<T>(list: &[T], number: i64, mut holds: impl FnMut(usize, &T) -> b
     }
 }
 
-/// Tests 3 to 16 of a request that books, and its booking. The caller drops the books of a refused one.
+/// The tests of a request that books, from 3 on, and its booking. The caller drops the books of a refused one.
 pub fn book(books: &mut Books, request: &Request) -> Result<Answer, Refusal> {
     let reply = match request {
         Request::Trade { id, account, series, side, quantity, price } => trade(books, *id, *account, *series, *side, *quantity, *price)?,
@@ -76,6 +95,9 @@ pub fn book(books: &mut Books, request: &Request) -> Result<Answer, Refusal> {
         Request::Merge { id, account, series, pairs } => merge(books, *id, *account, *series, pairs)?,
         Request::Lineage { id, suffix } => lineage(&books.records, *id, *suffix)?,
         Request::Trades { figures, cells } => return batch::trades(books, figures, *cells),
+        Request::GiveUp { step, process, id, suffix, giving, taking, series } => {
+            give_up::give_up(books, *step, *process, *id, *suffix, *giving, *taking, *series)?
+        }
     };
     Ok(reply.into())
 }
@@ -117,7 +139,7 @@ fn separate(books: &mut Books, id: i64, suffix: i64, account: i64, series: i64, 
     ensure(parts.iter().sum::<i64>() == named.quantity, 11)?;
     ensure(books.next_suffix(id) + parts.len() as i64 <= *SUFFIXES.end(), 13)?;
 
-    adjust(books, (id, suffix));
+    set_status(books, (id, suffix), 1);
     let row = Record { parent: suffix, kind: 6, long: 0, short: 0, into: 0, ..named };
     append(books, id, Record { status: 2, quantity: -row.quantity, ..row.clone() });
     for &part in parts {
@@ -132,16 +154,22 @@ fn transfer(books: &mut Books, id: i64, suffix: i64, from: i64, to: i64, series:
     ensure(figures && from != to, 3)?;
     let named = named_record(books, id, suffix, from, series)?;
     ensure(!named.is_to_close(), 8)?;
-    let q = named.quantity;
+    change_account(books, (id, suffix), named, to, [4, 4])
+}
+
+/// Tests 12 to 16 of a record that goes to another account, and its booking: an inverse row in the old account and an adjustable row in the new, of these
+/// types.
+pub fn change_account(books: &mut Books, (id, suffix): (i64, i64), named: Record, to: i64, kinds: [i64; 2]) -> Result<Reply, Refusal> {
+    let (q, from, series) = (named.quantity, named.account, named.series);
     let held = books.position(from, series);
     ensure(q <= if named.is_buy() { held.long } else { held.short }, 12)?;
     ensure(books.next_suffix(id) + 1 <= *SUFFIXES.end(), 13)?;
 
-    adjust(books, (id, suffix));
+    set_status(books, (id, suffix), 1);
     let (long, short) = if named.is_buy() { (q, 0) } else { (0, q) };
-    let row = Record { parent: suffix, kind: 4, into: 0, ..named };
-    append(books, id, Record { status: 2, quantity: -q, long: -long, short: -short, ..row.clone() });
-    append(books, id, Record { status: 0, account: to, long, short, ..row });
+    let row = Record { parent: suffix, into: 0, ..named };
+    append(books, id, Record { kind: kinds[0], status: 2, quantity: -q, long: -long, short: -short, ..row.clone() });
+    append(books, id, Record { kind: kinds[1], status: 0, account: to, long, short, ..row });
     books.move_position(from, series, -long, -short, 0);
     books.move_position(to, series, long, short, 0);
     fits(books)?;
@@ -158,7 +186,10 @@ fn merge(books: &mut Books, new: i64, account: i64, series: i64, pairs: &[i64]) 
     ensure_each(&sources, 5, |_, key| books.records.contains_key(key))?;
     let rows: Vec<Record> = sources.iter().map(|key| books.records[key].clone()).collect();
     ensure_each(&rows, 6, |_, row| row.account == account && row.series == series)?;
-    ensure_each(&rows, 7, |_, row| row.status == 0)?;
+    // K3: "one test with 7: a merge's first source failing it gives number and place"
+    if let Some(place) = rows.iter().position(|row| row.status != 0) {
+        return Err(Refusal { number: not_adjustable(&rows[place]), place });
+    }
     ensure_each(&rows, 8, |_, row| !row.is_to_close())?;
     ensure_each(&sources, 9, |place, key| !sources[..place].contains(key))?;
     ensure_each(&rows, 10, |_, row| row.is_buy() == rows[0].is_buy())?;
@@ -170,7 +201,7 @@ fn merge(books: &mut Books, new: i64, account: i64, series: i64, pairs: &[i64]) 
     let over = i128::from(quantity) * average - value;
     let residual = if rows[0].is_buy() { over } else { -over } as i64;
     for (key, row) in sources.iter().zip(&rows) {
-        adjust(books, *key);
+        set_status(books, *key, 1);
         append(books, key.0, Record { parent: key.1, kind: 901, status: 2, quantity: -row.quantity, long: 0, short: 0, into: new, ..row.clone() });
     }
     ensure(sources.iter().all(|key| books.greatest_suffix(key.0) <= Some(*SUFFIXES.end())), 13)?;
@@ -202,17 +233,32 @@ pub fn lineage(records: &Records, id: i64, suffix: i64) -> Result<Reply, Refusal
     }
 }
 
-/// Tests 5 to 7 of a request that names one record.
-fn named_record(books: &Books, id: i64, suffix: i64, account: i64, series: i64) -> Result<Record, Refusal> {
+/// Tests 5 to 7 of a request that adjusts one record, or opens a give-up of it.
+pub fn named_record(books: &Books, id: i64, suffix: i64, account: i64, series: i64) -> Result<Record, Refusal> {
+    let row = found_record(books, id, suffix, account, series)?;
+    ensure(row.status == 0, not_adjustable(&row))?;
+    Ok(row)
+}
+
+/// Tests 5 and 6.
+pub fn found_record(books: &Books, id: i64, suffix: i64, account: i64, series: i64) -> Result<Record, Refusal> {
     let row = books.records.get(&(id, suffix)).ok_or(Refusal::number(5))?;
     ensure(row.account == account && row.series == series, 6)?;
-    ensure(row.status == 0, 7)?;
     Ok(row.clone())
 }
 
+/// The number for a record whose status isn't 0. K3: "Adjusting or opening on status 3 is refused 17, one test with 7".
+fn not_adjustable(row: &Record) -> i64 {
+    if row.status == 3 {
+        17
+    } else {
+        7
+    }
+}
+
 /// "It becomes status 1", and nothing else of it changes.
-fn adjust(books: &mut Books, key: (i64, i64)) {
-    books.records.get_mut(&key).expect("the record was found").status = 1;
+pub fn set_status(books: &mut Books, key: (i64, i64), status: i64) {
+    books.records.get_mut(&key).expect("the record was found").status = status;
 }
 
 /// Puts a row under the next suffix of its id.

@@ -1,12 +1,14 @@
-//! Document 01, "The two tables": how rows lie in the lent cells, and when a table is sound.
+//! Document 01, "The two tables", and the process table of document 02, K3: how rows lie in the lent cells, and when a table is sound.
 
-use crate::books::{Position, Positions, Record, Records};
+use crate::books::{Position, Positions, Process, Processes, Record, Records, Stage};
 use std::ops::RangeInclusive;
 
 pub const RECORD_CELLS: usize = 13;
 pub const POSITION_CELLS: usize = 5;
+pub const PROCESS_CELLS: usize = 9;
 const MOST_RECORDS: usize = 4_096;
 const MOST_POSITIONS: usize = 1_024;
+const MOST_PROCESSES: usize = 1_024;
 
 pub const IDS: RangeInclusive<i64> = 1..=999_999_999;
 pub const SUFFIXES: RangeInclusive<i64> = 0..=65_535;
@@ -27,6 +29,11 @@ pub fn records_room(cells: &[i64]) -> usize {
 /// "Room likewise, at most 1,024."
 pub fn positions_room(cells: &[i64]) -> usize {
     MOST_POSITIONS.min(cells.len().saturating_sub(1) / POSITION_CELLS)
+}
+
+/// K3: "cell 0 the count, room at most 1,024"
+pub fn processes_room(cells: &[i64]) -> usize {
+    MOST_PROCESSES.min(cells.len().saturating_sub(1) / PROCESS_CELLS)
 }
 
 /// The rows that cell 0 counts, or nothing where there is no cell 0 or the count is not between 0 and the room.
@@ -70,8 +77,9 @@ fn is_sound_record((id, suffix): (i64, i64), r: &Record) -> bool {
         && SERIES.contains(&r.series)
         && SIDES.contains(&r.side)
         && PRICES.contains(&r.price);
-    let kind = matches!(r.kind, 0 | 4 | 6 | 10 | 901);
-    let status = matches!(r.status, 0 | 1 | 2);
+    // K3: "the status becomes 3, sound like 0, as are types 20 and 30"
+    let kind = matches!(r.kind, 0 | 4 | 6 | 10 | 20 | 30 | 901);
+    let status = matches!(r.status, 0..=3);
     // "Quantity is not zero, magnitude at most 1,000,000, negative exactly where status is 2."
     let magnitude = if r.status == 2 { r.quantity.checked_neg() } else { Some(r.quantity) };
     let quantity = magnitude.is_some_and(|q| QUANTITIES.contains(&q));
@@ -101,6 +109,55 @@ pub fn is_sound_position(p: &Position) -> bool {
     LONG_OR_SHORT.contains(&p.long) && LONG_OR_SHORT.contains(&p.short) && CASH.contains(&p.cash)
 }
 
+/// The rows of a sound process table: "process ids (ranged as transaction ids) strictly rising, figures in range, approvals 0 or 1, a stage below".
+pub fn read_processes(cells: &[i64]) -> Option<Processes> {
+    let mut rows = Processes::new();
+    for row in counted(cells, PROCESS_CELLS, processes_room(cells))? {
+        let key = row[0];
+        let rises = rows.last_key_value().map_or(true, |(last, _)| *last < key);
+        if !rises || !IDS.contains(&key) {
+            return None;
+        }
+        rows.insert(key, sound_process(row)?);
+    }
+    Some(rows)
+}
+
+fn sound_process(row: &[i64]) -> Option<Process> {
+    let process = Process {
+        id: row[1],
+        suffix: row[2],
+        giving: row[3],
+        taking: row[4],
+        series: row[5],
+        giver: approval(row[6])?,
+        taker: approval(row[7])?,
+        stage: STAGES.into_iter().find(|(number, _)| *number == row[8])?.1,
+    };
+    let figures = IDS.contains(&process.id)
+        && SUFFIXES.contains(&process.suffix)
+        && ACCOUNTS.contains(&process.giving)
+        && ACCOUNTS.contains(&process.taking)
+        && SERIES.contains(&process.series);
+    figures.then_some(process)
+}
+
+/// "approvals 0 or 1"
+fn approval(cell: i64) -> Option<bool> {
+    match cell {
+        0 => Some(false),
+        1 => Some(true),
+        _ => None,
+    }
+}
+
+/// "pending (6), claimed (9), refused (10), cancelled (12) or done (house code 0)"
+const STAGES: [(i64, Stage); 5] = [(6, Stage::Pending), (9, Stage::Claimed), (10, Stage::Refused), (12, Stage::Cancelled), (0, Stage::Done)];
+
+fn stage_number(stage: Stage) -> i64 {
+    STAGES.into_iter().find(|(_, named)| *named == stage).expect("each stage has a number").0
+}
+
 /// Writes the count and the rows. Cells past the last row stay as they are.
 pub fn write_records(cells: &mut [i64], rows: &Records) {
     cells[0] = rows.len() as i64;
@@ -115,5 +172,16 @@ pub fn write_positions(cells: &mut [i64], rows: &Positions) {
     let places = cells[1..].chunks_mut(POSITION_CELLS);
     for (cells, ((account, series), p)) in places.zip(rows) {
         cells.copy_from_slice(&[*account, *series, p.long, p.short, p.cash]);
+    }
+}
+
+/// "A row's nine cells: process id, id, suffix, giving and taking account, series, the two clearing approvals, and a stage"; "the giver's approval is
+/// the seventh cell"
+pub fn write_processes(cells: &mut [i64], rows: &Processes) {
+    cells[0] = rows.len() as i64;
+    let places = cells[1..].chunks_mut(PROCESS_CELLS);
+    for (cells, (process, p)) in places.zip(rows) {
+        let (giver, taker) = (i64::from(p.giver), i64::from(p.taker));
+        cells.copy_from_slice(&[*process, p.id, p.suffix, p.giving, p.taking, p.series, giver, taker, stage_number(p.stage)]);
     }
 }

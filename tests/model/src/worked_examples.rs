@@ -3,7 +3,7 @@
 use crate::{Reply, Request};
 
 fn handle(records: &mut [i64], positions: &mut [i64], request: &Request) -> Reply {
-    crate::handle(records, positions, request).reply
+    crate::handle(records, positions, &mut [], request).reply
 }
 
 fn tables(records: usize, positions: usize) -> (Vec<i64>, Vec<i64>) {
