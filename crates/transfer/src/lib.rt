@@ -201,8 +201,8 @@ pub fn verdict_on_positions(
     Verdict::Accepted
 }
 
-// The record adjusted, the two rows that come out of it, and both positions: of a transfer, and of the step that completes a give-up, which differ in the rows' types. The old account's
-// row is there, since it holds the quantity: writing it moves no row, and what was found of the new account's is so still.
+// The record adjusted, the two rows that come out of it, and both positions: of a transfer, and of the step that completes a give-up. `leaving` and `arriving` are the types of the
+// inverse row and of the new one. The old account's row is there, since it holds the quantity: writing it moves no row, and what was found of the new account's is so still.
 pub fn book_moved(
     records: &mut [i64],
     positions: &mut [i64],
@@ -214,16 +214,16 @@ pub fn book_moved(
     from: i64,
     to: i64,
     series: i64,
-    inverse_kind: i64,
-    new_kind: i64,
+    leaving: i64,
+    arriving: i64,
 )
-    requires { ⌜ MovingReady (now records) (now positions) named old new id suffix from to series inverse_kind new_kind ⌝ }
-    ensures { λ done. ⌜ (now (records .exit) ≡ recordsAfter (movingEffects inverse_kind new_kind (now (records .entry)) (now (positions .entry)) (named .record) id from to series) (now (records .entry))) × (now (positions .exit) ≡ positionsAfter (movingEffects inverse_kind new_kind (now (records .entry)) (now (positions .entry)) (named .record) id from to series) (now (positions .entry))) ⌝ }
+    requires { ⌜ MovingReady (now records) (now positions) named old new id suffix from to series leaving arriving ⌝ }
+    ensures { λ done. ⌜ (now (records .exit) ≡ recordsAfter (movingEffects leaving arriving (now (records .entry)) (now (positions .entry)) (named .record) id from to series) (now (records .entry))) × (now (positions .exit) ≡ positionsAfter (movingEffects leaving arriving (now (records .entry)) (now (positions .entry)) (named .record) id from to series) (now (positions .entry))) ⌝ }
 {
     let r = named.record;
     let next = named.next;
-    let inverse = inverse_row(r, next, inverse_kind);
-    let arrived = arrived_row(r, next + 1, to, new_kind);
+    let inverse = inverse_row(r, next, leaving);
+    let arrived = arrived_row(r, next + 1, to, arriving);
     let quantity = [r.quantity];
     let old_found = old.found;
     let new_found = new.found;

@@ -1,42 +1,16 @@
--- `transfer::book` meets its contract: the record is adjusted and its two new rows inserted as the rules put them, and each position goes in. The old account's row
--- is there, so what was found of the new account's position holds once it is written. Assumes nothing.
-use mathlib.Core.Path.{_≡_, sym, _∙_, ap, subst}
-use mathlib.Core.Bool.{true}
-use mathlib.Core.List.{List, [], _∷_}
-use lib.IntN.{ℤ, pos, negℤ, _+ℤ_}
-use lib.Signed.{_≤ℤ_}
+-- `transfer::book` meets its contract: an accepted transfer moves its record, with two rows of type 4. Assumes nothing.
+use lib.IntN.{ℤ}
+use mathlib.Core.List.{List}
 use mir.Facts.{toZ-ofZ}
-use mir.Syntax.{w64}
-use mir.Val.{SFits, toZ, ofZ}
 use borrow.Author.Needs.{needs}
-use Rattle.integers.proofs.Linear.{zarith, +-lin}
-use Rattle.rules.specs.Figures.{greatestOfSuffixes}
-use Rattle.rules.specs.Keyed.{Key}
-use Rattle.rules.specs.Rows.{keyOf, recordKey, positionKey, soundPosition, inverseRecord, adjustableRecord, moved}
-use Rattle.rules.specs.Transfer.{inSide}
-use Rattle.rules.specs.Layout.{rowsOf}
-use Rattle.rules.specs.Tables.{recordsLayout, positionsLayout, soundPositions}
+use Rattle.rules.specs.Figures.{transferKind}
 use Rattle.rules.specs.declared.Record.{Record}
-use Rattle.rules.specs.declared.Position.{Position}
-use Rattle.cells.proofs.RowCells.{positions-lawful}
-use Rattle.cells.proofs.SoundCells.{positions-known}
-use Rattle.soundness.proofs.NamedRecord.{nextOf}
-use Rattle.soundness.proofs.ReadPosition.{read-key}
-use Rattle.lookup.specs.Lookup.{foundIn}
-use Rattle.lookup.proofs.KeysKept.{found-kept}
-use Rattle.lookup.proofs.TableLookup.{positions-first}
-use Rattle.scan.proofs.ReadBack.{read-back}
-use Rattle.tables.specs.NewRows.{rowsLike}
-use Rattle.requests.specs.AdjustReady.{AdjustReady}
-use Rattle.verdict.proofs.Puts.{putOne, putAll}
-use Rattle.verdict.proofs.Ready.{PutReady}
-use Rattle.verdict.proofs.SoundReads.{FoundRecord, found-record, position-read-sound}
-use Rattle.verdict.proofs.Transfer.{transferInverse, transferArrived, transferRows, transferOld, transferNew}
-use Rattle.verdict.proofs.TransferReady.{transfer-status, transfer-ready, transfer-next, transfer-old-there, transfer-put-old, transfer-put-new, transfer-returns}
+use Rattle.verdict.proofs.MovingReady.{Movable}
+use Rattle.verdict.proofs.Transfer.{transfer-movable, transfer-returns}
+use Rattle.transfer.specs.MovingReady.{MovingReady}
 use Rattle.transfer.proofs.book.Statement.{statement}
 use Rattle.transfer.proofs.book.Tie as tie
 
--- What the function is given, and what the rules make of it.
 module _ (s : tie.Start) where
   abbrev rs : List ℤ
   rs = s .args .records .now
@@ -44,203 +18,39 @@ module _ (s : tie.Start) where
   abbrev ps : List ℤ
   ps = s .args .positions .now
 
-  abbrev id : ℤ
-  id = s .args .id
-
-  abbrev suffix : ℤ
-  suffix = s .args .suffix
-
-  abbrev from : ℤ
-  from = s .args .from
-
-  abbrev to : ℤ
-  to = s .args .to
-
-  abbrev series : ℤ
-  series = s .args .series
-
   abbrev r : Record
   r = s .args .named .record
 
-  abbrev next : ℤ
-  next = nextOf (rowsOf recordsLayout rs) id
+  ready : MovingReady rs ps (s .args .named) (s .args .old) (s .args .new) (s .args .id) (s .args .suffix) (s .args .from) (s .args .to) (s .args .series) transferKind transferKind
+  ready =
+      let may : Movable rs ps (s .args .id) (s .args .suffix) (s .args .from) (s .args .to) (s .args .series) transferKind transferKind r =
+      transfer-movable rs ps (s .args .id) (s .args .suffix) (s .args .from) (s .args .to) (s .args .series) (s .pre .0 .0) (s .pre .0 .1) (s .pre .0 .2) r (s .pre .1 .0 .found) in
+      record {
+        records-sound = s .pre .0 .0;
+        positions-sound = s .pre .0 .1;
+        record-known = s .pre .1 .0;
+        old-known = s .pre .1 .1;
+        new-known = s .pre .1 .2;
+        not-inverse = may .not-inverse;
+        accounts-differ = may .accounts-differ;
+        to-valid = may .to-valid;
+        inverse-kind = may .inverse-kind;
+        new-kind = may .new-kind;
+        accepted = may .accepted;
+      }
 
-  abbrev left : Position
-  left = transferOld ps r from series
-
-  abbrev reached : Position
-  reached = transferNew ps r to series
-
-  found : FoundRecord id suffix r
-  found = found-record rs (s .pre .0 .0) id suffix r (s .pre .1 .0 .found)
-
-  -- ---- the records
-
-  suffixes : (pos 0 ≤ℤ next) × ((next +ℤ pos 1) ≤ℤ greatestOfSuffixes)
-  suffixes = transfer-next rs ps id suffix from to series (s .pre .0 .0) (s .pre .0 .1) (s .pre .0 .2) r (s .pre .1 .0 .found)
-
-  next-fits : SFits w64 (next +ℤ pos 1)
-  next-fits = omega (zarith, +-lin next (pos 1), suffixes)
-
-  adjusts : AdjustReady rs id suffix (s .args .named) (transferInverse r next) (transferArrived r next to) (r .quantity ∷ [])
-  unfolding inverseRecord adjustableRecord
-  adjusts = record {
-    sound = s .pre .0 .0;
-    known = s .pre .1 .0;
-    is-adjustable = transfer-status rs ps id suffix from to series (s .pre .0 .0) (s .pre .0 .1) (s .pre .0 .2) r (s .pre .1 .0 .found);
-    inverse-key = λ i. keyOf (found .id-is i) (sym (s .pre .1 .0 .next-is) i);
-    first-key = λ i. keyOf (found .id-is i) (sym (s .pre .1 .0 .next-is) i +ℤ pos 1);
-    room = transfer-ready rs ps id suffix from to series (s .pre .0 .0) (s .pre .0 .1) (s .pre .0 .2) r (s .pre .1 .0 .found) .records-room;
-    last-suffix = subst (λ (z : ℤ). (z +ℤ pos 1) ≤ℤ greatestOfSuffixes) (sym (s .pre .1 .0 .next-is)) (suffixes .1);
-  }
-
-  -- ---- the positions
-
-  old-ready : soundPosition (s .args .old .position) ≡ true
-  old-ready = ap soundPosition (s .pre .1 .1 .read-is) ∙ position-read-sound ps (s .pre .0 .1) from series
-
-  new-ready : soundPosition (s .args .new .position) ≡ true
-  new-ready = ap soundPosition (s .pre .1 .2 .read-is) ∙ position-read-sound ps (s .pre .0 .1) to series
-
-  old-puts : PutReady ps left
-  old-puts = transfer-put-old rs ps id suffix from to series (s .pre .0 .0) (s .pre .0 .1) (s .pre .0 .2) r (s .pre .1 .0 .found)
-
-  old-found : s .args .old .found ≡ foundIn positionsLayout (positionKey left) ps
-  unfolding moved
-  old-found = s .pre .1 .1 .found-is ∙ ap (λ (k : Key). foundIn positionsLayout k ps) (sym (read-key from series (rowsOf positionsLayout ps)))
-
-  -- Once the old account's row is written.
-  module _ (ps₁ : List ℤ) (put : ps₁ ≡ putOne positionsLayout positionKey ps left) where
-    new-puts : soundPositions ps₁ ≡ true → PutReady ps₁ reached
-    new-puts = transfer-put-new rs ps id suffix from to series (s .pre .0 .0) (s .pre .0 .1) (s .pre .0 .2) r (s .pre .1 .0 .found) ps₁ put
-
-    new-found : s .args .new .found ≡ foundIn positionsLayout (positionKey reached) ps₁
-    unfolding moved
-    new-found =
-        let there = transfer-old-there rs ps id suffix from to series (s .pre .0 .0) (s .pre .0 .1) (s .pre .0 .2) r (s .pre .1 .0 .found) in
-        s .pre .1 .2 .found-is
-        ∙ sym (found-kept positionsLayout positions-lawful positionKey positions-first soundPosition ps (positions-known ps (s .pre .0 .1)) left (there .0) (there .1) ps₁ put (keyOf to series))
-        ∙ ap (λ (k : Key). foundIn positionsLayout k ps₁) (sym (read-key to series (rowsOf positionsLayout ps)))
-
--- ---- what the calls give
-
-module _ (c : tie.After-inverse-row) where
-  abbrev start : tie.Start
-  start = c .before .before .before
-
-  next-is : toZ w64 (ofZ w64 (start .args .named .next)) ≡ next start
-  next-is = read-back (start .args .named .next) (c .before .struct-told .given .1 .1 .0 .1) ∙ start .pre .1 .0 .next-is
-
-  inverse-is : c .inverse-row .result ≡ transferInverse (r start) (next start)
-  inverse-is = rw next-is at (c .inverse-row .ensures)
-
-module _ (c : tie.After-arrived-row) where
-  abbrev start2 : tie.Start
-  start2 = start (c .before)
-
-  last-is : toZ w64 (ofZ w64 (toZ w64 (ofZ w64 (start2 .args .named .next)) +ℤ pos 1)) ≡ (next start2 +ℤ pos 1)
-  last-is = ap (λ (z : ℤ). toZ w64 (ofZ w64 (z +ℤ pos 1))) (next-is (c .before)) ∙ toZ-ofZ (next-fits start2)
-
-  arrived-is : c .arrived-row .result ≡ transferArrived (r start2) (next start2) (to start2)
-  arrived-is = simp (last-is, toZ-ofZ (start2 .fits .to)) at (c .arrived-row .ensures)
-
--- The one quantity of the rows that come out of the record.
-quantity-is : (c : tie.After-struct-told2) → toZ w64 (ofZ w64 (r (start2 (c .before)) .quantity)) ≡ r (start2 (c .before)) .quantity
-quantity-is c = read-back (r (start2 (c .before)) .quantity) (c .struct-told2 .given .1 .1 .1 .1 .1 .1 .1 .1 .0 .1)
-
-module _ (c : tie.After-adjust-named) where
-  abbrev at-quantity : tie.After-struct-told2
-  at-quantity = c .before .before .before
-
-  abbrev start3 : tie.Start
-  start3 = start2 (at-quantity .before)
-
-  records-put : c .adjust-named .last .0 ≡ putAll recordsLayout recordKey (rs start3) (transferRows (r start3) (next start3) (to start3))
-  unfolding rowsLike adjustableRecord
-  records-put = simp (inverse-is (at-quantity .before .before), arrived-is (at-quantity .before), quantity-is at-quantity) at (c .adjust-named .ensures)
-
-module _ (c : tie.After-taken-from) where
-  abbrev start4 : tie.Start
-  start4 = start3 (c .before .before .before)
-
-  taken-is : c .taken-from .result ≡ left start4
-  taken-is = c .taken-from .ensures ∙ ap (λ (p : Position). moved p (inSide (r start4 .side) (negℤ (r start4 .quantity)))) (start4 .pre .1 .1 .read-is)
-
-module _ (c : tie.After-write-position) where
-  abbrev start5 : tie.Start
-  start5 = start4 (c .before)
-
-  old-put : c .write-position .last .0 ≡ putOne positionsLayout positionKey (ps start5) (left start5)
-  old-put = rw (taken-is (c .before)) at (c .write-position .ensures .0)
-
-module _ (c : tie.After-given-to) where
-  abbrev put : tie.After-write-position
-  put = c .before .before .before
-
-  abbrev start6 : tie.Start
-  start6 = start5 put
-
-  given-is : c .given-to .result ≡ reached start6
-  given-is = c .given-to .ensures ∙ ap (λ (p : Position). moved p (inSide (r start6 .side) (r start6 .quantity))) (start6 .pre .1 .2 .read-is)
-
--- ---- what the calls require
-
-inverse-row-requires : tie.Need-inverse-row-requires
-inverse-row-requires c κs = found (c .before .before) .quantity-small
-
-add-arrived-row : tie.Need-add-arrived-row
-add-arrived-row c = rw (next-is c) (next-fits (start c))
-
-adjust-named-requires : tie.Need-adjust-named-requires
-adjust-named-requires c κs =
-    let q : tie.After-struct-told2 = c .before .before in
-    let s : tie.Start = start2 (q .before) in
-    simp (toZ-ofZ (s .fits .id), toZ-ofZ (s .fits .suffix), inverse-is (q .before .before), arrived-is (q .before), quantity-is q) (adjusts s)
-
-taken-from-requires : tie.Need-taken-from-requires
-taken-from-requires c κs =
-    let s : tie.Start = start3 (c .before .before) in
-    (old-ready s, found s .quantity-small)
-
-write-position-requires : tie.Need-write-position-requires
-write-position-requires c κs =
-    let p : PutReady (ps (start4 c)) (left (start4 c)) = old-puts (start4 c) in
-    rw (taken-is c) (p .0, p .1, p .2, old-found (start4 c))
-
-given-to-requires : tie.Need-given-to-requires
-given-to-requires c κs =
-    let s : tie.Start = start5 (c .before .before) in
-    (new-ready s, found s .quantity-small)
-
-write-position-requires-2 : tie.Need-write-position-requires-2
-write-position-requires-2 c κs =
-    let w : tie.After-write-position = put c in
-    let s : tie.Start = start6 c in
-    let p : PutReady (w .write-position .last .0) (reached s) = new-puts s (w .write-position .last .0) (old-put w) (w .write-position .ensures .1) in
-    rw (given-is c) (p .0, p .1, p .2, new-found s (w .write-position .last .0) (old-put w))
+book-moved-requires : tie.Need-book-moved-requires
+book-moved-requires c κs =
+    let s : tie.Start = c .before .before in
+    simp (toZ-ofZ (s .fits .id), toZ-ofZ (s .fits .suffix), toZ-ofZ (s .fits .from), toZ-ofZ (s .fits .to), toZ-ofZ (s .fits .series)) (ready s)
 
 returns : tie.Need-returns
 returns c =
-    let g : tie.After-given-to = c .before .before in
-    let s : tie.Start = start6 g in
-    let a : tie.After-adjust-named = put g .before .before .before .before in
-    transfer-returns (rs s) (ps s) (id s) (suffix s) (from s) (to s) (series s) (r s) (s .pre .1 .0 .found) (s .pre .0 .1)
-    (a .adjust-named .last .0) (put g .write-position .last .0) (c .before .write-position2 .last .0)
-    (records-put a) (old-put (put g)) (rw (given-is g) at (c .before .write-position2 .ensures .0))
+    let m : tie.After-book-moved = c .before .before in
+    let s : tie.Start = m .before .before .before in
+    let after = simp (toZ-ofZ (s .fits .id), toZ-ofZ (s .fits .from), toZ-ofZ (s .fits .to), toZ-ofZ (s .fits .series)) at (m .book-moved .ensures) in
+    transfer-returns (rs s) (ps s) (s .args .id) (s .args .suffix) (s .args .from) (s .args .to) (s .args .series) (r s) (s .pre .1 .0 .found)
+    (m .book-moved .last .0) (m .book-moved .last .1 .0) (after .0) (after .1)
 
 pub book-spec : {M : Type 1} → statement M
-book-spec =
-    tie.close
-    (tie.spec
-    inverse-row-requires
-    add-arrived-row
-    (λ c κs. search needs)
-    (λ c. search needs)
-    adjust-named-requires
-    taken-from-requires
-    write-position-requires
-    given-to-requires
-    write-position-requires-2
-    (λ c. search needs)
-    (λ c. search needs)
-    returns)
+book-spec = tie.close (tie.spec book-moved-requires (λ c. search needs) (λ c. search needs) returns)

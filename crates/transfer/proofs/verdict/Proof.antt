@@ -2,7 +2,7 @@
 use Prim.Native.Nat.{ℕ}
 use mathlib.Core.Path.{_≡_, sym, _∙_, ap}
 use mathlib.Core.Bool.{false, not}
-use lib.IntN.{ℤ}
+use lib.IntN.{ℤ, pos}
 use mir.Facts.{toZ-ofZ}
 use mir.Syntax.{w64}
 use mir.Val.{SFits}
@@ -12,8 +12,11 @@ use Rattle.rules.specs.NamedRecord.{isElsewhere, isNotAdjustable}
 use Rattle.rules.specs.declared.Record.{Record}
 use Rattle.figures.proofs.Tests.{is-literal, not-literal}
 use Rattle.scan.proofs.ReadBack.{read-back}
+use Rattle.requests.proofs.StatusRefusal.{status-number}
+use Rattle.verdict.specs.Moving.{movingVerdict}
+use Rattle.verdict.specs.declared.Verdict.the-variants.{Refused}
 use Rattle.verdict.proofs.Remaining.{_past_, stops}
-use Rattle.verdict.proofs.Transfer.{TransferFrom, transfer-named}
+use Rattle.verdict.proofs.Transfer.{TransferFrom, transfer-named, transfer-moving}
 use Rattle.transfer.proofs.verdict.Statement.{statement}
 use Rattle.transfer.proofs.verdict.Tie as tie
 
@@ -67,7 +70,10 @@ module _ (c : tie.After-struct-told) where
 
 returns-2 : tie.Need-returns-2
 unfolding isNotAdjustable
-returns-2 c = stops (at-7 (c .before)) (ap not (not-literal 0 (status-fits (c .before)) (c .if2 .taken)))
+returns-2 c =
+    let t : tie.After-struct-told = c .before .before .before in
+    ap (λ (n : ℤ). Refused n (pos 0)) (status-number (sfits-of (c .status-refusal .ok)) (status-fits t) (c .status-refusal .ensures))
+    ∙ stops (at-7 t) (ap not (not-literal 0 (status-fits t) (c .before .before .if2 .taken)))
 
 -- ---- test 8
 
@@ -86,7 +92,7 @@ module _ (c : tie.After-is-to-close) where
   at-8 = at-7 (else2 .before) past adjustable
 
   answer-8 : c .is-to-close .result ≡ isToClose (r start2 .side)
-  answer-8 = simp (read-back (r start2 .side) (c .before .struct-told2 .given .1 .1 .1 .1 .1 .1 .1 .0 .1)) at (c .is-to-close .ensures)
+  answer-8 = simp (read-back (r start2 .side) (c .before .struct-told3 .given .1 .1 .1 .1 .1 .1 .1 .0 .1)) at (c .is-to-close .ensures)
 
 returns-3 : tie.Need-returns-3
 returns-3 c = stops (at-8 (c .before)) (sym (answer-8 (c .before)) ∙ c .if3 .taken)
@@ -98,13 +104,18 @@ verdict-on-positions-requires c κs =
     let e : tie.Else2 = else2 (c .before) in
     let s : tie.Start = start (e .before) in
     simp (toZ-ofZ (s .fits .id), toZ-ofZ (s .fits .suffix), toZ-ofZ (s .fits .from), toZ-ofZ (s .fits .to), toZ-ofZ (s .fits .series))
-    (s .pre .0, (s .pre .1, (here (e .before), adjustable (c .before), sym (answer-8 (c .before)) ∙ c .if3 .left)))
+    (s .pre .0, (s .pre .1 .1, s .pre .1 .2, s .pre .1 .3))
 
 returns-4 : tie.Need-returns-4
 returns-4 c =
-    let s : tie.Start = start2 (c .before .before) in
-    simp (toZ-ofZ (s .fits .id), toZ-ofZ (s .fits .suffix), toZ-ofZ (s .fits .from), toZ-ofZ (s .fits .to), toZ-ofZ (s .fits .series)) at (c .verdict-on-positions .ensures)
+    let e : tie.Else3 = c .before in
+    let s : tie.Start = start2 (e .before) in
+    let moving : c .verdict-on-positions .result ≡ movingVerdict (s .args .records .now) (s .args .positions .now) (r s) (s .args .id) (from s) (s .args .to) (series s) =
+    simp (toZ-ofZ (s .fits .id), toZ-ofZ (s .fits .from), toZ-ofZ (s .fits .to), toZ-ofZ (s .fits .series)) at (c .verdict-on-positions .ensures) in
+    moving
+    ∙ transfer-moving (s .args .records .now) (s .args .positions .now) (s .args .id) (s .args .suffix) (from s) (s .args .to) (series s) (r s)
+    (at-8 (e .before) past sym (answer-8 (e .before)) ∙ e .if3 .left)
 
 pub verdict-spec : {M : Type 1} → statement M
 verdict-spec =
-    tie.close (tie.spec (λ c κs. search needs) returns returns-2 (λ c κs. search needs) returns-3 verdict-on-positions-requires returns-4)
+    tie.close (tie.spec (λ c κs. search needs) returns (λ c κs. search needs) returns-2 (λ c κs. search needs) returns-3 verdict-on-positions-requires returns-4)

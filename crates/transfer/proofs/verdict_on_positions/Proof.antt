@@ -1,5 +1,5 @@
--- `transfer::verdict_on_positions` meets its contract: what it requires passes tests 3 to 8, past each of the tests 12 to 16 the verdict is that of the tests which
--- remain, and each return is the one that applies. Assumes nothing.
+-- `transfer::verdict_on_positions` meets its contract: past each of the tests 12 to 16 the verdict is that of the tests which remain, and each return is the one that
+-- applies. Assumes nothing.
 use Prim.Native.Nat.{ℕ, _+_, _≤_}
 use native.Mathlib.Omega.{arith}
 use mathlib.Core.Path.{_≡_, sym, _∙_, ap, ap₂}
@@ -29,7 +29,7 @@ use Rattle.verdict.specs.Verdict.{absentPosition}
 use Rattle.verdict.proofs.Room.{positionRead, absent-at-most-one}
 use Rattle.verdict.proofs.SoundReads.{found-record, next-range, position-read-sound}
 use Rattle.verdict.proofs.Remaining.{_past_, stops, ends}
-use Rattle.verdict.proofs.Transfer.{transferOld, transferNew, TransferFrom, transfer-named}
+use Rattle.verdict.proofs.Moving.{movingOld, movingNew, MovingFrom, moving-tests}
 use Rattle.transfer.proofs.verdict_on_positions.Statement.{statement}
 use Rattle.transfer.proofs.verdict_on_positions.Tie as tie
 
@@ -64,36 +64,32 @@ module _ (s : tie.Start) where
       omega (zarith, +-lin next (pos 1))
 
   quantity-small : magnitudeAtMost 1000000 (r .quantity) ≡ true
-  quantity-small = found-record rs (s .pre .0 .0) id (s .args .suffix) r (s .pre .1 .0 .1 .found) .quantity-small
+  quantity-small = found-record rs (s .pre .0 .0) id (s .args .suffix) r (s .pre .1 .0 .found) .quantity-small
 
   -- Both positions, as they were read.
   old-is : s .args .old .position ≡ positionRead ps from series
-  old-is = s .pre .1 .0 .2 .read-is
+  old-is = s .pre .1 .1 .read-is
 
   new-is : s .args .new .position ≡ positionRead ps to series
-  new-is = s .pre .1 .0 .3 .read-is
+  new-is = s .pre .1 .2 .read-is
 
   abbrev left : Position
-  left = transferOld ps r from series
+  left = movingOld ps r from series
 
   abbrev reached : Position
-  reached = transferNew ps r to series
+  reached = movingNew ps r to series
 
   abbrev lacking : ℕ
   lacking = absentPosition ps from series + absentPosition ps to series
 
   -- The verdict is that of the tests from number n on.
   abbrev From : ℕ → Type 0
-  From n = TransferFrom rs ps id (s .args .suffix) from to series n r
+  From n = MovingFrom rs ps id from to series r n
 
 -- ---- test 12
 
 at-12 : (s : tie.Start) → From s 12
-at-12 s =
-    transfer-named (rs s) (ps s) (id s) (s .args .suffix) (from s) (to s) (series s) (r s) (s .pre .1 .0 .0) (s .pre .1 .0 .1 .found)
-    past s .pre .1 .1 .0
-    past s .pre .1 .1 .1
-    past s .pre .1 .1 .2
+at-12 s = moving-tests (rs s) (ps s) (id s) (from s) (to s) (series s) (r s)
 
 answer-12 : (c : tie.After-holds-too-little) →
     c .holds-too-little .result ≡ holdsTooLittle (r (c .before .before)) (positionRead (ps (c .before .before)) (from (c .before .before)) (series (c .before .before)))
@@ -112,7 +108,7 @@ module _ (c : tie.After-struct-told) where
   at-13 = at-12 start past sym (answer-12 (c .before .before .before)) ∙ c .before .before .if1 .left
 
   next-is : toZ w64 (ofZ w64 (start .args .named .next)) ≡ next start
-  next-is = read-back (start .args .named .next) (c .struct-told .given .1 .1 .0 .1) ∙ start .pre .1 .0 .1 .next-is
+  next-is = read-back (start .args .named .next) (c .struct-told .given .1 .1 .0 .1) ∙ start .pre .1 .0 .next-is
 
   last-is : toZ w64 (ofZ w64 (toZ w64 (ofZ w64 (start .args .named .next)) +ℤ pos 1)) ≡ (next start +ℤ pos 1)
   last-is = ap (λ (z : ℤ). toZ w64 (ofZ w64 (z +ℤ pos 1))) next-is ∙ toZ-ofZ (next-fits start)
@@ -150,8 +146,8 @@ module _ (c : tie.After-absent-row2) where
   absent : c .before .absent-row .result + c .absent-row2 .result ≡ lacking start3
   absent =
       ap₂ _+_
-      (c .before .absent-row .ensures ∙ absent-is (ps start3) (from start3) (series start3) (start3 .args .old .found) (start3 .pre .1 .0 .2 .found-is))
-      (c .absent-row2 .ensures ∙ absent-is (ps start3) (to start3) (series start3) (start3 .args .new .found) (start3 .pre .1 .0 .3 .found-is))
+      (c .before .absent-row .ensures ∙ absent-is (ps start3) (from start3) (series start3) (start3 .args .old .found) (start3 .pre .1 .1 .found-is))
+      (c .absent-row2 .ensures ∙ absent-is (ps start3) (to start3) (series start3) (start3 .args .new .found) (start3 .pre .1 .2 .found-is))
 
   absent-few : c .before .absent-row .result + c .absent-row2 .result ≤ 2
   absent-few = omega (arith, absent, absent-at-most-one (ps start3) (from start3) (series start3), absent-at-most-one (ps start3) (to start3) (series start3))
