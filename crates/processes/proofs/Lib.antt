@@ -1,2 +1,0 @@
-pub mod NumberedRows
-pub mod ProcessTable
