@@ -1,17 +1,26 @@
-// The ranges of document 01, "Figures and their ranges", and of the rows' cells.
+// The ranges of document 01, "Figures and their ranges", and of the rows' cells, those of a process among them.
 use rules::codes::ADJUSTABLE;
+use rules::codes::CANCELLED;
+use rules::codes::CLAIMED;
 use rules::codes::CLOSING_ERROR;
+use rules::codes::DONE;
+use rules::codes::GIVE_UP;
 use rules::codes::GREATEST_SUFFIX;
 use rules::codes::INVERSE;
 use rules::codes::MERGE;
 use rules::codes::MOST_QUANTITY;
 use rules::codes::ORIGINAL;
+use rules::codes::PENDING;
+use rules::codes::REFUSED;
 use rules::codes::SEPARATION;
+use rules::codes::TAKE_UP;
 use rules::codes::TRANSFER;
+use rules::codes::UNDER_GIVE_UP;
 ghost use mathlib.Core.Path.{_≡_};
 ghost use Rattle.integers.specs.Order.{inRange};
 ghost use Rattle.rules.specs.Figures.{validId, validSuffix, validAccount, validSeries, validQuantity, validPrice, validSide, isBuy, isToClose};
 ghost use Rattle.rules.specs.Rows.{validKind, validStatus, validSignedQuantity, validBooked, validInto, validParent};
+ghost use Rattle.rules.specs.ProcessRows.{validApproval, validStage};
 
 pub fn in_range(low: i64, high: i64, z: i64) -> bool
     ensures { λ r. ⌜ r ≡ inRange low high z ⌝ }
@@ -97,13 +106,19 @@ pub fn valid_kind(z: i64) -> bool
     if z == CLOSING_ERROR {
         return true;
     }
+    if z == GIVE_UP {
+        return true;
+    }
+    if z == TAKE_UP {
+        return true;
+    }
     z == MERGE
 }
 
 pub fn valid_status(z: i64) -> bool
     ensures { λ r. ⌜ r ≡ validStatus z ⌝ }
 {
-    in_range(ADJUSTABLE, INVERSE, z)
+    in_range(ADJUSTABLE, UNDER_GIVE_UP, z)
 }
 
 // Not zero, at most 1,000,000 in magnitude, and negative exactly in an inverse.
@@ -138,4 +153,28 @@ pub fn valid_parent(parent: i64, suffix: i64) -> bool
         return parent <= 0;
     }
     parent < suffix
+}
+
+pub fn valid_approval(z: i64) -> bool
+    ensures { λ r. ⌜ r ≡ validApproval z ⌝ }
+{
+    in_range(0, 1, z)
+}
+
+pub fn valid_stage(z: i64) -> bool
+    ensures { λ r. ⌜ r ≡ validStage z ⌝ }
+{
+    if z == PENDING {
+        return true;
+    }
+    if z == CLAIMED {
+        return true;
+    }
+    if z == REFUSED {
+        return true;
+    }
+    if z == CANCELLED {
+        return true;
+    }
+    z == DONE
 }

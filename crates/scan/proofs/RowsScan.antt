@@ -97,6 +97,14 @@ neighbours cells at width f g f2 g2 e =
       read-back (getD cells (at + (width + 1)) (pos 0)) g2,
     ) at e)
 
+-- the same of keys with one figure, handed the first cells of the two rows
+pub first-neighbours : (cells : List ℤ) (at width : ℕ) {r : Bool}
+    → mag (getD cells at (pos 0)) < 2 ^ 63
+    → mag (getD cells (at + width) (pos 0)) < 2 ^ 63
+    → r ≡ below (keyOf (read cells at) (pos 0)) (keyOf (read cells (at + width)) (pos 0))
+    → r ≡ below (keyOf (getD cells at (pos 0)) (pos 0)) (keyOf (getD cells (at + width) (pos 0)) (pos 0))
+first-neighbours cells at width f g e = rw (read-back (getD cells at (pos 0)) f, read-back (getD cells (at + width) (pos 0)) g) at e
+
 -- The answer on the rows that are left is the answer on all of them, and they lie within the cells.
 pub record RowsLeft {Row : Type 0} (l : Layout Row) (key : Row → Key) (soundRow : Row → Bool) (cells : List ℤ) (count left at : ℕ) : Type 0 where
   pub answer : rowsSound key soundRow (l .get) (l .width) left at cells ≡ rowsRiseSound l key soundRow count cells

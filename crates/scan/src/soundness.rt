@@ -1,19 +1,24 @@
-// Tests 1 and 2: any slice, of any length and content. One pass over the rows that the count names, and no read past them.
+// Tests 1, 2 and 19: any slice, of any length and content. One pass over the rows that the count names, and no read past them.
 use super::rows;
 use rules::Position;
+use rules::ProcessRow;
 use rules::Record;
 use rules::layout::MOST_POSITIONS;
+use rules::layout::MOST_PROCESSES;
 use rules::layout::MOST_RECORDS;
 use rules::layout::POSITION_WIDTH;
 use rules::layout::POSITIONS_HEADER;
+use rules::layout::PROCESS_WIDTH;
+use rules::layout::PROCESSES_HEADER;
 use rules::layout::RECORD_WIDTH;
 use rules::layout::RECORDS_HEADER;
 ghost use mathlib.Core.Path.{_≡_};
 ghost use Prim.Native.Nat.{_≤_, _<_};
 ghost use lib.ListN.{length};
 ghost use Rattle.rules.specs.Rows.{recordKey, positionKey, soundRecord, soundPosition};
+ghost use Rattle.rules.specs.ProcessRows.{processNumber, soundProcess};
 ghost use Rattle.rules.specs.Layout.{roomFor, startOf};
-ghost use Rattle.rules.specs.Tables.{recordsLayout, positionsLayout, soundRecords, soundPositions};
+ghost use Rattle.rules.specs.Tables.{recordsLayout, positionsLayout, processesLayout, soundRecords, soundPositions, soundProcesses};
 ghost use Rattle.scan.specs.Scan.{countSound, rowsRiseSound};
 
 // How many whole rows fit into so many cells, at most `most`.
@@ -98,7 +103,37 @@ pub fn sound_position(p: Position) -> bool
     figures::in_range(-1_000_000_000_000_000, 1_000_000_000_000_000, p.cash)
 }
 
-// The key of the row after the one at a cell.
+pub fn sound_process(r: ProcessRow) -> bool
+    ensures { λ s. ⌜ s ≡ soundProcess r ⌝ }
+{
+    if !figures::valid_id(r.process) {
+        return false;
+    }
+    if !figures::valid_id(r.id) {
+        return false;
+    }
+    if !figures::valid_suffix(r.suffix) {
+        return false;
+    }
+    if !figures::valid_account(r.giving) {
+        return false;
+    }
+    if !figures::valid_account(r.taking) {
+        return false;
+    }
+    if !figures::valid_series(r.series) {
+        return false;
+    }
+    if !figures::valid_approval(r.giver) {
+        return false;
+    }
+    if !figures::valid_approval(r.taker) {
+        return false;
+    }
+    figures::valid_stage(r.stage)
+}
+
+// The key of the row after the one at a cell; of a process the process id alone.
 const NEXT_ID: usize = RECORD_WIDTH;
 
 const NEXT_SUFFIX: usize = RECORD_WIDTH + 1;
@@ -106,6 +141,8 @@ const NEXT_SUFFIX: usize = RECORD_WIDTH + 1;
 const NEXT_ACCOUNT: usize = POSITION_WIDTH;
 
 const NEXT_SERIES: usize = POSITION_WIDTH + 1;
+
+const NEXT_PROCESS: usize = PROCESS_WIDTH;
 
 fn record_rows_sound(cells: &[i64], count: usize) -> bool
     requires { ⌜ startOf recordsLayout count ≤ length (now cells) ⌝ }
@@ -159,6 +196,27 @@ fn position_rows_sound(cells: &[i64], count: usize) -> bool
     true
 }
 
+fn process_rows_sound(cells: &[i64], count: usize) -> bool
+    requires { ⌜ startOf processesLayout count ≤ length (now cells) ⌝ }
+    ensures { λ r. ⌜ r ≡ rowsRiseSound processesLayout processNumber soundProcess count (now (cells .entry)) ⌝ }
+{
+    let mut left = count;
+    let mut at = PROCESSES_HEADER;
+    while 0 < left {
+        if !sound_process(rows::process_at(cells, at)) {
+            return false;
+        }
+        if 1 < left {
+            if !lookup::key_below(cells[at], 0, cells[at + NEXT_PROCESS], 0) {
+                return false;
+            }
+        }
+        left -= 1;
+        at += PROCESS_WIDTH;
+    }
+    true
+}
+
 // Test 1.
 pub fn records_sound(cells: &[i64]) -> bool
     ensures { λ r. ⌜ r ≡ soundRecords (now (cells .entry)) ⌝ }
@@ -179,4 +237,15 @@ pub fn positions_sound(cells: &[i64]) -> bool
     }
     let count = cells[0] as usize;
     position_rows_sound(cells, count)
+}
+
+// Test 19.
+pub fn processes_sound(cells: &[i64]) -> bool
+    ensures { λ r. ⌜ r ≡ soundProcesses (now (cells .entry)) ⌝ }
+{
+    if !count_sound(cells, PROCESSES_HEADER, PROCESS_WIDTH, MOST_PROCESSES) {
+        return false;
+    }
+    let count = cells[0] as usize;
+    process_rows_sound(cells, count)
 }

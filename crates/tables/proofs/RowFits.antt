@@ -1,4 +1,4 @@
--- What the shifter asks before a row is put into a sound table: the place is one of the table's, and the cells are there. Over any lawful layout. Assumes nothing.
+-- The cells of a row of a sound table are there; and what the shifter asks before a row is put into it: the place is one of the table's, and the cells are there. Over any lawful layout. Assumes nothing.
 use Prim.Native.Nat.{ℕ, suc, _+_, _*_, _≤_, _<_}
 use native.Mathlib.Nat.{mul-le-mul-right}
 use native.Mathlib.Omega.{arith}
@@ -9,7 +9,7 @@ use mathlib.Core.Option.{none}
 use lib.IntN.{ℤ}
 use lib.ListN.{length}
 use Rattle.rules.specs.Keyed.{Key, find, absentFrom}
-use Rattle.rules.specs.Layout.{Layout, roomOf, rowsOf}
+use Rattle.rules.specs.Layout.{Layout, startOf, roomOf, rowsOf}
 use Rattle.cells.specs.Lawful.{Lawful}
 use Rattle.cells.specs.SoundTable.{SoundTable}
 use Rattle.cells.proofs.Count.{room-most, fits-cells}
@@ -22,6 +22,10 @@ use Rattle.lookup.proofs.TableLookup.{KeyFirst, table-found, table-place}
 pub room-for-one : {A : Type 0} (key : A → Key) (new : A) (rows : List A) {room : ℕ} → find key (key new) rows ≡ none
     → length rows + absentFrom key rows (new ∷ []) ≤ room → length rows < room
 room-for-one key new rows absent fits = omega (arith, absentFrom-new key rows new [] absent, absentFrom-nil key rows)
+
+pub row-cells-within : {A : Type 0} (l : Layout A) (key : A → Key) (soundRow : A → Bool) (cells : List ℤ) → SoundTable l key soundRow cells
+    → (row : ℕ) → row < length (rowsOf l cells) → startOf l (suc row) ≤ length cells
+row-cells-within l key soundRow cells table row within = omega (arith, table .rows-within, mul-le-mul-right (l .width) within)
 
 module _ {A : Type 0} (l : Layout A) (lawful : Lawful l) (key : A → Key) (first : KeyFirst l key) (soundRow : A → Bool)
     (cells : List ℤ) (table : SoundTable l key soundRow cells) (n : ℕ) (count : n ≡ length (rowsOf l cells)) (k : Key)

@@ -1,17 +1,19 @@
--- In a rising table a row is found by its key: the lookup of the key of row i answers row i. By the law of keys that rise. Assumes nothing.
+-- In a rising table a row is found by its key: the lookup of the key of row i answers row i. So a row of a sound table is sound. By the law of keys that rise. Assumes nothing.
 use Prim.Native.Nat.{ℕ, zero, suc, _<_}
 use mathlib.Core.Path.{_≡_, refl, sym, ap, _∙_}
-use mathlib.Core.Bool.{true}
+use mathlib.Core.Bool.{Bool, true}
 use mathlib.Core.List.{List, [], _∷_, map}
 use mathlib.Core.Option.{Option, some}
 use lib.IntN.{ℤ, natAbs}
 use lib.ListN.{length, getD, length-map}
 use Rattle.rules.specs.Keyed.{Key, rising}
 use Rattle.rules.specs.Layout.{Layout, countOf, decode, rowAt, rowsOf}
+use Rattle.cells.specs.SoundTable.{SoundTable}
+use Rattle.keys.proofs.Lookup.{find-all}
 use Rattle.lookup.specs.Lookup.{keyAt, rowFrom, foundOr, foundIn, placeIn}
 use Rattle.lookup.specs.declared.Found.the-variants.{Row}
 use Rattle.lookup.proofs.RisingKeys.{rising-map, found-there}
-use Rattle.lookup.proofs.TableLookup.{KeyFirst, table-keys, table-row}
+use Rattle.lookup.proofs.TableLookup.{KeyFirst, table-keys, table-row, table-found}
 
 key-of-row : {A : Type 0} (key : A → Key) (rows : List A) (i : ℕ) (other : A) → getD (map key rows) i (key other) ≡ key (getD rows i other)
 key-of-row key [] i other = refl
@@ -35,3 +37,8 @@ module _ {A : Type 0} (l : Layout A) (key : A → Key) (first : KeyFirst l key) 
       ∙ ap (λ (r : A). rowFrom 0 (key r) (map key (rowsOf l cells))) (sym (table-row l key first cells i here h))
       ∙ rising-found key (rowsOf l cells) i here rises h in
       ap (λ (o : Option ℕ). foundOr o (placeIn l (key here) cells)) row
+
+  pub row-is-sound : (soundRow : A → Bool) → SoundTable l key soundRow cells → (i : ℕ) → i < length (rowsOf l cells) → soundRow (rowAt l cells i) ≡ true
+  row-is-sound soundRow table i h =
+      find-all key soundRow (key (rowAt l cells i)) (rowsOf l cells) (rowAt l cells i) (table .rows-sound)
+      (table-found l key first cells (key (rowAt l cells i)) i (row-there i (table .rows-rise) h) .1)

@@ -1,7 +1,6 @@
 // The records table, once it passes test 1: its rows, its lookup, and its changes.
 use lookup::Sought;
 use rules::Record;
-use rules::codes::ADJUSTED;
 use rules::layout::MOST_RECORDS;
 use rules::layout::RECORD_WIDTH;
 use rules::layout::RECORDS_HEADER;
@@ -12,9 +11,8 @@ ghost use mathlib.Core.Bool.{true};
 ghost use mathlib.Core.Option.{none};
 ghost use Prim.Native.Nat.{_<_};
 ghost use lib.ListN.{length};
-ghost use Rattle.rules.specs.Figures.{adjustable};
 ghost use Rattle.rules.specs.Keyed.{find, upsert};
-ghost use Rattle.rules.specs.Rows.{recordKey, soundRecord, withStatus, adjustedRecord};
+ghost use Rattle.rules.specs.Rows.{recordKey, soundRecord, withStatus};
 ghost use Rattle.rules.specs.Layout.{rowAt, roomOf, rowsOf, write};
 ghost use Rattle.rules.specs.Tables.{recordsLayout, soundRecords};
 ghost use Rattle.lookup.specs.Lookup.{placeIn, recordSought};
@@ -72,12 +70,4 @@ pub fn set_status(cells: &mut [i64], row: usize, status: i64)
     ensures { λ done. ⌜ (now (cells .exit) ≡ write recordsLayout (now (cells .entry)) (upsert recordKey (withStatus status (rowAt recordsLayout (now (cells .entry)) row)) (rowsOf recordsLayout (now (cells .entry))))) × (soundRecords (now (cells .exit)) ≡ true) ⌝ }
 {
     cells[RECORDS_HEADER + row * RECORD_WIDTH + STATUS_CELL] = status;
-}
-
-// Status 1 in row `row`, which is adjustable.
-pub fn adjust_record(cells: &mut [i64], row: usize)
-    requires { ⌜ (soundRecords (now cells) ≡ true) × (row < length (rowsOf recordsLayout (now cells))) × ((rowAt recordsLayout (now cells) row) .status ≡ adjustable) ⌝ }
-    ensures { λ done. ⌜ (now (cells .exit) ≡ write recordsLayout (now (cells .entry)) (upsert recordKey (adjustedRecord (rowAt recordsLayout (now (cells .entry)) row)) (rowsOf recordsLayout (now (cells .entry))))) × (soundRecords (now (cells .exit)) ≡ true) ⌝ }
-{
-    set_status(cells, row, ADJUSTED);
 }

@@ -3,6 +3,7 @@ use lookup::Found;
 use lookup::Sought;
 use rules::Position;
 use rules::Record;
+use rules::codes::ADJUSTED;
 use scan::soundness as scanned;
 use tables::positions;
 use tables::records;
@@ -87,7 +88,7 @@ pub fn adjust(cells: &mut [i64], id: i64, suffix: i64) -> bool {
     if r.status != 0 {
         return false;
     }
-    records::adjust_record(cells, row);
+    records::set_status(cells, row, ADJUSTED);
     true
 }
 

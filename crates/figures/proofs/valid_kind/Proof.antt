@@ -1,54 +1,43 @@
--- `figures::valid_kind` meets its contract: 0, 4, 6, 10 or 901.
+-- `figures::valid_kind` meets its contract: 0, 4, 6, 10, 20, 30 or 901. At each place past a test the number is one of those that remain.
 -- Assumes nothing.
+use mathlib.Core.Path.{refl}
+use mathlib.Core.List.{[], _∷_}
+use lib.IntN.{ℤ}
 use Rattle.rules.specs.Rows.{validKind}
-use Rattle.figures.proofs.Tests.{is-literal, not-literal, literal-test}
+use Rattle.figures.proofs.OneOf.{OneOf, this, not-this, only-this}
 use Rattle.figures.proofs.valid_kind.Statement.{statement}
 use Rattle.figures.proofs.valid_kind.Tie as tie
 
-returns : tie.Need-returns
+all-remain : (z : ℤ) → OneOf (validKind z) z (0 ∷ 4 ∷ 6 ∷ 10 ∷ 20 ∷ 30 ∷ 901 ∷ [])
 unfolding validKind
-returns c =
-    let s : tie.Start = c .before in
-    simp (is-literal 0 tt (s .fits .z) (c .if1 .taken))
+all-remain z = record { is = refl }
 
-returns-2 : tie.Need-returns-2
-unfolding validKind
-returns-2 c =
-    let s : tie.Start = c .before .before in
-    simp (not-literal 0 (s .fits .z) (c .before .if1 .left), is-literal 4 tt (s .fits .z) (c .if2 .taken))
+past1 : (c : tie.Else1) → OneOf (validKind (c .before .args .z)) (c .before .args .z) (4 ∷ 6 ∷ 10 ∷ 20 ∷ 30 ∷ 901 ∷ [])
+past1 c = not-this 0 (all-remain _) (c .before .fits .z) (c .if1 .left)
 
-returns-3 : tie.Need-returns-3
-unfolding validKind
-returns-3 c =
-    let s : tie.Start = c .before .before .before in
-    simp (
-      not-literal 0 (s .fits .z) (c .before .before .if1 .left),
-      not-literal 4 (s .fits .z) (c .before .if2 .left),
-      is-literal 6 tt (s .fits .z) (c .if3 .taken),
-    )
+past2 : (c : tie.Else2) → OneOf (validKind (c .before .before .args .z)) (c .before .before .args .z) (6 ∷ 10 ∷ 20 ∷ 30 ∷ 901 ∷ [])
+past2 c = not-this 4 (past1 (c .before)) (c .before .before .fits .z) (c .if2 .left)
 
-returns-4 : tie.Need-returns-4
-unfolding validKind
-returns-4 c =
-    let s : tie.Start = c .before .before .before .before in
-    simp (
-      not-literal 0 (s .fits .z) (c .before .before .before .if1 .left),
-      not-literal 4 (s .fits .z) (c .before .before .if2 .left),
-      not-literal 6 (s .fits .z) (c .before .if3 .left),
-      is-literal 10 tt (s .fits .z) (c .if4 .taken),
-    )
+past3 : (c : tie.Else3) → OneOf (validKind (c .before .before .before .args .z)) (c .before .before .before .args .z) (10 ∷ 20 ∷ 30 ∷ 901 ∷ [])
+past3 c = not-this 6 (past2 (c .before)) (c .before .before .before .fits .z) (c .if3 .left)
 
-returns-5 : tie.Need-returns-5
-unfolding validKind
-returns-5 c =
-    let s : tie.Start = c .before .before .before .before in
-    simp (
-      not-literal 0 (s .fits .z) (c .before .before .before .if1 .left),
-      not-literal 4 (s .fits .z) (c .before .before .if2 .left),
-      not-literal 6 (s .fits .z) (c .before .if3 .left),
-      not-literal 10 (s .fits .z) (c .if4 .left),
-      literal-test 901 tt (s .fits .z),
-    )
+past4 : (c : tie.Else4) → OneOf (validKind (c .before .before .before .before .args .z)) (c .before .before .before .before .args .z) (20 ∷ 30 ∷ 901 ∷ [])
+past4 c = not-this 10 (past3 (c .before)) (c .before .before .before .before .fits .z) (c .if4 .left)
+
+past5 : (c : tie.Else5) → OneOf (validKind (c .before .before .before .before .before .args .z)) (c .before .before .before .before .before .args .z) (30 ∷ 901 ∷ [])
+past5 c = not-this 20 (past4 (c .before)) (c .before .before .before .before .before .fits .z) (c .if5 .left)
+
+past6 : (c : tie.Else6) → OneOf (validKind (c .before .before .before .before .before .before .args .z)) (c .before .before .before .before .before .before .args .z) (901 ∷ [])
+past6 c = not-this 30 (past5 (c .before)) (c .before .before .before .before .before .before .fits .z) (c .if6 .left)
 
 pub valid-kind-spec : {M : Type 1} → statement M
-valid-kind-spec = tie.close (tie.spec returns returns-2 returns-3 returns-4 returns-5)
+valid-kind-spec =
+    tie.close
+    (tie.spec
+    (λ c. this 0 (all-remain _) (c .before .fits .z) tt (c .if1 .taken))
+    (λ c. this 4 (past1 (c .before)) (c .before .before .fits .z) tt (c .if2 .taken))
+    (λ c. this 6 (past2 (c .before)) (c .before .before .before .fits .z) tt (c .if3 .taken))
+    (λ c. this 10 (past3 (c .before)) (c .before .before .before .before .fits .z) tt (c .if4 .taken))
+    (λ c. this 20 (past4 (c .before)) (c .before .before .before .before .before .fits .z) tt (c .if5 .taken))
+    (λ c. this 30 (past5 (c .before)) (c .before .before .before .before .before .before .fits .z) tt (c .if6 .taken))
+    (λ c. only-this 901 (past6 c) (c .before .before .before .before .before .before .fits .z) tt))

@@ -2,19 +2,22 @@
 use Prim.Native.Nat.{_<_}
 use mathlib.Core.Path.{_≡_, sym, ap, _∙_}
 use mathlib.Core.Bool.{true}
-use lib.IntN.{pos}
+use mathlib.Core.List.{List}
+use lib.IntN.{ℤ, pos}
 use lib.ListN.{length}
 use mir.Facts.{toZ-ofZ, sfits-lit}
 use borrow.Author.Needs.{needs, sfits-of}
 use Rattle.integers.proofs.Bits.{ofZ-inj}
-use Rattle.rules.specs.Rows.{keyOf, recordKey}
+use Rattle.rules.specs.Rows.{keyOf, recordKey, adjustedRecord}
 use Rattle.rules.specs.Layout.{rowsOf, rowAt}
 use Rattle.rules.specs.Tables.{recordsLayout, soundRecords}
 use Rattle.rules.specs.declared.Record.{Record}
 use Rattle.figures.proofs.Tests.{passed}
+use Rattle.cells.proofs.SoundCells.{records-known}
 use Rattle.lookup.specs.Lookup.{recordSought}
 use Rattle.lookup.proofs.TableLookup.{records-first}
 use Rattle.lookup.proofs.TableSought.{table-present}
+use Rattle.tables.proofs.RowStatus.{adjusted-row-sound}
 use Rattle.tables_main.proofs.add.adjust.Statement.{statement}
 use Rattle.tables_main.proofs.add.adjust.Tie as tie
 
@@ -54,8 +57,15 @@ look-up-requires c κs = sound (c .before)
 read-record-requires : tie.Need-read-record-requires
 read-record-requires c κs = (sound (tested (c .before .before)), there (c .before .before))
 
-adjust-record-requires : tie.Need-adjust-record-requires
-adjust-record-requires c κs = (sound (tested (found (c .before))), there (found (c .before)), status-zero (c .before))
+set-status-requires : tie.Need-set-status-requires
+unfolding adjustedRecord
+set-status-requires c κs =
+    let f : tie.After-row = found (c .before) in
+    let cells : List ℤ = start (tested f) .args .cells .now in (
+      sound (tested f),
+      there f,
+      adjusted-row-sound cells (records-known cells (sound (tested f))) (f .row .given .0 .0) (there f) (status-zero (c .before)),
+    )
 
 pub adjust-spec : {M : Type 1} → statement M
 adjust-spec =
@@ -72,6 +82,6 @@ adjust-spec =
     read-record-requires
     (λ c. search needs)
     (λ c. search needs)
-    adjust-record-requires
+    set-status-requires
     (λ c. search needs)
     (λ c. search needs))
