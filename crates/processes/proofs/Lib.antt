@@ -1,0 +1,2 @@
+pub mod NumberedRows
+pub mod ProcessTable
