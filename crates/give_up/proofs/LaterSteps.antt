@@ -32,11 +32,11 @@ use Rattle.verdict.specs.declared.Verdict.the-variants.{Accepted, Refused}
 use Rattle.verdict.proofs.Acceptance.{none-accepted}
 use Rattle.verdict.proofs.Handled.{refused-before}
 use Rattle.verdict.proofs.Remaining.{verdictBy}
-use Rattle.give_up.specs.HandledIn.{HandledIn}
-use Rattle.give_up.specs.StepTests.{laterTests}
-use Rattle.give_up.proofs.Answering.{refused-soundly, booked-soundly}
-use Rattle.give_up.proofs.StepVerdict.{request, used, foundProcess, foundRecord, after, tail, past-found, refuses-figures, refuses-turn, refuses-missing, step-tail, present-room, complete-tail}
-use Rattle.give_up.proofs.StepBooked.{processesWith, step-booked, complete-booked}
+use Rattle.give_up_steps.specs.HandledIn.{HandledIn}
+use Rattle.give_up_steps.specs.StepTests.{laterTests}
+use Rattle.give_up_steps.proofs.Answering.{refused-soundly, booked-soundly}
+use Rattle.give_up_steps.proofs.StepVerdict.{request, used, foundProcess, foundRecord, after, tail, past-found, refuses-figures, refuses-turn, refuses-missing, step-tail, present-room, complete-tail}
+use Rattle.give_up_steps.proofs.StepBooked.{processesWith, step-booked, complete-booked}
 
 -- Tests that pass at the front of a list change nothing.
 passing-front : (xs ys : List Test) → firstRefusal xs ≡ none → firstRefusal (xs ++ ys) ≡ firstRefusal ys

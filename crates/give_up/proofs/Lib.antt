@@ -1,6 +1,1 @@
-pub mod Answering
-pub mod OnAllTables
-pub mod StepVerdict
-pub mod StepBooked
-pub mod Opening
-pub mod Later
+pub mod LaterSteps

@@ -1,4 +1,1 @@
-pub mod HandledIn
-pub mod OnAllTables
-pub mod StepTests
-pub mod Named
+pub mod LaterReady

@@ -1,5 +1,5 @@
 // A step on a give-up that is open: claim, cancel, refuse, and the two approvals. The one that completes claim and both approvals books what a transfer books.
-use super::Terms;
+use give_up_steps::Terms;
 use lookup::Sought;
 use requests::Named;
 use rules::Process;
@@ -27,9 +27,10 @@ ghost use Rattle.rules.specs.Tables.{allTables, recordsLayout, soundRecords};
 ghost use Rattle.rules.specs.Handle.{answeredBy};
 ghost use Rattle.soundness.specs.SoundTables.{SoundTables};
 ghost use Rattle.verdict.specs.Verdict.{verdictOf};
-ghost use Rattle.give_up.specs.HandledIn.{HandledIn};
-ghost use Rattle.give_up.specs.StepTests.{laterTests};
-ghost use Rattle.give_up.specs.Named.{stepOf, LaterReady, RecordReady};
+ghost use Rattle.give_up_steps.specs.HandledIn.{HandledIn};
+ghost use Rattle.give_up_steps.specs.StepTests.{laterTests};
+ghost use Rattle.give_up_steps.specs.Terms.{stepOf};
+ghost use Rattle.give_up.specs.LaterReady.{LaterReady, RecordReady};
 
 // 18: the figures are the row's, and it is the step's turn.
 fn may_step(step: Step, p: Process, g: Terms) -> bool
@@ -189,7 +190,7 @@ pub fn on_sound(
     requires { ⌜ SoundTables (allTables (now records) (now positions) (now processes)) × (isOpening step ≡ false) ⌝ }
     ensures { λ r. ⌜ HandledIn (allTables (now (records .entry)) (now (positions .entry)) (now (processes .entry))) (stepOf step g) (answeredBy r (allTables (now (records .exit)) (now (positions .exit)) (now (processes .exit)))) ⌝ }
 {
-    if !super::figures_valid(g) {
+    if !give_up_steps::figures_valid(g) {
         return Reply::Refused(3, 0);
     }
     let Sought::Present(at, id, next) = processes::look_up(processes, g.process, g.id) else {

@@ -1,35 +1,16 @@
 // The steps of a give-up on sound tables (document 02, K3): the tests from 3 on in their order, and the booking. A step finds its process and its record once. The completing step's
 // rows and positions are a transfer's, with types of their own.
-pub mod opening; // the step that opens a give-up
 pub mod later; // the steps on a give-up that is open
+
+use give_up_steps::Terms;
 use rules::Reply;
 use rules::Step;
 ghost use mathlib.Core.Path.{_≡_};
 ghost use Rattle.rules.specs.Tables.{allTables};
 ghost use Rattle.rules.specs.Handle.{answeredBy};
 ghost use Rattle.soundness.specs.SoundTables.{SoundTables};
-ghost use Rattle.give_up.specs.HandledIn.{HandledIn};
-ghost use Rattle.give_up.specs.Named.{stepOf, termsValid};
-
-// What every step names: process, transaction, both accounts and series.
-pub struct Terms {
-    pub process: i64,
-    pub id: i64,
-    pub suffix: i64,
-    pub giving: i64,
-    pub taking: i64,
-    pub series: i64,
-}
-
-// 3: every figure in its range, and two different accounts.
-pub fn figures_valid(g: Terms) -> bool
-    ensures { λ r. ⌜ r ≡ termsValid g ⌝ }
-{
-    if !figures::valid_id(g.process) {
-        return false;
-    }
-    transfer::figures_valid(g.id, g.suffix, g.giving, g.taking, g.series)
-}
+ghost use Rattle.give_up_steps.specs.HandledIn.{HandledIn};
+ghost use Rattle.give_up_steps.specs.Terms.{stepOf};
 
 pub fn on_sound(
     records: &mut [i64],

@@ -242,8 +242,7 @@ returns : tie.Need-returns
 returns c =
     let g : tie.After-given-to = c .before .before in
     let s : tie.Start = start6 g in
-    let a : tie.After-adjust-named = put g .before .before .before .before in
-    (
+    let a : tie.After-adjust-named = put g .before .before .before .before in (
       records-put a,
       moving-returns (rs s) (ps s) (id s) (suffix s) (from s) (to s) (series s) (leaving s) (arriving s) (r s) (may s)
           (put g .write-position .last .0) (c .before .write-position2 .last .0) (old-put (put g)) (rw (given-is g) at (c .before .write-position2 .ensures .0)),

@@ -39,7 +39,7 @@ use Rattle.verdict.specs.declared.Verdict.{Verdict}
 use Rattle.verdict.specs.declared.Verdict.the-variants.{Accepted, Refused}
 use Rattle.verdict.proofs.Remaining.{verdictBy, Remaining, _past_, stops, ends}
 use Rattle.verdict.proofs.Moving.{moving-step}
-use Rattle.give_up.specs.StepTests.{openingTests, laterTests}
+use Rattle.give_up_steps.specs.StepTests.{openingTests, laterTests}
 
 -- Tests that pass at the end of a list change nothing.
 passing-end : (xs ys : List Test) → firstRefusal ys ≡ none → firstRefusal (xs ++ ys) ≡ firstRefusal xs

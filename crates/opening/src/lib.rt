@@ -1,5 +1,5 @@
-// Opening a give-up: the process id must be unused, the record adjustable and to open; then the record has status 3 and the process table one row more, pending.
-use super::Terms;
+// Opening a give-up (document 02, K3), on sound tables: the process id must be unused, the record adjustable and to open; then the record has status 3 and the process table one row more, pending.
+use give_up_steps::Terms;
 use lookup::Greatest;
 use lookup::Sought;
 use rules::Record;
@@ -21,9 +21,10 @@ ghost use Rattle.rules.specs.Handle.{answeredBy};
 ghost use Rattle.rules.specs.declared.Step.the-variants.{Open};
 ghost use Rattle.soundness.specs.SoundTables.{SoundTables};
 ghost use Rattle.verdict.specs.Verdict.{verdictOf};
-ghost use Rattle.give_up.specs.HandledIn.{HandledIn};
-ghost use Rattle.give_up.specs.StepTests.{openingTests};
-ghost use Rattle.give_up.specs.Named.{stepOf, openedRow, OpeningReady};
+ghost use Rattle.give_up_steps.specs.HandledIn.{HandledIn};
+ghost use Rattle.give_up_steps.specs.StepTests.{openingTests};
+ghost use Rattle.give_up_steps.specs.Terms.{stepOf, openedRow};
+ghost use Rattle.opening.specs.OpeningReady.{OpeningReady};
 
 // Tests 6 to 8, of the record that was found, and 23.
 fn verdict(processes: &[i64], r: Record, giving: i64, series: i64) -> Verdict
@@ -55,16 +56,11 @@ fn book(records: &mut [i64], processes: &mut [i64], row: usize, place: usize, g:
 }
 
 // The positions are neither read nor changed.
-pub fn on_sound(
-    records: &mut [i64],
-    positions: &[i64],
-    processes: &mut [i64],
-    g: Terms,
-) -> Reply
+pub fn on_sound(records: &mut [i64], positions: &[i64], processes: &mut [i64], g: Terms) -> Reply
     requires { ⌜ SoundTables (allTables (now records) (now positions) (now processes)) ⌝ }
     ensures { λ r. ⌜ HandledIn (allTables (now (records .entry)) (now (positions .entry)) (now (processes .entry))) (stepOf Open g) (answeredBy r (allTables (now (records .exit)) (now (positions .entry)) (now (processes .exit)))) ⌝ }
 {
-    if !super::figures_valid(g) {
+    if !give_up_steps::figures_valid(g) {
         return Reply::Refused(3, 0);
     }
     let Sought::Absent(place, used) = processes::look_up(processes, g.process, g.id) else {

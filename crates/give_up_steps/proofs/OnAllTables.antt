@@ -17,7 +17,7 @@ use Rattle.verdict.specs.Verdict.{verdictOf}
 use Rattle.verdict.specs.declared.Verdict.{Verdict}
 use Rattle.verdict.specs.declared.Verdict.the-variants as Verdict
 use Rattle.verdict.proofs.Handled.{unsound-in}
-use Rattle.give_up.specs.OnAllTables.{verdictOnAllTables}
+use Rattle.give_up_steps.specs.OnAllTables.{verdictOnAllTables}
 
 -- Three tests that accept all hold.
 all-hold : (a b c : Bool) → verdictOf (firstRefusal (test 1 (not a) ∷ test 2 (not b) ∷ test 19 (not c) ∷ [])) ≡ Verdict.Accepted → (a ≡ true) × (b ≡ true) × (c ≡ true)

@@ -30,11 +30,11 @@ use Rattle.keys.proofs.Greatest.{greatest-none}
 use Rattle.soundness.specs.SoundTables.{SoundTables}
 use Rattle.verdict.specs.Verdict.{verdictOf, verdictIn}
 use Rattle.verdict.specs.declared.Verdict.the-variants.{Accepted, Refused}
-use Rattle.give_up.specs.HandledIn.{HandledIn}
-use Rattle.give_up.specs.StepTests.{openingTests}
-use Rattle.give_up.proofs.Answering.{refused-soundly, booked-soundly}
-use Rattle.give_up.proofs.StepVerdict.{t, request, used, foundProcess, foundRecord, after, fromRecord, past-found, refuses-figures, refuses-turn, refuses-missing, step-tail}
-use Rattle.give_up.proofs.StepBooked.{step-booked}
+use Rattle.give_up_steps.specs.HandledIn.{HandledIn}
+use Rattle.give_up_steps.specs.StepTests.{openingTests}
+use Rattle.give_up_steps.proofs.Answering.{refused-soundly, booked-soundly}
+use Rattle.give_up_steps.proofs.StepVerdict.{t, request, used, foundProcess, foundRecord, after, fromRecord, past-found, refuses-figures, refuses-turn, refuses-missing, step-tail}
+use Rattle.give_up_steps.proofs.StepBooked.{step-booked}
 
 -- One after three others that are alike.
 fourth : (a b c : Test) (xs ys : List Test) → firstRefusal xs ≡ firstRefusal ys → firstRefusal (a ∷ b ∷ c ∷ xs) ≡ firstRefusal (a ∷ b ∷ c ∷ ys)

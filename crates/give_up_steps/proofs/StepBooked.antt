@@ -28,7 +28,7 @@ use Rattle.cells.proofs.SoundCells.{positions-known}
 use Rattle.cells.proofs.Write.{write-own}
 use Rattle.verdict.specs.Verdict.{acceptedIn}
 use Rattle.verdict.specs.Moving.{movingEffects, recordsAfter, positionsAfter}
-use Rattle.give_up.proofs.StepVerdict.{request, foundRecord, after}
+use Rattle.give_up_steps.proofs.StepVerdict.{request, foundRecord, after}
 
 -- No row is added.
 nothing-added : (step : Step) (r : Record) → recordAfter step r ++ [] ≡ recordAfter step r

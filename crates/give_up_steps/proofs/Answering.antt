@@ -10,7 +10,7 @@ use Rattle.history.proofs.OnTables.{stays-sound}
 use Rattle.verdict.specs.Verdict.{verdictIn, acceptedIn}
 use Rattle.verdict.specs.declared.Verdict.the-variants as Verdict
 use Rattle.verdict.proofs.Handled.{refused-in, accepted-in}
-use Rattle.give_up.specs.HandledIn.{HandledIn}
+use Rattle.give_up_steps.specs.HandledIn.{HandledIn}
 
 module _ (t : Tables) (sound : SoundTables t) (r : Request) where
   handled-in : (a : Answer) → a ≡ handle t r → HandledIn t r a
