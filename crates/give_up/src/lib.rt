@@ -1,7 +1,4 @@
-// The steps of a give-up on sound tables (document 02, K3): the tests from 3 on in their order, and the booking. A step finds its process and its record once. The completing step's
-// rows and positions are a transfer's, with types of their own.
-pub mod later; // the steps on a give-up that is open
-
+// A step of a give-up on sound tables (document 02, K3): its opening, or a later one.
 use give_up_steps::Terms;
 use rules::Reply;
 use rules::Step;
@@ -24,10 +21,22 @@ pub fn on_sound(
 {
     match step {
         Step::Open => opening::on_sound(records, positions, processes, g),
-        Step::Claim => later::on_sound(records, positions, processes, Step::Claim, g),
-        Step::Cancel => later::on_sound(records, positions, processes, Step::Cancel, g),
-        Step::Refuse => later::on_sound(records, positions, processes, Step::Refuse, g),
-        Step::ApproveGiver => later::on_sound(records, positions, processes, Step::ApproveGiver, g),
-        Step::ApproveTaker => later::on_sound(records, positions, processes, Step::ApproveTaker, g),
+        Step::Claim => later_steps::on_sound(records, positions, processes, Step::Claim, g),
+        Step::Cancel => later_steps::on_sound(records, positions, processes, Step::Cancel, g),
+        Step::Refuse => later_steps::on_sound(records, positions, processes, Step::Refuse, g),
+        Step::ApproveGiver => later_steps::on_sound(
+            records,
+            positions,
+            processes,
+            Step::ApproveGiver,
+            g,
+        ),
+        Step::ApproveTaker => later_steps::on_sound(
+            records,
+            positions,
+            processes,
+            Step::ApproveTaker,
+            g,
+        ),
     }
 }

@@ -1,4 +1,4 @@
-// A step on a give-up that is open: claim, cancel, refuse, and the two approvals. The one that completes claim and both approvals books what a transfer books.
+// A step on a give-up that is open (document 02, K3), on sound tables: claim, cancel, refuse, and the two approvals. The one that completes claim and both approvals books what a transfer books.
 use give_up_steps::Terms;
 use lookup::Sought;
 use requests::Named;
@@ -30,7 +30,7 @@ ghost use Rattle.verdict.specs.Verdict.{verdictOf};
 ghost use Rattle.give_up_steps.specs.HandledIn.{HandledIn};
 ghost use Rattle.give_up_steps.specs.StepTests.{laterTests};
 ghost use Rattle.give_up_steps.specs.Terms.{stepOf};
-ghost use Rattle.give_up.specs.LaterReady.{LaterReady, RecordReady};
+ghost use Rattle.later_steps.specs.LaterReady.{LaterReady, RecordReady};
 
 // 18: the figures are the row's, and it is the step's turn.
 fn may_step(step: Step, p: Process, g: Terms) -> bool
