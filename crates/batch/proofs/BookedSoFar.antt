@@ -83,25 +83,25 @@ pub record BookedSoFar (start : Tables) (trades excess₀ records positions exce
   pub records-size : length records ≡ length (start .records)
   pub positions-size : length positions ≡ length (start .positions)
 
-module _ (start : Tables) (trades excess₀ : List ℤ) where
-  pub none-booked : soundRecords (start .records) ≡ true → soundPositions (start .positions) ≡ true →
-      BookedSoFar start trades excess₀ (start .records) (start .positions) excess₀ 0
-  unfolding tradesOf writtenTo excessesOf
-  none-booked h k =
-      let all : tradeCount trades ≡ tradeCount trades - 0 = omega arith in
-      record {
-        done = [];
-        count = refl;
-        within = omega arith;
-        rest = ap (λ (n : ℕ). untilRefused start (decode tradeAt 6 n 0 trades)) all;
-        records-sound = h;
-        positions-sound = k;
-        written = refl;
-        same-size = refl;
-        records-size = refl;
-        positions-size = refl;
-      }
+pub none-booked : (records positions trades excess₀ : List ℤ) → soundRecords records ≡ true → soundPositions positions ≡ true →
+    BookedSoFar (tablesOf records positions) trades excess₀ records positions excess₀ 0
+unfolding tradesOf writtenTo excessesOf
+none-booked records positions trades excess₀ h k =
+    let all : tradeCount trades ≡ tradeCount trades - 0 = omega arith in
+    record {
+      done = [];
+      count = refl;
+      within = omega arith;
+      rest = ap (λ (n : ℕ). untilRefused (tablesOf records positions) (decode tradeAt 6 n 0 trades)) all;
+      records-sound = h;
+      positions-sound = k;
+      written = refl;
+      same-size = refl;
+      records-size = refl;
+      positions-size = refl;
+    }
 
+module _ (start : Tables) (trades excess₀ : List ℤ) where
   module _ (records positions excess : List ℤ) (i : ℕ) (b : BookedSoFar start trades excess₀ records positions excess i) where
     abbrev now : Tables
     now = tablesOf records positions

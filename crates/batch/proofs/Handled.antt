@@ -32,7 +32,7 @@ module _ (rs ps figures cells : List ℤ) (room : ℕ) where
   unsound-left judged n p refused =
       refused-left n p
       ∙ ap (λ (a : Answer). leftBy cells a)
-      (sym (refused-as rs ps _ (batchAnswer (untilRefused (tablesOf rs ps) (tradesOf figures))) n p (refused-before _ (test 3 (not (batchFigures figures room)) ∷ []) n p (sym judged ∙ refused))))
+      (sym (refused-as (tablesOf rs ps) _ (batchAnswer (untilRefused (tablesOf rs ps) (tradesOf figures))) n p (refused-before _ (test 3 (not (batchFigures figures room)) ∷ []) n p (sym judged ∙ refused))))
 
   module _ (h : soundRecords rs ≡ true) (k : soundPositions ps ≡ true) where
     -- Test 3.

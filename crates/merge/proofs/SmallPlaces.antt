@@ -1,4 +1,4 @@
--- The place of a source that fails a test is below 1,000, for there are at most so many sources. By the number of pairs. Assumes nothing.
+-- The place of a source that fails a test is one of the list's, and below 1,000, for there are at most so many sources. By the number of pairs. Assumes nothing.
 use Prim.Native.Nat.{ℕ, _/_, _≤_, _<_}
 use native.Mathlib.Omega.{arith}
 use mathlib.Core.Path.{_≡_, _∙_}
@@ -21,6 +21,11 @@ module _ (cells pairs : List ℤ) (few : length pairs ≤ 2000) (i : ℕ) where
 
   pub source-place : (test : Source → Bool) → placeOf (map test (sourcesIn cells pairs)) ≡ At i → i < 1000
   source-place test e = small (map test (sourcesIn cells pairs)) (length-map (sourcesIn cells pairs) test ∙ source-count cells pairs) e
+
+  pub record-within : (test : Record → Bool) → placeOf (map test (sourceRecords cells pairs)) ≡ At i → i < length pairs / 2
+  record-within test e =
+      let h : i < length (map test (sourceRecords cells pairs)) = place-within (map test (sourceRecords cells pairs)) i e in
+      omega (arith, length-map (sourceRecords cells pairs) test, record-count cells pairs)
 
   pub record-place : (test : Record → Bool) → placeOf (map test (sourceRecords cells pairs)) ≡ At i → i < 1000
   record-place test e = small (map test (sourceRecords cells pairs)) (length-map (sourceRecords cells pairs) test ∙ record-count cells pairs) e

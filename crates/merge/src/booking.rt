@@ -5,6 +5,7 @@ use requests::Held;
 use rules::Movement;
 use rules::Record;
 use rules::Reply;
+use rules::codes::ADJUSTED;
 use rules::codes::MERGE;
 use tables::positions;
 use tables::records;
@@ -41,7 +42,7 @@ fn adjust_sources(records: &mut [i64], pairs: &[i64], rows: &[u16])
     let mut i = 0;
     while i < count {
         let row = rows[i] as usize;
-        records::adjust_record(&mut *records, row);
+        records::set_status(&mut *records, row, ADJUSTED);
         i += 1;
     }
 }

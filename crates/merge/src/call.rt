@@ -103,7 +103,8 @@ fn verdict_on_sources(
         return refused_at(6, i);
     }
     if let Place::At(i) = sources::first_failing(records, pairs, rows, 7, account, series, true) {
-        return refused_at(7, i);
+        let failing = sources::source_record(records, pairs, rows, i);
+        return refused_at(requests::status_refusal(failing.status), i);
     }
     if let Place::At(i) = sources::first_failing(records, pairs, rows, 8, account, series, true) {
         return refused_at(8, i);

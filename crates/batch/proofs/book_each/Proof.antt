@@ -51,7 +51,7 @@ became : (c : tie.After-book-trade Inv-loop μ-loop) → Became c (c .book-trade
 became c = c .book-trade .ensures
 
 loop-holds : tie.Need-loop-holds Inv-loop μ-loop
-loop-holds c = none-booked (start c) (list c) (c .args .excess .now) (c .pre .0) (c .pre .1)
+loop-holds c = none-booked (c .args .records .now) (c .args .positions .now) (list c) (c .args .excess .now) (c .pre .0) (c .pre .1)
 
 mul-book-trade : tie.Need-mul-book-trade Inv-loop μ-loop
 mul-book-trade c = let k : tie.In-loop Inv-loop μ-loop = c .before .before in omega (arith, k .loop-test .taken, fits (k .before .before) .0)

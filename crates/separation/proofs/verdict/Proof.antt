@@ -1,5 +1,5 @@
 -- `separation::verdict` meets its contract: past each test the verdict is that of the tests which remain, and each return is the one that applies. Assumes nothing.
-use Prim.Native.Nat.{ℕ, _+_, _≤_}
+use Prim.Native.Nat.{ℕ, _≤_}
 use native.Mathlib.Omega.{arith}
 use mathlib.Core.Path.{_≡_, sym, ap, _∙_}
 use mathlib.Core.Bool.{true, not}

@@ -5,6 +5,7 @@ use native.Mathlib.Omega.{arith}
 use mathlib.Core.List.{List}
 use lib.IntN.{ℤ}
 use lib.ListN.{length, getD}
+use Rattle.rules.specs.Rows.{adjustedRecord}
 use Rattle.merge_sources.proofs.AdjustingCells.{AdjustedSoFar, adjusted-start, adjusted-end, adjust-ready, adjust-next}
 use Rattle.merge_sources.proofs.SourceRows.{RowOfPair, row-kept}
 use Rattle.merge.proofs.booking.adjust_sources.Statement.{statement}
@@ -46,19 +47,21 @@ shared-slice-read-row c = kept (c .before) .0
 cast-row : tie.Need-cast-row Inv-loop μ-loop
 cast-row c = omega (arith, c .shared-slice-known2 .given (c .before .before .loop .i))
 
-adjust-record-requires : tie.Need-adjust-record-requires Inv-loop μ-loop
-adjust-record-requires c κs =
+set-status-requires : tie.Need-set-status-requires Inv-loop μ-loop
+unfolding adjustedRecord
+set-status-requires c κs =
     let k : tie.In-loop Inv-loop μ-loop = c .before .before in
     let p = s k .pre in
     adjust-ready (cells k) (list k) (p .1) (p .2) (p .3) (a k .loop .records) (a k .loop .i) (a k .loop .inv) (k .loop-test .taken) (row k) (kept k .1)
 
 loop-again : tie.Need-loop-again Inv-loop μ-loop
+unfolding adjustedRecord
 loop-again c =
-    let d : tie.After-adjust-record Inv-loop μ-loop = c .before in
+    let d : tie.After-set-status Inv-loop μ-loop = c .before in
     let k : tie.In-loop Inv-loop μ-loop = d .before .before .before in
     let p = s k .pre in
     adjust-next (cells k) (list k) (p .1) (p .2) (p .3) (a k .loop .records) (a k .loop .i) (a k .loop .inv) (k .loop-test .taken) (row k) (kept k .1)
-    (d .adjust-record .last .0) (d .adjust-record .ensures .0) (d .adjust-record .ensures .1) (d .adjust-record .kept .0)
+    (d .set-status .last .0) (d .set-status .ensures .0) (d .set-status .ensures .1) (d .set-status .kept .0)
 
 same-length : tie.Need-same-length Inv-loop μ-loop
 same-length c = c .before .loop .inv .same-size
@@ -79,7 +82,7 @@ adjust-sources-spec =
     (λ c. omega arith)
     shared-slice-read-row
     cast-row
-    adjust-record-requires
+    set-status-requires
     (λ c. omega arith)
     (λ c. omega arith)
     loop-again

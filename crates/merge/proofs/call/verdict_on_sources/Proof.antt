@@ -1,31 +1,36 @@
 -- `merge::call::verdict_on_sources` meets its contract: what it requires passes tests 3 to 5, past each of the tests 6 to 10 the verdict is that of the tests
 -- which remain, each refuses at the place that its call answered, and then the verdict is that on the sums. Assumes nothing.
-use Prim.Native.Nat.{ℕ, _/_, _≤_}
+use Prim.Native.Nat.{ℕ, _/_, _≤_, _<_}
 use native.Mathlib.Omega.{arith}
 use mathlib.Core.Path.{_≡_, sym, _∙_, ap}
 use mathlib.Core.Bool.{true, false, not}
 use mathlib.Core.List.{List, [], map}
-use borrow.Author.Needs.{needs}
+use borrow.Author.Needs.{needs, sfits-of}
 use borrow.Author.Tests.{not-true}
-use lib.IntN.{ℤ}
-use lib.ListN.{length}
+use lib.IntN.{ℤ, pos}
+use lib.ListN.{length, getD}
 use mir.Facts.{toZ-ofZ}
+use mir.Syntax.{w64}
+use mir.Val.{toZ, ofZ}
 use Rattle.rules.specs.Figures.{isBuy}
 use Rattle.rules.specs.Keyed.{isSome}
-use Rattle.rules.specs.NamedRecord.{isElsewhere, isNotAdjustable}
+use Rattle.rules.specs.NamedRecord.{noRecord, isElsewhere, isNotAdjustable, statusRefusal}
 use Rattle.rules.specs.Refusal.{anyOf}
-use Rattle.rules.specs.Merge.{pairsOf, isMissing, closes, firstOf, sideDiffers}
+use Rattle.rules.specs.Merge.{pairsOf, isMissing, firstStatusRefusal, closes, firstOf, sideDiffers}
 use Rattle.rules.specs.declared.Record.{Record}
+use Rattle.requests.proofs.StatusRefusal.{status-number}
 use Rattle.scan.proofs.ReadBack.{read-back}
+use Rattle.verdict.specs.declared.Verdict.the-variants.{Refused}
 use Rattle.verdict.proofs.Remaining.{_past_, stops-at}
 use Rattle.merge_sources.specs.Sources.{sourcesIn, placeOf, sourceRecords}
 use Rattle.merge_sources.specs.Pairs.{repeatsFrom, repeatedPlace}
+use Rattle.merge_sources.specs.declared.Place.the-variants.{At}
 use Rattle.merge_sources.proofs.MergeFacts.{figures-count}
 use Rattle.merge_sources.proofs.MergeVerdict.{MergeFrom, merge-tests}
 use Rattle.merge_sources.proofs.Places.{place-tells, nowhere-tells}
 use Rattle.merge_sources.proofs.SourceList.{record-found, first-at}
-use Rattle.merge_sources.proofs.SourceTests.{fails-6, fails-7, fails-8, fails-10}
-use Rattle.merge.proofs.SmallPlaces.{record-place, repeat-place}
+use Rattle.merge_sources.proofs.SourceTests.{fails-6, fails-7, fails-8, fails-10, status-at}
+use Rattle.merge.proofs.SmallPlaces.{record-within, record-place, repeat-place}
 use Rattle.merge.proofs.call.verdict_on_sources.Statement.{statement}
 use Rattle.merge.proofs.call.verdict_on_sources.Tie as tie
 
@@ -116,16 +121,48 @@ first-failing-requires-2 c κs = let s : tie.Start = past6 c in (s .pre .0 .0, s
 enum-known-i-2 : tie.Need-enum-known-i-2
 enum-known-i-2 c = search needs
 
+-- The source that fails it.
+module _ (c : tie.After-known-told2) where
+  abbrev failed7 : tie.After-first-failing2
+  failed7 = c .before .before .before
+
+  abbrev start7 : tie.Start
+  start7 = past6 (failed7 .before)
+
+  place7 : placeOf (map isNotAdjustable (sources start7)) ≡ At (c .before .i2 .given .0 .0)
+  place7 = sym (answer-7 failed7) ∙ c .before .i2 .given .1
+
+  within7 : c .before .i2 .given .0 .0 < length (list start7) / 2
+  within7 = record-within (rs start7) (list start7) (count start7 .1) _ _ place7
+
+source-record-requires : tie.Need-source-record-requires
+source-record-requires c κs =
+    let s : tie.Start = start7 c in
+    (s .pre .0 .0, s .pre .0 .3, omega (arith, within7 c))
+
+-- Its number.
+number-7 : (c : tie.After-status-refusal) → toZ w64 (ofZ w64 (c .status-refusal .result)) ≡ pos (firstStatusRefusal (sources (start7 (c .before .before .before))))
+number-7 c =
+    let k : tie.After-known-told2 = c .before .before .before in
+    let s : tie.Start = start7 k in
+    let r : Record = c .before .before .source-record .result in
+    let failing : getD (sources s) (k .before .i2 .given .0 .0) noRecord ≡ r = record-found (rs s) (list s) _ (within7 k) r (c .before .before .source-record .ensures) in
+    status-number (sfits-of (c .status-refusal .ok)) (sfits-of {w = w64} {z = r .status} (c .before .struct-told .given .1 .1 .1 .1 .0 .1)) (c .status-refusal .ensures)
+    ∙ ap (λ (x : Record). pos (statusRefusal (x .status))) (sym failing)
+    ∙ ap pos (sym (status-at (sources s) _ (place7 k)))
+
 refused-at-requires-2 : tie.Need-refused-at-requires-2
 refused-at-requires-2 c κs =
-    let a : tie.After-first-failing2 = c .before .before .before in
-    let s : tie.Start = past6 (a .before) in
-    record-place (rs s) (list s) (count s .1) _ _ (sym (answer-7 a) ∙ c .before .i2 .given .1)
+    let k : tie.After-known-told2 = c .before .before .before in
+    let s : tie.Start = start7 k in
+    record-place (rs s) (list s) (count s .1) _ _ (place7 k)
 
 returns-2 : tie.Need-returns-2
 returns-2 c =
-    let a : tie.After-first-failing2 = c .before .before .before .before in
-    c .refused-at2 .ensures ∙ stops-at (at-7 (a .before)) (place-tells _ _ (sym (answer-7 a) ∙ c .before .before .i2 .given .1))
+    let k : tie.After-known-told2 = c .before .before .before .before in
+    c .refused-at2 .ensures
+    ∙ ap (λ (n : ℤ). Refused n (pos (k .before .i2 .given .0 .0))) (number-7 (c .before))
+    ∙ stops-at (at-7 (failed7 k .before)) (place-tells _ _ (place7 k))
 
 enum-told-2 : tie.Need-enum-told-2
 enum-told-2 c = search needs
@@ -215,22 +252,22 @@ module _ (c : tie.After-enum-told4) where
   at-10 : From past9 10
   at-10 = at-9 (c .before .before .before) past differ
 
-module _ (c : tie.After-source-record) where
+module _ (c : tie.After-source-record2) where
   abbrev at-first : tie.Start
   at-first = past9 (c .before)
 
-  first-is : firstOf (sources at-first) ≡ c .source-record .result
+  first-is : firstOf (sources at-first) ≡ c .source-record2 .result
   first-is =
       let several : 2 ≤ length (list at-first) / 2 = count at-first .0 in
-      first-at (rs at-first) (list at-first) ∙ record-found (rs at-first) (list at-first) 0 (omega arith) (c .source-record .result) (c .source-record .ensures)
+      first-at (rs at-first) (list at-first) ∙ record-found (rs at-first) (list at-first) 0 (omega arith) (c .source-record2 .result) (c .source-record2 .ensures)
 
-  side-is : isBuy (c .source-record .result .side) ≡ isBuy (firstOf (sources at-first) .side)
+  side-is : isBuy (c .source-record2 .result .side) ≡ isBuy (firstOf (sources at-first) .side)
   side-is = ap (λ (r : Record). isBuy (r .side)) (sym first-is)
 
 buy-is : (c : tie.After-is-buy) → c .is-buy .result ≡ isBuy (firstOf (sources (at-first (c .before .before))) .side)
 buy-is c =
-    let a : tie.After-source-record = c .before .before in
-    (simp (read-back (a .source-record .result .side) (c .before .struct-told .given .1 .1 .1 .1 .1 .1 .1 .0 .1)) at (c .is-buy .ensures)) ∙ side-is a
+    let a : tie.After-source-record2 = c .before .before in
+    (simp (read-back (a .source-record2 .result .side) (c .before .struct-told2 .given .1 .1 .1 .1 .1 .1 .1 .0 .1)) at (c .is-buy .ensures)) ∙ side-is a
 
 abbrev start10 : tie.After-first-failing4 → tie.Start
 start10 c = at-first (c .before .before .before)
@@ -241,8 +278,8 @@ answer-10 c =
     rw (← fails-10 (account s) (series s) (c .before .is-buy .result) (firstOf (sources s)) (buy-is (c .before)))
     (simp (toZ-ofZ (s .fits .account), toZ-ofZ (s .fits .series)) at (c .first-failing4 .ensures))
 
-source-record-requires : tie.Need-source-record-requires
-source-record-requires c κs =
+source-record-requires-2 : tie.Need-source-record-requires-2
+source-record-requires-2 c κs =
     let s : tie.Start = past9 c in
     let several : 2 ≤ length (list s) / 2 = count s .0 in
     (s .pre .0 .0, s .pre .0 .3, omega arith)
@@ -276,13 +313,13 @@ one-side : (c : tie.After-enum-told5) → let s : tie.Start = start10 (c .before
 one-side c = nowhere-tells _ (sym (answer-10 (c .before .before)) ∙ c .enum-told5 .given .1)
 
 -- The first source, whose side is read again.
-abbrev first-read : tie.After-is-buy2 → tie.After-source-record
+abbrev first-read : tie.After-is-buy2 → tie.After-source-record2
 first-read c = c .before .before .before .before .before .before .before
 
 buy-again : (c : tie.After-is-buy2) → c .is-buy2 .result ≡ isBuy (firstOf (sources (at-first (first-read c))) .side)
 buy-again c =
-    let a : tie.After-source-record = first-read c in
-    (simp (read-back (a .source-record .result .side) (c .before .struct-told2 .given .1 .1 .1 .1 .1 .1 .1 .0 .1)) at (c .is-buy2 .ensures)) ∙ side-is a
+    let a : tie.After-source-record2 = first-read c in
+    (simp (read-back (a .source-record2 .result .side) (c .before .struct-told3 .given .1 .1 .1 .1 .1 .1 .1 .0 .1)) at (c .is-buy2 .ensures)) ∙ side-is a
 
 is-buy-requires-2 : tie.Need-is-buy-requires-2
 is-buy-requires-2 c κs = search needs
@@ -306,7 +343,7 @@ pub verdict-on-sources-spec : {M : Type 1} → statement M
 verdict-on-sources-spec =
     tie.close
     (tie.spec
-    first-failing-requires enum-known-i refused-at-requires returns enum-told first-failing-requires-2 enum-known-i-2 refused-at-requires-2 returns-2
+    first-failing-requires enum-known-i refused-at-requires returns enum-told first-failing-requires-2 enum-known-i-2 source-record-requires (λ c κs. search needs) refused-at-requires-2 returns-2
     enum-told-2 first-failing-requires-3 enum-known-i-3 refused-at-requires-3 returns-3 enum-told-3 first-repeated-requires enum-known-i-4 refused-at-requires-4
-    returns-4 enum-told-4 source-record-requires is-buy-requires first-failing-requires-4 enum-known-i-5 refused-at-requires-5 returns-5 enum-told-5
+    returns-4 enum-told-4 source-record-requires-2 is-buy-requires first-failing-requires-4 enum-known-i-5 refused-at-requires-5 returns-5 enum-told-5
     is-buy-requires-2 verdict-on-sums-requires returns-6)
