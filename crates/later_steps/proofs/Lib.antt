@@ -1,1 +1,2 @@
 pub mod LaterSteps
+pub mod Restated
