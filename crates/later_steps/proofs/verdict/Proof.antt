@@ -46,11 +46,11 @@ returns c = stops (at-6 (c .before .before)) (sym (answer-6 (c .before)) ∙ c .
 
 module _ (c : tie.After-struct-told) where
   abbrev start : tie.Start
-  start = c .before .before .before
+  start = c .before .before .before .before
 
   at-7 : Rest start (test 7 (not (eqZ (r start .status) underGiveUp)) ∷ test 8 (isToClose (r start .side)) ∷ [])
   unfolding test
-  at-7 = at-6 start past sym (answer-6 (c .before .before)) ∙ c .before .if1 .left
+  at-7 = at-6 start past sym (answer-6 (c .before .before .before)) ∙ c .before .before .if1 .left
 
   status-fits : SFits w64 (r start .status)
   status-fits = sfits-of {w = w64} {z = r start .status} (c .struct-told .given .1 .1 .1 .1 .0 .1)
