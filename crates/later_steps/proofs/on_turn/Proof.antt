@@ -1,132 +1,165 @@
+-- `later_steps::on_turn` meets its contract: the record is looked up once (5), judged by 6 to 8, and the step completes the give-up or advances it. Assumes nothing.
+use mathlib.Core.Path.{_≡_, sym, _∙_, ap}
+use mathlib.Core.Bool.{Bool}
+use mathlib.Core.List.{List}
+use lib.IntN.{ℤ}
 use borrow.Author.Needs.{needs}
+use Rattle.rules.specs.Rows.{keyOf, recordKey}
+use Rattle.rules.specs.ProcessRows.{rowOfProcess}
+use Rattle.rules.specs.Refusal.{firstRefusal}
+use Rattle.rules.specs.GiveUp.{stepped, isComplete}
+use Rattle.rules.specs.Tables.{recordsLayout}
+use Rattle.rules.specs.declared.ProcessRow.{ProcessRow}
+use Rattle.lookup.specs.Lookup.{recordSought}
+use Rattle.lookup.proofs.TableLookup.{records-first}
+use Rattle.lookup.proofs.TableSought.{AbsentAt, table-lacks}
+use Rattle.requests.specs.KnownRecord.{KnownRecord}
+use Rattle.scan.proofs.ReadBack.{read-back}
+use Rattle.verdict.specs.Verdict.{verdictOf}
+use Rattle.give_up_steps.specs.StepTests.{laterTests}
+use Rattle.give_up_steps.specs.declared.Terms.{Terms}
+use Rattle.later_steps.specs.LaterReady.{RecordReady}
+use Rattle.later_steps.proofs.LaterSteps.{later-missing, later-refused}
 use Rattle.later_steps.proofs.on_turn.Statement.{statement}
 use Rattle.later_steps.proofs.on_turn.Tie as tie
-use Rattle.later_steps.proofs.on_turn.Reads as reads
-use Rattle.later_steps.proofs.on_turn.Lts as lts
-use Rattle.later_steps.proofs.advance.Reads as advance-reads
-use Rattle.later_steps.proofs.complete.Reads as complete-reads
-use Rattle.later_steps.proofs.verdict.Reads as verdict-reads
-use Rattle.requests.proofs.record_named.Reads as record-named-reads
-use Rattle.stages.proofs.is_complete.Reads as is-complete-reads
-use Rattle.stages.proofs.stepped.Reads as stepped-reads
-use Rattle.tables.proofs.records.look_up.Reads as look-up-reads
 
--- src/lib.rt:167:48
-look-up-requires : tie.Need-look-up-requires
-look-up-requires c κs = search needs
+module _ (s : tie.Start) where
+  abbrev rs : List ℤ
+  rs = s .args .records .now
 
--- src/lib.rt:167:25
-enum-known-row : tie.Need-enum-known-row
-enum-known-row c = search needs
+  abbrev ps : List ℤ
+  ps = s .args .positions .now
 
--- src/lib.rt:168:9
-enum-told : tie.Need-enum-told
-enum-told c = search needs
+  abbrev qs : List ℤ
+  qs = s .args .processes .now
 
--- src/lib.rt:168:9
-same-length : tie.Need-same-length
-same-length c = search needs
+  abbrev g : Terms
+  g = s .args .g
 
--- src/lib.rt:168:9
+-- ---- test 5
+
+module _ (c : tie.After-look-up) where
+  abbrev told : tie.After-struct-told
+  told = c .before .before
+
+  abbrev start : tie.Start
+  start = told .before .before
+
+  looked : c .look-up .result ≡ recordSought (rs start) (g start .id) (g start .suffix)
+  looked = simp (read-back (g start .id) (told .struct-told .given .1 .0 .1), read-back (g start .suffix) (told .struct-told .given .1 .1 .0 .1)) at (c .look-up .ensures)
+
 returns : tie.Need-returns
-returns c = ?
+returns c =
+    let l : tie.After-look-up = c .before .before in
+    let s : tie.Start = start l in
+    let k = s .pre in
+    let lacks : AbsentAt recordsLayout recordKey (rs s) (keyOf (g s .id) (g s .suffix)) (c .enum-told .given .0 .0) (c .enum-told .given .0 .1 .0) =
+    table-lacks recordsLayout recordKey records-first (rs s) (keyOf (g s .id) (g s .suffix)) _ _ (sym (looked l) ∙ c .enum-told .given .1) in
+    later-missing (rs s) (ps s) (qs s) (k .sound) (g s .process) (g s .id) (g s .suffix) (g s .giving) (g s .taking) (g s .series)
+    (s .args .step) (k .later) (k .figures) (rowOfProcess (s .args .p)) (k .known .found) (k .turn) (lacks .absent)
 
--- src/lib.rt:170:9
+-- ---- tests 6 to 8
+
 record-named-requires : tie.Need-record-named-requires
-record-named-requires c κs = ?
+record-named-requires c κs =
+    let k : tie.After-known-told = c .before .before .before in
+    let l : tie.After-look-up = k .before .before .before in
+    let s : tie.Start = start l in
+    simp (
+      read-back (g s .id) (told l .struct-told .given .1 .0 .1),
+      read-back (g s .suffix) (told l .struct-told .given .1 .1 .0 .1),
+      read-back (k .before .row .given .0 .1 .0) (k .known-told .given .1 .0 .1),
+    )
+    (s .pre .sound .records, sym (looked l) ∙ k .before .row .given .1)
 
--- src/lib.rt:171:11
-verdict-requires : tie.Need-verdict-requires
-verdict-requires c κs = search needs
+module _ (c : tie.After-record-named) where
+  abbrev found : tie.After-look-up
+  found = c .before .before .before .before .before .before .before
 
--- src/lib.rt:172:26
-enum-known-number : tie.Need-enum-known-number
-enum-known-number c = search needs
+  abbrev start2 : tie.Start
+  start2 = start found
 
--- src/lib.rt:174:36
-enum-told-2 : tie.Need-enum-told-2
-enum-told-2 c = search needs
+  known : KnownRecord (rs start2) (g start2 .id) (g start2 .suffix) (c .record-named .result)
+  known = simp (read-back (g start2 .id) (told found .struct-told .given .1 .0 .1), read-back (g start2 .suffix) (told found .struct-told .given .1 .1 .0 .1)) at (c .record-named .ensures)
 
--- src/lib.rt:174:36
-stepped-requires : tie.Need-stepped-requires
-stepped-requires c κs = search needs
+module _ (c : tie.After-verdict) where
+  abbrev at-named : tie.After-record-named
+  at-named = c .before .before .before
 
--- src/lib.rt:174:16
-is-complete-requires : tie.Need-is-complete-requires
-is-complete-requires c κs = search needs
+  abbrev start3 : tie.Start
+  start3 = start2 at-named
 
--- src/lib.rt:175:17
-complete-requires : tie.Need-complete-requires
-complete-requires c κs = ?
+  judged : c .verdict .result ≡ verdictOf (firstRefusal (laterTests (at-named .record-named .result .record) (g start3 .giving) (g start3 .series)))
+  judged =
+      simp (
+        read-back (g start3 .giving) (told (found at-named) .struct-told .given .1 .1 .1 .0 .1),
+        read-back (g start3 .series) (told (found at-named) .struct-told .given .1 .1 .1 .1 .1 .0 .1),
+      ) at (c .verdict .ensures)
 
--- src/lib.rt:177:17
-advance-requires : tie.Need-advance-requires
-advance-requires c κs = ?
-
--- src/lib.rt:155:1
-same-length-2 : tie.Need-same-length-2
-same-length-2 c = search needs
-
--- src/lib.rt:155:1
 returns-2 : tie.Need-returns-2
-returns-2 c = ?
+returns-2 c =
+    let v : tie.After-verdict = c .before .before .before in
+    let s : tie.Start = start3 v in
+    let k = s .pre in
+    let number : ℤ = c .before .number .given .0 .0 in
+    let place : ℤ = c .before .number .given .0 .1 .0 in
+    simp (read-back number (c .known-told2 .given .0 .1), read-back place (c .known-told2 .given .1 .0 .1))
+    (later-refused (rs s) (ps s) (qs s) (k .sound) (g s .process) (g s .id) (g s .suffix) (g s .giving) (g s .taking) (g s .series)
+    (s .args .step) (k .later) (k .figures) (rowOfProcess (s .args .p)) (k .known .found) (k .turn)
+    (at-named v .record-named .result .record) (known (at-named v) .found) number place (sym (judged v) ∙ c .before .number .given .1))
 
--- src/lib.rt:155:1
-same-length-3 : tie.Need-same-length-3
-same-length-3 c = search needs
+-- ---- the booking
 
--- src/lib.rt:155:1
-same-length-4 : tie.Need-same-length-4
-same-length-4 c = search needs
+module _ (c : tie.After-is-complete) where
+  abbrev accepted : tie.After-enum-told2
+  accepted = c .before .before
 
--- src/lib.rt:155:1
-same-length-5 : tie.Need-same-length-5
-same-length-5 c = search needs
+  abbrev by-verdict : tie.After-verdict
+  by-verdict = accepted .before .before
 
--- src/lib.rt:155:1
-returns-3 : tie.Need-returns-3
-returns-3 c = search needs
+  abbrev start4 : tie.Start
+  start4 = start3 by-verdict
 
--- src/lib.rt:155:1
-same-length-6 : tie.Need-same-length-6
-same-length-6 c = search needs
+  ready : RecordReady (rs start4) (ps start4) (qs start4) (start4 .args .step) (g start4) (start4 .args .at) (start4 .args .p) (at-named by-verdict .record-named .result)
+  ready = record { ready = start4 .pre; record-known = known (at-named by-verdict); passed = sym (judged by-verdict) ∙ accepted .enum-told2 .given .1 }
 
--- src/lib.rt:155:1
-same-length-7 : tie.Need-same-length-7
-same-length-7 c = search needs
+  completed : c .is-complete .result ≡ isComplete (stepped (start4 .args .step) (rowOfProcess (start4 .args .p)))
+  completed = c .is-complete .ensures ∙ ap (λ (p : ProcessRow). isComplete p) (c .before .stepped .ensures)
 
--- src/lib.rt:155:1
-same-length-8 : tie.Need-same-length-8
-same-length-8 c = search needs
+complete-requires : tie.Need-complete-requires
+complete-requires c κs =
+    let i : tie.After-is-complete = c .before .before .before .before in
+    (ready i, sym (completed i) ∙ c .before .before .before .if1 .taken)
 
--- src/lib.rt:155:1
-returns-4 : tie.Need-returns-4
-returns-4 c = search needs
+advance-requires : tie.Need-advance-requires
+advance-requires c κs =
+    let i : tie.After-is-complete = c .before .before .before .before in
+    (ready i, sym (completed i) ∙ c .before .before .before .if1 .left)
 
 pub on-turn-spec : {M : Type 1} → statement M
 on-turn-spec =
     tie.close
     (tie.spec
-    look-up-requires
-    enum-known-row
-    enum-told
-    same-length
+    (λ c κs. search needs)
+    (λ c. search needs)
+    (λ c. search needs)
+    (λ c. search needs)
     returns
     record-named-requires
-    verdict-requires
-    enum-known-number
-    enum-told-2
-    stepped-requires
-    is-complete-requires
+    (λ c κs. search needs)
+    (λ c. search needs)
+    (λ c. search needs)
+    (λ c κs. search needs)
+    (λ c κs. search needs)
     complete-requires
     advance-requires
-    same-length-2
+    (λ c. search needs)
     returns-2
-    same-length-3
-    same-length-4
-    same-length-5
-    returns-3
-    same-length-6
-    same-length-7
-    same-length-8
-    returns-4)
+    (λ c. search needs)
+    (λ c. search needs)
+    (λ c. search needs)
+    (λ c. search needs)
+    (λ c. search needs)
+    (λ c. search needs)
+    (λ c. search needs)
+    (λ c. search needs))
