@@ -1,95 +1,145 @@
+-- `later_steps::on_sound` meets its contract: test 3, the process looked up once, test 18, and then the record. Assumes nothing.
+use mathlib.Core.Path.{_≡_, sym, _∙_, ap}
+use mathlib.Core.Bool.{true}
+use mathlib.Core.List.{List}
+use mathlib.Core.Option.{some}
+use lib.IntN.{ℤ}
 use borrow.Author.Needs.{needs}
+use borrow.Author.Tests.{not-true, not-false}
+use Rattle.rules.specs.Rows.{keyOf}
+use Rattle.rules.specs.ProcessRows.{processKey, rowOfProcess}
+use Rattle.rules.specs.Tables.{processesLayout}
+use Rattle.rules.specs.declared.Process.{Process}
+use Rattle.lookup.specs.Lookup.{soughtIn}
+use Rattle.lookup.proofs.TableSought.{PresentAt, AbsentAt, table-present, table-lacks}
+use Rattle.processes.proofs.ProcessTable.{processes-first}
+use Rattle.scan.proofs.ReadBack.{read-back}
+use Rattle.give_up_steps.specs.Terms.{termsValid}
+use Rattle.give_up_steps.specs.declared.Terms.{Terms}
+use Rattle.later_steps.specs.LaterReady.{KnownProcess}
+use Rattle.later_steps.proofs.LaterSteps.{later-figures, later-unknown, later-out}
 use Rattle.later_steps.proofs.on_sound.Statement.{statement}
 use Rattle.later_steps.proofs.on_sound.Tie as tie
-use Rattle.later_steps.proofs.on_sound.Reads as reads
-use Rattle.later_steps.proofs.on_sound.Lts as lts
-use Rattle.give_up_steps.proofs.figures_valid.Reads as figures-valid-reads
-use Rattle.later_steps.proofs.may_step.Reads as may-step-reads
-use Rattle.later_steps.proofs.on_turn.Reads as on-turn-reads
-use Rattle.processes.proofs.look_up.Reads as look-up-reads
-use Rattle.processes.proofs.read_process.Reads as read-process-reads
 
--- src/lib.rt:193:9
-figures-valid-requires : tie.Need-figures-valid-requires
-figures-valid-requires c κs = search needs
+module _ (s : tie.Start) where
+  abbrev rs : List ℤ
+  rs = s .args .records .now
 
--- src/lib.rt:194:9
+  abbrev ps : List ℤ
+  ps = s .args .positions .now
+
+  abbrev qs : List ℤ
+  qs = s .args .processes .now
+
+  abbrev g : Terms
+  g = s .args .g
+
+-- ---- test 3
+
 returns : tie.Need-returns
-returns c = ?
+returns c =
+    let f : tie.After-figures-valid = c .before in
+    let s : tie.Start = f .before in
+    later-figures (rs s) (ps s) (qs s) (s .pre .0) (g s .process) (g s .id) (g s .suffix) (g s .giving) (g s .taking) (g s .series) (s .args .step) (s .pre .1)
+    (sym (f .figures-valid .ensures) ∙ not-true _ (c .if1 .taken))
 
--- src/lib.rt:196:41
-look-up-requires : tie.Need-look-up-requires
-look-up-requires c κs = search needs
+-- ---- test 18
 
--- src/lib.rt:196:25
-enum-known-at : tie.Need-enum-known-at
-enum-known-at c = search needs
+module _ (c : tie.After-look-up) where
+  abbrev told : tie.After-struct-told
+  told = c .before .before
 
--- src/lib.rt:197:9
-enum-told : tie.Need-enum-told
-enum-told c = search needs
+  abbrev else1 : tie.Else1
+  else1 = told .before .before
 
--- src/lib.rt:197:9
-same-length : tie.Need-same-length
-same-length c = search needs
+  abbrev start : tie.Start
+  start = else1 .before .before
 
--- src/lib.rt:197:9
+  figures : termsValid (g start) ≡ true
+  figures = sym (else1 .before .figures-valid .ensures) ∙ not-false _ (else1 .if1 .left)
+
+  looked : c .look-up .result ≡ soughtIn processesLayout (keyOf (g start .process) (g start .id)) (qs start)
+  looked = simp (read-back (g start .process) (told .struct-told .given .0 .1), read-back (g start .id) (told .struct-told .given .1 .0 .1)) at (c .look-up .ensures)
+
 returns-2 : tie.Need-returns-2
-returns-2 c = ?
+returns-2 c =
+    let l : tie.After-look-up = c .before .before in
+    let s : tie.Start = start l in
+    let lacks : AbsentAt processesLayout processKey (qs s) (keyOf (g s .process) (g s .id)) (c .enum-told .given .0 .0) (c .enum-told .given .0 .1 .0) =
+    table-lacks processesLayout processKey processes-first (qs s) (keyOf (g s .process) (g s .id)) _ _ (sym (looked l) ∙ c .enum-told .given .1) in
+    later-unknown (rs s) (ps s) (qs s) (s .pre .0) (g s .process) (g s .id) (g s .suffix) (g s .giving) (g s .taking) (g s .series) (s .args .step) (s .pre .1) (figures l) (lacks .absent)
 
--- src/lib.rt:199:9
+module _ (c : tie.After-known-told) where
+  abbrev by-lookup : tie.After-look-up
+  by-lookup = c .before .before .before
+
+  abbrev start2 : tie.Start
+  start2 = start by-lookup
+
+  there : PresentAt processesLayout processKey (qs start2) (keyOf (g start2 .process) (g start2 .id)) (c .before .at .given .0 .0) (c .before .at .given .0 .1 .0) (c .before .at .given .0 .1 .1 .0)
+  there =
+      table-present processesLayout processKey processes-first (qs start2) (keyOf (g start2 .process) (g start2 .id)) _ _ _ (sym (looked by-lookup) ∙ c .before .at .given .1)
+
 read-process-requires : tie.Need-read-process-requires
-read-process-requires c κs = ?
+read-process-requires c κs =
+    let k : tie.After-known-told = c .before in
+    (start2 k .pre .0 .processes, there k .row-within)
 
--- src/lib.rt:200:9
-may-step-requires : tie.Need-may-step-requires
-may-step-requires c κs = search needs
+module _ (c : tie.After-read-process) where
+  abbrev at-found : tie.After-known-told
+  at-found = c .before .before
 
--- src/lib.rt:201:9
-same-length-2 : tie.Need-same-length-2
-same-length-2 c = search needs
+  abbrev start3 : tie.Start
+  start3 = start2 at-found
 
--- src/lib.rt:201:9
+  known : KnownProcess (qs start3) (g start3) (at-found .before .at .given .0 .0) (c .read-process .result)
+  known = record {
+    row-within = there at-found .row-within;
+    row-is = c .read-process .ensures;
+    found = there at-found .found ∙ ap some (sym (c .read-process .ensures));
+  }
+
 returns-3 : tie.Need-returns-3
-returns-3 c = ?
+returns-3 c =
+    let m : tie.After-may-step = c .before in
+    let r : tie.After-read-process = m .before in
+    let s : tie.Start = start3 r in
+    later-out (rs s) (ps s) (qs s) (s .pre .0) (g s .process) (g s .id) (g s .suffix) (g s .giving) (g s .taking) (g s .series) (s .args .step) (s .pre .1)
+    (figures (by-lookup (at-found r))) (rowOfProcess (r .read-process .result)) (known r .found) (sym (m .may-step .ensures) ∙ not-true _ (c .if2 .taken))
 
--- src/lib.rt:203:5
+-- ---- the record
+
 on-turn-requires : tie.Need-on-turn-requires
-on-turn-requires c κs = ?
-
--- src/lib.rt:183:1
-same-length-3 : tie.Need-same-length-3
-same-length-3 c = search needs
-
--- src/lib.rt:183:1
-same-length-4 : tie.Need-same-length-4
-same-length-4 c = search needs
-
--- src/lib.rt:183:1
-same-length-5 : tie.Need-same-length-5
-same-length-5 c = search needs
-
--- src/lib.rt:183:1
-returns-4 : tie.Need-returns-4
-returns-4 c = search needs
+on-turn-requires c κs =
+    let e : tie.Else2 = c .before .before .before in
+    let m : tie.After-may-step = e .before in
+    let r : tie.After-read-process = m .before in
+    let s : tie.Start = start3 r in
+    record {
+      sound = s .pre .0;
+      later = s .pre .1;
+      figures = figures (by-lookup (at-found r));
+      known = known r;
+      turn = sym (m .may-step .ensures) ∙ not-false _ (e .if2 .left);
+    }
 
 pub on-sound-spec : {M : Type 1} → statement M
 on-sound-spec =
     tie.close
     (tie.spec
-    figures-valid-requires
+    (λ c κs. search needs)
     returns
-    look-up-requires
-    enum-known-at
-    enum-told
-    same-length
+    (λ c κs. search needs)
+    (λ c. search needs)
+    (λ c. search needs)
+    (λ c. search needs)
     returns-2
     read-process-requires
-    may-step-requires
-    same-length-2
+    (λ c κs. search needs)
+    (λ c. search needs)
     returns-3
     on-turn-requires
-    same-length-3
-    same-length-4
-    same-length-5
-    returns-4)
+    (λ c. search needs)
+    (λ c. search needs)
+    (λ c. search needs)
+    (λ c. search needs))
