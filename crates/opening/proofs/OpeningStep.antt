@@ -1,17 +1,16 @@
 -- An opening on sound tables: refused 18 where the process id is used, else judged by the tests of the record and the process table's room; booked, the record has status 3 and the table the
 -- new row. Assumes nothing.
 use Prim.Native.Nat.{_+_}
-use native.Mathlib.Omega.{arith}
 use mathlib.Core.Path.{_≡_, refl, sym, _∙_, ap}
-use mathlib.Core.Bool.{Bool, true, false}
-use mathlib.Core.List.{List, [], _∷_, _++_}
+use mathlib.Core.Bool.{true, false}
+use mathlib.Core.List.{List, [], _∷_}
 use mathlib.Core.Option.{Option, none, some}
 use lib.Dec.{ltb}
 use lib.IntN.{ℤ, pos}
 use lib.ListN.{length}
 use Rattle.integers.specs.Order.{eqZ}
 use Rattle.rules.specs.Figures.{underGiveUp}
-use Rattle.rules.specs.Keyed.{isSome, greatest, upsert, upsertAll, absentFrom}
+use Rattle.rules.specs.Keyed.{isSome, upsert, upsertAll}
 use Rattle.rules.specs.Rows.{recordKey, withStatus}
 use Rattle.rules.specs.ProcessRows.{processKey, openedProcess}
 use Rattle.rules.specs.Refusal.{Test, test, firstRefusal}
@@ -19,7 +18,7 @@ use Rattle.rules.specs.Request.{Request}
 use Rattle.rules.specs.Plan.{processRoomTest}
 use Rattle.rules.specs.GiveUp.{giveUpFigures, isAt, isOutOfTurn, stepped, isComplete, stepStatusTest, recordAfter, finished, processBefore}
 use Rattle.rules.specs.Layout.{roomOf, rowsOf, write}
-use Rattle.rules.specs.Tables.{allTables, booksOf, recordsLayout, positionsLayout, processesLayout}
+use Rattle.rules.specs.Tables.{allTables, booksOf, recordsLayout, processesLayout}
 use Rattle.rules.specs.Handle.{answeredBy}
 use Rattle.rules.specs.declared.Record.{Record}
 use Rattle.rules.specs.declared.ProcessRow.{ProcessRow}
@@ -33,7 +32,7 @@ use Rattle.verdict.specs.declared.Verdict.the-variants.{Accepted, Refused}
 use Rattle.give_up_steps.specs.HandledIn.{HandledIn}
 use Rattle.give_up_steps.specs.StepTests.{openingTests}
 use Rattle.give_up_steps.proofs.Answering.{refused-soundly, booked-soundly}
-use Rattle.give_up_steps.proofs.StepVerdict.{t, request, used, foundProcess, foundRecord, after, fromRecord, past-found, refuses-figures, refuses-turn, refuses-missing, step-tail}
+use Rattle.give_up_steps.proofs.StepVerdict.{request, used, foundProcess, foundRecord, after, past-found, refuses-figures, refuses-turn, refuses-missing, step-tail}
 use Rattle.give_up_steps.proofs.StepBooked.{step-booked}
 
 -- One after three others that are alike.

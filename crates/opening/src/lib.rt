@@ -31,16 +31,19 @@ fn verdict(processes: &[i64], r: Record, giving: i64, series: i64) -> Verdict
     requires { ⌜ soundProcesses (now processes) ≡ true ⌝ }
     ensures { λ v. ⌜ v ≡ verdictOf (firstRefusal (openingTests (now (processes .entry)) r giving series)) ⌝ }
 {
-    if requests::is_elsewhere(r, giving, series) {
+    let elsewhere = requests::is_elsewhere(r, giving, series);
+    let status = r.status;
+    let full = processes::room(processes) < processes::count(processes) + 1;
+    if elsewhere {
         return Verdict::Refused(6, 0);
     }
-    if r.status != ADJUSTABLE {
-        return Verdict::Refused(requests::status_refusal(r.status), 0);
+    if status != ADJUSTABLE {
+        return Verdict::Refused(requests::status_refusal(status), 0);
     }
     if figures::is_to_close(r.side) {
         return Verdict::Refused(8, 0);
     }
-    if processes::room(processes) < processes::count(processes) + 1 {
+    if full {
         return Verdict::Refused(23, 0);
     }
     Verdict::Accepted
