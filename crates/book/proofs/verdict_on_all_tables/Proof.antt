@@ -1,48 +1,44 @@
+-- `book::verdict_on_all_tables` meets its contract: each answer by the tests before it. Assumes nothing.
+use mathlib.Core.Path.{_≡_}
+use mathlib.Core.Bool.{true, false, not}
 use borrow.Author.Needs.{needs}
+use Rattle.rules.specs.Refusal.{test, firstRefusal}
+use Rattle.rules.specs.Tables.{soundRecords, soundPositions, soundProcesses}
+use Rattle.verdict.specs.Verdict.{verdictOf}
+use Rattle.give_up_steps.specs.OnAllTables.{verdictOnAllTables}
 use Rattle.book.proofs.verdict_on_all_tables.Statement.{statement}
 use Rattle.book.proofs.verdict_on_all_tables.Tie as tie
-use Rattle.book.proofs.verdict_on_all_tables.Reads as reads
-use Rattle.book.proofs.verdict_on_all_tables.Lts as lts
-use Rattle.scan.proofs.soundness.positions_sound.Reads as positions-sound-reads
-use Rattle.scan.proofs.soundness.processes_sound.Reads as processes-sound-reads
-use Rattle.scan.proofs.soundness.records_sound.Reads as records-sound-reads
 
--- src/lib.rt:143:9
-records-sound-requires : tie.Need-records-sound-requires
-records-sound-requires c κs = search needs
+records-pass : (c : tie.Else1) → not (soundRecords (c .before .before .args .records .now)) ≡ false
+records-pass c = cc
 
--- src/lib.rt:144:9
+positions-pass : (c : tie.Else2) → not (soundPositions (c .before .before .before .before .args .positions .now)) ≡ false
+positions-pass c = cc
+
 returns : tie.Need-returns
-returns c = ?
+unfolding verdictOnAllTables firstRefusal test verdictOf
+returns c =
+    let fails : not (soundRecords (c .before .before .args .records .now)) ≡ true = cc in
+    rw fails
 
--- src/lib.rt:146:9
-positions-sound-requires : tie.Need-positions-sound-requires
-positions-sound-requires c κs = search needs
-
--- src/lib.rt:147:9
 returns-2 : tie.Need-returns-2
-returns-2 c = ?
+unfolding verdictOnAllTables firstRefusal test verdictOf
+returns-2 c =
+    let fails : not (soundPositions (c .before .before .before .before .args .positions .now)) ≡ true = cc in
+    rw (records-pass (c .before .before), fails)
 
--- src/lib.rt:149:9
-processes-sound-requires : tie.Need-processes-sound-requires
-processes-sound-requires c κs = search needs
-
--- src/lib.rt:150:9
 returns-3 : tie.Need-returns-3
-returns-3 c = ?
+unfolding verdictOnAllTables firstRefusal test verdictOf
+returns-3 c =
+    let fails : not (soundProcesses (c .before .before .before .before .before .before .args .processes .now)) ≡ true = cc in
+    rw (records-pass (c .before .before .before .before), positions-pass (c .before .before), fails)
 
--- src/lib.rt:140:1
 returns-4 : tie.Need-returns-4
-returns-4 c = ?
+unfolding verdictOnAllTables firstRefusal test verdictOf
+returns-4 c =
+    let passes : not (soundProcesses (c .before .before .before .before .before .before .args .processes .now)) ≡ false = cc in
+    rw (records-pass (c .before .before .before .before), positions-pass (c .before .before), passes)
 
 pub verdict-on-all-tables-spec : {M : Type 1} → statement M
 verdict-on-all-tables-spec =
-    tie.close
-    (tie.spec
-    records-sound-requires
-    returns
-    positions-sound-requires
-    returns-2
-    processes-sound-requires
-    returns-3
-    returns-4)
+    tie.close (tie.spec (λ c κs. search needs) returns (λ c κs. search needs) returns-2 (λ c κs. search needs) returns-3 returns-4)
