@@ -1,9 +1,9 @@
--- `worked_main::show::past` meets its contract: each turn passes the cells of a run, of which there is one at least. Assumes nothing.
+-- `showing::past` meets its contract: each turn passes the cells of a run, of which there is one at least. Assumes nothing.
 use Prim.Native.Nat.{_≤_, _-_}
 use lib.ListN.{length}
 use borrow.Author.Needs.{needs}
-use Rattle.worked_main.proofs.show.past.Statement.{statement}
-use Rattle.worked_main.proofs.show.past.Tie as tie
+use Rattle.showing.proofs.past.Statement.{statement}
+use Rattle.showing.proofs.past.Tie as tie
 
 abbrev Inv-loop : tie.InvT-loop
 Inv-loop cells from at₀ t7 t8 t9 t10 at = from ≤ at

@@ -1,4 +1,4 @@
--- `worked_main::show::table` meets its contract: the count is cast only where it is not negative. Assumes nothing.
+-- `showing::table` meets its contract: the count is cast only where it is not negative. Assumes nothing.
 use native.Mathlib.Omega.{arith}
 use mathlib.Core.Path.{_≡_}
 use mathlib.Core.Bool.{false}
@@ -12,8 +12,8 @@ use mir.Facts.{toZ-ofZ}
 use mir.Syntax.{w64}
 use mir.Val.{SFits, Fits}
 use borrow.Author.Needs.{needs, sfits-of}
-use Rattle.worked_main.proofs.show.table.Statement.{statement}
-use Rattle.worked_main.proofs.show.table.Tie as tie
+use Rattle.showing.proofs.table.Statement.{statement}
+use Rattle.showing.proofs.table.Tie as tie
 
 -- A number that is not negative casts.
 casts : (z : ℤ) → SFits w64 z → ltZ z (pos 0) ≡ false → T (nonNeg z) × Fits w64 (natAbs z)

@@ -1,4 +1,4 @@
-// Prints requests, answers and tables.
+// Prints requests, answers and tables, for the programs that run worked figures through the calls. No promise: the kit's io says nothing of what was written.
 use libc::STDOUT_FILENO;
 use rules::Reply;
 ghost use mathlib.Core.Path.{_≡_};
@@ -14,9 +14,22 @@ pub fn legend() {
     printing::line(b"transfer: id, suffix, from, to, series");
     printing::line(b"merge: id, account, series; pairs of id and suffix");
     printing::line(b"lineage: id, suffix");
+    tables_legend();
+}
+
+pub fn tables_legend() {
     printing::text(b"records: count | id | suffix | parent | type | status | account | series");
     printing::line(b" | side code | quantity | price | long booked | short booked | into |");
     printing::line(b"positions: count | account | series | long | short | cash |");
+}
+
+// The same of a give-up.
+pub fn give_up_legend() {
+    printing::line(b"a step: process id, id, suffix, giving account, taking account, series");
+    printing::text(
+        b"processes: count | process id | id | suffix | giving account | taking account",
+    );
+    printing::line(b" | series | giver's approval | taker's approval | stage |");
 }
 
 // The name of an example, and its tables at the start.
@@ -167,4 +180,9 @@ pub fn tables(records: &[i64], positions: &[i64]) {
     table(records, 13);
     printing::text(b"positions: ");
     table(positions, 5);
+}
+
+pub fn processes(cells: &[i64]) {
+    printing::text(b"processes: ");
+    table(cells, 9);
 }

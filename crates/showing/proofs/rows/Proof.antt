@@ -1,10 +1,10 @@
--- `worked_main::show::rows` meets its contract: it is safe, since a row is shown only where there are cells for it, and it ends, since each turn passes a row.
+-- `showing::rows` meets its contract: it is safe, since a row is shown only where there are cells for it, and it ends, since each turn passes a row.
 -- Assumes nothing.
 use Prim.Native.Nat.{_≤_, _-_}
 use lib.ListN.{length}
 use borrow.Author.Needs.{needs}
-use Rattle.worked_main.proofs.show.rows.Statement.{statement}
-use Rattle.worked_main.proofs.show.rows.Tie as tie
+use Rattle.showing.proofs.rows.Statement.{statement}
+use Rattle.showing.proofs.rows.Tie as tie
 
 abbrev Inv-loop : tie.InvT-loop
 Inv-loop cells count width row₀ at₀ row at = (row ≤ count) × (at ≤ length cells)

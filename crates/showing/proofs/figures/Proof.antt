@@ -1,9 +1,9 @@
--- `worked_main::show::figures` meets its contract. The loop's invariant: `i` is at most the length; the measure is what is left of it. Assumes nothing.
+-- `showing::figures` meets its contract. The loop's invariant: `i` is at most the length; the measure is what is left of it. Assumes nothing.
 use Prim.Native.Nat.{_≤_, _-_}
 use lib.ListN.{length}
 use borrow.Author.Needs.{needs}
-use Rattle.worked_main.proofs.show.figures.Statement.{statement}
-use Rattle.worked_main.proofs.show.figures.Tie as tie
+use Rattle.showing.proofs.figures.Statement.{statement}
+use Rattle.showing.proofs.figures.Tie as tie
 
 abbrev Inv-loop : tie.InvT-loop
 Inv-loop all i₀ t3 i = i ≤ length all

@@ -1,4 +1,4 @@
--- `worked_main::show::run_end` meets its contract. The loop's invariant: the end lies past `at` and within the slice, and the cells from `at` to it are equal.
+-- `showing::run_end` meets its contract. The loop's invariant: the end lies past `at` and within the slice, and the cells from `at` to it are equal.
 -- Assumes nothing.
 use Prim.Native.Nat.{ℕ, _≤_, _<_, _-_}
 use mathlib.Core.Path.{_≡_, ap, sym, _∙_}
@@ -11,8 +11,8 @@ use borrow.Author.Count.{below-more}
 use lib.IntN.{ℤ, pos}
 use lib.ListN.{length, getD}
 use borrow.Author.Needs.{needs, sfits-of}
-use Rattle.worked_main.proofs.show.run_end.Statement.{statement}
-use Rattle.worked_main.proofs.show.run_end.Tie as tie
+use Rattle.showing.proofs.run_end.Statement.{statement}
+use Rattle.showing.proofs.run_end.Tie as tie
 
 abbrev Inv-loop : tie.InvT-loop
 Inv-loop cells at end₀ end = ((at < end) × (end ≤ length cells)) × ((k : ℕ) → k < end → at ≤ k → getD cells k (pos 0) ≡ getD cells at (pos 0))
