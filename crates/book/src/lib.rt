@@ -140,16 +140,16 @@ pub fn lineage(records: &[i64], id: i64, suffix: i64) -> Reply
 fn verdict_on_all_tables(records: &[i64], positions: &[i64], processes: &[i64]) -> Verdict
     ensures { λ r. ⌜ r ≡ verdictOnAllTables (now (records .entry)) (now (positions .entry)) (now (processes .entry)) ⌝ }
 {
-    if !scan::soundness::records_sound(records) {
-        return Verdict::Refused(1, 0);
+    match verdict_on_tables(records, positions) {
+        Verdict::Refused(number, place) => Verdict::Refused(number, place),
+        Verdict::Accepted => {
+            if scan::soundness::processes_sound(processes) {
+                Verdict::Accepted
+            } else {
+                Verdict::Refused(19, 0)
+            }
+        }
     }
-    if !scan::soundness::positions_sound(positions) {
-        return Verdict::Refused(2, 0);
-    }
-    if !scan::soundness::processes_sound(processes) {
-        return Verdict::Refused(19, 0);
-    }
-    Verdict::Accepted
 }
 
 // A step of a give-up: it names process, transaction, both accounts and series.
