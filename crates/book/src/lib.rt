@@ -1,7 +1,9 @@
-// The transaction book: the four requests and the one question, and a batch of trades, each on lent tables of any length and content and with any figures.
-// Each promise is one equation: the answer and the cells of both tables at the end are those of `handle` on the cells at entry and this request. A batch also writes
-// to a lent output; its promise gives every cell of it.
+// The transaction book: the four requests and the one question of document 01, a batch of trades, and the steps of a give-up, each on lent tables of any length and content and
+// with any figures. Each promise is one equation: the answer and the cells of the lent tables at the end are those of `handle` on the cells at entry and this request. A batch also
+// writes to a lent output; its promise gives every cell of it. The process table is lent to the steps of a give-up alone.
+use give_up_steps::Terms;
 use rules::Reply;
+use rules::Step;
 use verdict::Verdict;
 ghost use mathlib.Core.Path.{_≡_};
 ghost use mathlib.Core.List.{[]};
@@ -9,10 +11,11 @@ ghost use Rattle.rules.specs.Request as Request;
 ghost use lib.ListN.{length};
 ghost use Rattle.rules.specs.Call as Call;
 ghost use Rattle.rules.specs.Call.{handleCall};
-ghost use Rattle.rules.specs.Handle.{handle, answered};
+ghost use Rattle.rules.specs.Handle.{handle, answered, answeredBy};
 ghost use Rattle.rules.specs.Left.{left, leftBy};
-ghost use Rattle.rules.specs.Tables.{tablesOf};
+ghost use Rattle.rules.specs.Tables.{tablesOf, allTables};
 ghost use Rattle.verdict.specs.Verdict.{verdictOnTables};
+ghost use Rattle.give_up_steps.specs.OnAllTables.{verdictOnAllTables};
 
 // Tests 1 and 2: accepted where both tables are sound.
 fn verdict_on_tables(records: &[i64], positions: &[i64]) -> Verdict
@@ -131,4 +134,51 @@ pub fn lineage(records: &[i64], id: i64, suffix: i64) -> Reply
     ensures { λ r. ⌜ r ≡ (handle (tablesOf (now (records .entry)) []) (Request.lineage id suffix)) .reply ⌝ }
 {
     lineage::lineage(records, id, suffix)
+}
+
+// Tests 1, 2 and 19: accepted where all three tables are sound.
+fn verdict_on_all_tables(records: &[i64], positions: &[i64], processes: &[i64]) -> Verdict
+    ensures { λ r. ⌜ r ≡ verdictOnAllTables (now (records .entry)) (now (positions .entry)) (now (processes .entry)) ⌝ }
+{
+    match verdict_on_tables(records, positions) {
+        Verdict::Refused(number, place) => Verdict::Refused(number, place),
+        Verdict::Accepted => {
+            if scan::soundness::processes_sound(processes) {
+                Verdict::Accepted
+            } else {
+                Verdict::Refused(19, 0)
+            }
+        }
+    }
+}
+
+// A step of a give-up: it names process, transaction, both accounts and series.
+pub fn give_up(
+    records: &mut [i64],
+    positions: &mut [i64],
+    processes: &mut [i64],
+    step: Step,
+    process: i64,
+    id: i64,
+    suffix: i64,
+    giving: i64,
+    taking: i64,
+    series: i64,
+) -> Reply
+    ensures { λ r. ⌜ answeredBy r (allTables (now (records .exit)) (now (positions .exit)) (now (processes .exit))) ≡ handle (allTables (now (records .entry)) (now (positions .entry)) (now (processes .entry))) (Request.giveUp step process id suffix giving taking series) ⌝ }
+{
+    match verdict_on_all_tables(records, positions, processes) {
+        Verdict::Refused(number, place) => Reply::Refused(number, place),
+        Verdict::Accepted => {
+            let g = Terms {
+                process,
+                id,
+                suffix,
+                giving,
+                taking,
+                series,
+            };
+            give_up::on_sound(records, positions, processes, step, g)
+        }
+    }
 }

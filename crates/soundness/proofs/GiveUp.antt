@@ -123,7 +123,7 @@ progressed-sound p s giver taker stage a b c = record {
   stage = c;
 }
 
-stepped-sound : (step : Step) (p : ProcessRow) → SoundProcess p → SoundProcess (stepped step p)
+pub stepped-sound : (step : Step) (p : ProcessRow) → SoundProcess p → SoundProcess (stepped step p)
 unfolding stepped
 stepped-sound Open p s = s
 stepped-sound Claim p s = progressed-sound p s (p .giver) (p .taker) claimed (s .giver) (s .taker) stage-claimed
@@ -132,7 +132,7 @@ stepped-sound Refuse p s = progressed-sound p s (p .giver) (p .taker) refused (s
 stepped-sound ApproveGiver p s = progressed-sound p s (pos 1) (p .taker) (p .stage) approval (s .taker) (s .stage)
 stepped-sound ApproveTaker p s = progressed-sound p s (p .giver) (pos 1) (p .stage) (s .giver) approval (s .stage)
 
-finished-sound : (p : ProcessRow) → SoundProcess p → SoundProcess (finished p)
+pub finished-sound : (p : ProcessRow) → SoundProcess p → SoundProcess (finished p)
 unfolding finished
 finished-sound p s = progressed-sound p s (p .giver) (p .taker) (cond (isComplete p) done (p .stage)) (s .giver) (s .taker) (go (isComplete p))
   where

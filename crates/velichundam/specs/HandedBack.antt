@@ -1,8 +1,8 @@
--- What a host gets back from a call: the answer as four numbers, the cells of both lent tables, and those of an output where one is lent.
+-- What a host gets back from a call: the answer as four numbers, the cells of the lent tables, and those of an output where one is lent.
 use mathlib.Core.List.{List}
 use lib.IntN.{ℤ}
 use Rattle.rules.specs.Reply.{Code, codeOf}
-use Rattle.rules.specs.Tables.{Tables, tablesOf}
+use Rattle.rules.specs.Tables.{Tables, allTables, tablesOf}
 use Rattle.rules.specs.Handle.{Answer}
 use Rattle.rules.specs.Left.{Left}
 
@@ -21,6 +21,10 @@ codeFrom kind first second third = record { kind = kind; first = first; second =
 -- What a call leaves: the four numbers that it returns, and the cells at its exit.
 abbrev pub handedBack : (kind first second third : ℤ) → (records positions : List ℤ) → HandedBack
 handedBack kind first second third records positions = record { code = codeFrom kind first second third; tables = tablesOf records positions }
+
+-- The same of a call that is lent the process table too.
+abbrev pub handedBackAll : (kind first second third : ℤ) → (records positions processes : List ℤ) → HandedBack
+handedBackAll kind first second third records positions processes = record { code = codeFrom kind first second third; tables = allTables records positions processes }
 
 -- The same of a call that is lent an output.
 pub record HandedBackWith : Type 0 where

@@ -1,7 +1,8 @@
 // The C interface of the transaction book, and nothing else: include/velichundam.h says it to a host.
 // A slice is passed as a pointer and a length. Each promise is the promise of the call behind it: the four numbers that are returned, and the cells
-// of both tables at the end, are those of `handle` on the cells at entry and this request, its answer coded by `codeOf`.
+// of the lent tables at the end, are those of `handle` on the cells at entry and this request, its answer coded by `codeOf`.
 use rules::Reply;
+use rules::Step;
 ghost use mathlib.Core.Path.{_≡_};
 ghost use mathlib.Core.List.{[]};
 ghost use Rattle.rules.specs.Reply.{codeOf};
@@ -11,8 +12,9 @@ ghost use Rattle.rules.specs.Call as Call;
 ghost use Rattle.rules.specs.Call.{handleCall};
 ghost use Rattle.rules.specs.Left.{leftBy};
 ghost use Rattle.rules.specs.Handle.{handle};
-ghost use Rattle.rules.specs.Tables.{tablesOf};
-ghost use Rattle.velichundam.specs.HandedBack.{inNumbers, codeFrom, handedBack, inNumbersWith, handedBackWith};
+ghost use Rattle.rules.specs.Tables.{tablesOf, allTables};
+ghost use Rattle.rules.specs.declared.Step.the-variants.{Open, Claim, Cancel, Refuse, ApproveGiver, ApproveTaker};
+ghost use Rattle.velichundam.specs.HandedBack.{inNumbers, codeFrom, handedBack, handedBackAll, inNumbersWith, handedBackWith};
 
 // An answer as C reads it: which it is, and what it carries.
 #[repr(C)]
@@ -152,4 +154,173 @@ pub extern "C" fn velichundam_lineage(records: &[i64], id: i64, suffix: i64) -> 
     ensures { λ c. ⌜ codeFrom (c .kind) (c .first) (c .second) (c .third) ≡ codeOf ((handle (tablesOf (now (records .entry)) []) (Request.lineage id suffix)) .reply) ⌝ }
 {
     code_of(book::lineage(records, id, suffix))
+}
+
+// The steps of a give-up. They alone are lent the process table.
+#[no_mangle]
+pub extern "C" fn velichundam_give_up_open(
+    records: &mut [i64],
+    positions: &mut [i64],
+    processes: &mut [i64],
+    process: i64,
+    id: i64,
+    suffix: i64,
+    giving: i64,
+    taking: i64,
+    series: i64,
+) -> Coded
+    ensures { λ c. ⌜ handedBackAll (c .kind) (c .first) (c .second) (c .third) (now (records .exit)) (now (positions .exit)) (now (processes .exit)) ≡ inNumbers (handle (allTables (now (records .entry)) (now (positions .entry)) (now (processes .entry))) (Request.giveUp Open process id suffix giving taking series)) ⌝ }
+{
+    code_of(book::give_up(
+        records,
+        positions,
+        processes,
+        Step::Open,
+        process,
+        id,
+        suffix,
+        giving,
+        taking,
+        series,
+    ))
+}
+
+#[no_mangle]
+pub extern "C" fn velichundam_give_up_claim(
+    records: &mut [i64],
+    positions: &mut [i64],
+    processes: &mut [i64],
+    process: i64,
+    id: i64,
+    suffix: i64,
+    giving: i64,
+    taking: i64,
+    series: i64,
+) -> Coded
+    ensures { λ c. ⌜ handedBackAll (c .kind) (c .first) (c .second) (c .third) (now (records .exit)) (now (positions .exit)) (now (processes .exit)) ≡ inNumbers (handle (allTables (now (records .entry)) (now (positions .entry)) (now (processes .entry))) (Request.giveUp Claim process id suffix giving taking series)) ⌝ }
+{
+    code_of(book::give_up(
+        records,
+        positions,
+        processes,
+        Step::Claim,
+        process,
+        id,
+        suffix,
+        giving,
+        taking,
+        series,
+    ))
+}
+
+#[no_mangle]
+pub extern "C" fn velichundam_give_up_cancel(
+    records: &mut [i64],
+    positions: &mut [i64],
+    processes: &mut [i64],
+    process: i64,
+    id: i64,
+    suffix: i64,
+    giving: i64,
+    taking: i64,
+    series: i64,
+) -> Coded
+    ensures { λ c. ⌜ handedBackAll (c .kind) (c .first) (c .second) (c .third) (now (records .exit)) (now (positions .exit)) (now (processes .exit)) ≡ inNumbers (handle (allTables (now (records .entry)) (now (positions .entry)) (now (processes .entry))) (Request.giveUp Cancel process id suffix giving taking series)) ⌝ }
+{
+    code_of(book::give_up(
+        records,
+        positions,
+        processes,
+        Step::Cancel,
+        process,
+        id,
+        suffix,
+        giving,
+        taking,
+        series,
+    ))
+}
+
+#[no_mangle]
+pub extern "C" fn velichundam_give_up_refuse(
+    records: &mut [i64],
+    positions: &mut [i64],
+    processes: &mut [i64],
+    process: i64,
+    id: i64,
+    suffix: i64,
+    giving: i64,
+    taking: i64,
+    series: i64,
+) -> Coded
+    ensures { λ c. ⌜ handedBackAll (c .kind) (c .first) (c .second) (c .third) (now (records .exit)) (now (positions .exit)) (now (processes .exit)) ≡ inNumbers (handle (allTables (now (records .entry)) (now (positions .entry)) (now (processes .entry))) (Request.giveUp Refuse process id suffix giving taking series)) ⌝ }
+{
+    code_of(book::give_up(
+        records,
+        positions,
+        processes,
+        Step::Refuse,
+        process,
+        id,
+        suffix,
+        giving,
+        taking,
+        series,
+    ))
+}
+
+#[no_mangle]
+pub extern "C" fn velichundam_give_up_approve_giver(
+    records: &mut [i64],
+    positions: &mut [i64],
+    processes: &mut [i64],
+    process: i64,
+    id: i64,
+    suffix: i64,
+    giving: i64,
+    taking: i64,
+    series: i64,
+) -> Coded
+    ensures { λ c. ⌜ handedBackAll (c .kind) (c .first) (c .second) (c .third) (now (records .exit)) (now (positions .exit)) (now (processes .exit)) ≡ inNumbers (handle (allTables (now (records .entry)) (now (positions .entry)) (now (processes .entry))) (Request.giveUp ApproveGiver process id suffix giving taking series)) ⌝ }
+{
+    code_of(book::give_up(
+        records,
+        positions,
+        processes,
+        Step::ApproveGiver,
+        process,
+        id,
+        suffix,
+        giving,
+        taking,
+        series,
+    ))
+}
+
+#[no_mangle]
+pub extern "C" fn velichundam_give_up_approve_taker(
+    records: &mut [i64],
+    positions: &mut [i64],
+    processes: &mut [i64],
+    process: i64,
+    id: i64,
+    suffix: i64,
+    giving: i64,
+    taking: i64,
+    series: i64,
+) -> Coded
+    ensures { λ c. ⌜ handedBackAll (c .kind) (c .first) (c .second) (c .third) (now (records .exit)) (now (positions .exit)) (now (processes .exit)) ≡ inNumbers (handle (allTables (now (records .entry)) (now (positions .entry)) (now (processes .entry))) (Request.giveUp ApproveTaker process id suffix giving taking series)) ⌝ }
+{
+    code_of(book::give_up(
+        records,
+        positions,
+        processes,
+        Step::ApproveTaker,
+        process,
+        id,
+        suffix,
+        giving,
+        taking,
+        series,
+    ))
 }

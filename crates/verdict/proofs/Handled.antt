@@ -56,7 +56,7 @@ accepted-before (t ∷ tests) others h = go (t .applies) (accepted-before tests 
     go false later k = later k
 
 -- Two tests that accept both hold.
-both-hold : (a b : Bool) (n m : ℕ) → verdictOf (firstRefusal (test n (not a) ∷ test m (not b) ∷ [])) ≡ Verdict.Accepted → (a ≡ true) × (b ≡ true)
+pub both-hold : (a b : Bool) (n m : ℕ) → verdictOf (firstRefusal (test n (not a) ∷ test m (not b) ∷ [])) ≡ Verdict.Accepted → (a ≡ true) × (b ≡ true)
 unfolding firstRefusal test verdictOf
 both-hold true true n m h = (refl, refl)
 both-hold true false n m h = let z : _≡_ {A = ℕ} 0 1 = cc in absurd (omega arith)

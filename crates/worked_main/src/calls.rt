@@ -1,5 +1,4 @@
 // The calls, each printed: its figures and its list, the answer, and both tables as it leaves them.
-use super::show;
 
 pub fn trade(
     records: &mut [i64],
@@ -11,7 +10,7 @@ pub fn trade(
     quantity: i64,
     price: i64,
 ) {
-    show::request(b"trade", &[id, account, series, side, quantity, price], &[]);
+    showing::request(b"trade", &[id, account, series, side, quantity, price], &[]);
     let r = book::trade(
         &mut *records,
         &mut *positions,
@@ -22,16 +21,16 @@ pub fn trade(
         quantity,
         price,
     );
-    show::reply(r);
-    show::tables(records, positions);
+    showing::reply(r);
+    showing::tables(records, positions);
 }
 
 pub fn trades(records: &mut [i64], positions: &mut [i64], figures: &[i64], excess: &mut [i64]) {
-    show::request(b"batch", &[], figures);
+    showing::request(b"batch", &[], figures);
     let r = book::trades(&mut *records, &mut *positions, figures, &mut *excess);
-    show::reply(r);
-    show::excesses(excess);
-    show::tables(records, positions);
+    showing::reply(r);
+    showing::excesses(excess);
+    showing::tables(records, positions);
 }
 
 pub fn separate(
@@ -43,7 +42,7 @@ pub fn separate(
     series: i64,
     parts: &[i64],
 ) {
-    show::request(b"separation", &[id, suffix, account, series], parts);
+    showing::request(b"separation", &[id, suffix, account, series], parts);
     let r = book::separate(
         &mut *records,
         &mut *positions,
@@ -53,8 +52,8 @@ pub fn separate(
         series,
         parts,
     );
-    show::reply(r);
-    show::tables(records, positions);
+    showing::reply(r);
+    showing::tables(records, positions);
 }
 
 pub fn transfer(
@@ -66,10 +65,10 @@ pub fn transfer(
     to: i64,
     series: i64,
 ) {
-    show::request(b"transfer", &[id, suffix, from, to, series], &[]);
+    showing::request(b"transfer", &[id, suffix, from, to, series], &[]);
     let r = book::transfer(&mut *records, &mut *positions, id, suffix, from, to, series);
-    show::reply(r);
-    show::tables(records, positions);
+    showing::reply(r);
+    showing::tables(records, positions);
 }
 
 pub fn merge(
@@ -80,15 +79,15 @@ pub fn merge(
     series: i64,
     pairs: &[i64],
 ) {
-    show::request(b"merge", &[id, account, series], pairs);
+    showing::request(b"merge", &[id, account, series], pairs);
     let r = book::merge(&mut *records, &mut *positions, id, account, series, pairs);
-    show::reply(r);
-    show::tables(records, positions);
+    showing::reply(r);
+    showing::tables(records, positions);
 }
 
 // It is lent no positions; they are shown as they stand.
 pub fn lineage(records: &[i64], positions: &[i64], id: i64, suffix: i64) {
-    show::request(b"lineage", &[id, suffix], &[]);
-    show::reply(book::lineage(records, id, suffix));
-    show::tables(records, positions);
+    showing::request(b"lineage", &[id, suffix], &[]);
+    showing::reply(book::lineage(records, id, suffix));
+    showing::tables(records, positions);
 }

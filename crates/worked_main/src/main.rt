@@ -2,13 +2,12 @@
 // of the rules, with the same cells at the start and the same requests in the same order. Printed are the tables at the start, and after each request
 // its answer and both tables, the cells past the last row too. A cell that holds no row is -1 at the start.
 mod calls;
-mod show;
 
 // P1 to P3: a trade to close.
 fn closing(name: &[u8], positions: &mut [i64], quantity: i64) {
     let mut records = [-1; 27];
     records[0] = 0;
-    show::start(name, &records, positions);
+    showing::start(name, &records, positions);
     calls::trade(&mut records, positions, 7, 1, 1, 3, quantity, 5);
 }
 
@@ -18,7 +17,7 @@ fn merging(name: &[u8], side: i64, q1: i64, p1: i64, q2: i64, p2: i64) {
     let mut positions = [-1; 6];
     records[0] = 0;
     positions[0] = 0;
-    show::start(name, &records, &positions);
+    showing::start(name, &records, &positions);
     calls::trade(&mut records, &mut positions, 1, 4, 9, side, q1, p1);
     calls::trade(&mut records, &mut positions, 2, 4, 9, side, q2, p2);
     calls::merge(&mut records, &mut positions, 3, 4, 9, &[1, 0, 2, 0]);
@@ -30,7 +29,7 @@ fn separating(name: &[u8], quantity: i64, parts: &[i64]) {
     let mut positions = [-1; 6];
     records[0] = 0;
     positions[0] = 0;
-    show::start(name, &records, &positions);
+    showing::start(name, &records, &positions);
     calls::trade(&mut records, &mut positions, 8, 1, 1, 1, quantity, 5);
     calls::separate(&mut records, &mut positions, 8, 0, 1, 1, parts);
 }
@@ -41,7 +40,7 @@ fn p10() {
     let mut positions = [-1; 6];
     records[0] = 0;
     positions[0] = 0;
-    show::start(b"P10", &records, &positions);
+    showing::start(b"P10", &records, &positions);
     calls::trade(&mut records, &mut positions, 8, 1, 1, 1, 100, 5);
     calls::merge(&mut records, &mut positions, 9, 1, 1, &[8, 0, 8, 0]);
 }
@@ -52,7 +51,7 @@ fn p11() {
     let mut positions = [-1; 16];
     records[0] = 0;
     positions[0] = 0;
-    show::start(b"P11", &records, &positions);
+    showing::start(b"P11", &records, &positions);
     calls::trade(
         &mut records,
         &mut positions,
@@ -73,13 +72,13 @@ fn trading(name: &[u8], side: i64, quantity: i64, price: i64) {
     let mut positions = [-1; 6];
     records[0] = 0;
     positions[0] = 0;
-    show::start(name, &records, &positions);
+    showing::start(name, &records, &positions);
     calls::trade(&mut records, &mut positions, 7, 1, 1, side, quantity, price);
 }
 
 // The same trade on tables without room.
 fn without_room(name: &[u8], records: &mut [i64], positions: &mut [i64]) {
-    show::start(name, records, positions);
+    showing::start(name, records, positions);
     calls::trade(records, positions, 7, 1, 1, 1, 100, 5);
 }
 
@@ -88,7 +87,7 @@ fn shared_id() {
     let mut positions = [-1; 6];
     records[0] = 0;
     positions[0] = 0;
-    show::start(
+    showing::start(
         b"Two sources that share an id, and lineage",
         &records,
         &positions,
@@ -142,7 +141,7 @@ fn batch(name: &[u8], figures: &[i64], excess: &mut [i64]) {
     let mut records = [-1; 40];
     let mut positions = [1, 1, 1, 100, 120, 0, -1, -1, -1, -1, -1];
     records[0] = 0;
-    show::start(name, &records, &positions);
+    showing::start(name, &records, &positions);
     calls::trades(&mut records, &mut positions, figures, excess);
 }
 
@@ -197,7 +196,7 @@ fn batches() {
 }
 
 fn main() {
-    show::legend();
+    showing::legend();
     proved();
     others();
     batches();

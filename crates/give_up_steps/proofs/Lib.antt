@@ -1,0 +1,4 @@
+pub mod Answering
+pub mod OnAllTables
+pub mod StepVerdict
+pub mod StepBooked

@@ -1,0 +1,160 @@
+-- The verdict on a step in the shape in which code meets it: test by test up to the record, then the tests of the record, then the room of the process table or, where the step
+-- completes, the tests of what moves. On sound tables. Assumes nothing.
+use Prim.Native.Nat.{ℕ, _+_, _≤_}
+use native.Mathlib.Omega.{arith}
+use mathlib.Core.Path.{_≡_, refl, sym, _∙_, ap, subst}
+use mathlib.Core.Bool.{Bool, true, false, cond, not, _&&_}
+use mathlib.Core.List.{List, [], _∷_, _++_, map}
+use mathlib.Core.Option.{Option, none, some}
+use lib.Dec.{ltb}
+use lib.IntN.{ℤ, pos}
+use lib.ListN.{length}
+use borrow.Author.Tests.{le-ltb}
+use Rattle.integers.specs.Order.{eqZ}
+use Rattle.rules.specs.Figures.{isToClose, transferKind, underGiveUp, giveUpKind, takeUpKind}
+use Rattle.rules.specs.Keyed.{isSome, find, greatest, absentFrom}
+use Rattle.rules.specs.Rows.{keyOf, recordKey, positionKey, orZeros, soundPosition}
+use Rattle.rules.specs.ProcessRows.{processKey}
+use Rattle.rules.specs.NamedRecord.{theRecord, nextSuffix, isElsewhere, statusTest}
+use Rattle.rules.specs.Refusal.{Test, test, anyOf, allOf, firstRefusal}
+use Rattle.rules.specs.Request.{Request, giveUp}
+use Rattle.rules.specs.Books.{Books, viewOf}
+use Rattle.rules.specs.Plan.{Effects, withProcessRow, suffixIsAbove, processRoomTest, bookingTests, planTests}
+use Rattle.rules.specs.Transfer.{holdsTooLittle}
+use Rattle.rules.specs.GiveUp.{giveUpFigures, isOpening, isOutOfTurn, stepped, isComplete, stepStatusTest, stepEffects, finished, giveUpEffects, processBefore, giveUpPlan}
+use Rattle.rules.specs.Layout.{roomOf, rowsOf}
+use Rattle.rules.specs.Tables.{Tables, allTables, tablesOf, booksOf, recordsLayout, positionsLayout, processesLayout}
+use Rattle.rules.specs.Handle.{planOf}
+use Rattle.rules.specs.declared.Record.{Record}
+use Rattle.rules.specs.declared.Position.{Position}
+use Rattle.rules.specs.declared.ProcessRow.{ProcessRow}
+use Rattle.rules.specs.declared.Step.{Step}
+use Rattle.keys.proofs.Clauses.{isSome-none, isSome-some, absentFrom-nil, absentFrom-new, absentFrom-old}
+use Rattle.keys.proofs.Greatest.{greatest-none}
+use Rattle.cells.proofs.SoundCells.{records-known, positions-known, processes-known}
+use Rattle.soundness.specs.SoundTables.{SoundTables}
+use Rattle.verdict.specs.Verdict.{verdictOf, verdictIn}
+use Rattle.verdict.specs.Moving.{movingEffects, movingVerdict}
+use Rattle.verdict.specs.declared.Verdict.{Verdict}
+use Rattle.verdict.specs.declared.Verdict.the-variants.{Accepted, Refused}
+use Rattle.verdict.proofs.Remaining.{verdictBy, Remaining, _past_, stops, ends}
+use Rattle.verdict.proofs.Moving.{moving-step}
+use Rattle.give_up_steps.specs.StepTests.{openingTests, laterTests}
+
+-- Tests that pass at the end of a list change nothing.
+passing-end : (xs ys : List Test) → firstRefusal ys ≡ none → firstRefusal (xs ++ ys) ≡ firstRefusal xs
+unfolding firstRefusal
+passing-end [] ys h = h
+passing-end (t ∷ xs) ys h = ap (λ (o : Option Test). cond (t .applies) (some t) o) (passing-end xs ys h)
+
+module _ (rs ps qs : List ℤ) (process id suffix giving taking series : ℤ) where
+  abbrev pub t : Tables
+  t = allTables rs ps qs
+
+  abbrev pub request : Step → Request
+  request step = giveUp step process id suffix giving taking series
+
+  abbrev pub used : Option ℤ
+  used = greatest processKey process (rowsOf processesLayout qs)
+
+  abbrev pub foundProcess : Option ProcessRow
+  foundProcess = find processKey (keyOf process id) (rowsOf processesLayout qs)
+
+  abbrev pub foundRecord : Option Record
+  foundRecord = find recordKey (keyOf id suffix) (rowsOf recordsLayout rs)
+
+  abbrev pub next : ℤ
+  next = nextSuffix (greatest recordKey id (rowsOf recordsLayout rs))
+
+  abbrev pub old : Position
+  old = orZeros giving series (find positionKey (keyOf giving series) (rowsOf positionsLayout ps))
+
+  abbrev pub new : Position
+  new = orZeros taking series (find positionKey (keyOf taking series) (rowsOf positionsLayout ps))
+
+  -- What the step makes of the process.
+  abbrev pub after : Step → ProcessRow
+  after step = stepped step (processBefore step process id suffix giving taking series foundProcess)
+
+  -- The tests from 12 on, and from 6 on, of the record r.
+  abbrev pub tail : Step → Record → List Test
+  tail step r = test 12 (isComplete (after step) && holdsTooLittle r old) ∷ bookingTests (booksOf t) (giveUpEffects step r (after step) next taking old new)
+
+  abbrev pub fromRecord : Step → Record → List Test
+  fromRecord step r = test 6 (isElsewhere giving series r) ∷ stepStatusTest step r ∷ test 8 (isToClose (r .side)) ∷ tail step r
+
+  abbrev pub Judged : Step → List Test → Type 0
+  Judged step tests = Remaining (verdictIn t (request step)) tests
+
+  all-tests : (step : Step) → Judged step
+      (test 3 (not (giveUpFigures process id suffix giving taking series)) ∷ test 18 (isOutOfTurn step suffix giving taking series used foundProcess)
+      ∷ test 5 (not (isSome foundRecord)) ∷ fromRecord step (theRecord foundRecord))
+  unfolding verdictIn planOf giveUpPlan planTests viewOf booksOf
+  all-tests step = record { is = refl }
+
+  -- Past 3; past 18; past 5, where r is the record.
+  pub past-figures : (step : Step) → giveUpFigures process id suffix giving taking series ≡ true → Judged step
+      (test 18 (isOutOfTurn step suffix giving taking series used foundProcess) ∷ test 5 (not (isSome foundRecord)) ∷ fromRecord step (theRecord foundRecord))
+  unfolding test
+  past-figures step figures = all-tests step past ap not figures
+
+  pub past-turn : (step : Step) → giveUpFigures process id suffix giving taking series ≡ true → isOutOfTurn step suffix giving taking series used foundProcess ≡ false
+      → Judged step (test 5 (not (isSome foundRecord)) ∷ fromRecord step (theRecord foundRecord))
+  unfolding test
+  past-turn step figures turn = past-figures step figures past turn
+
+  pub past-found : (step : Step) → giveUpFigures process id suffix giving taking series ≡ true → isOutOfTurn step suffix giving taking series used foundProcess ≡ false
+      → (r : Record) → foundRecord ≡ some r → Judged step (fromRecord step r)
+  unfolding test theRecord
+  past-found step figures turn r e =
+      subst (λ (o : Option Record). Judged step (fromRecord step (theRecord o))) e
+      (past-turn step figures turn past (ap (λ (o : Option Record). not (isSome o)) e ∙ ap not (isSome-some r)))
+
+  -- Each of these refuses.
+  pub refuses-figures : (step : Step) → giveUpFigures process id suffix giving taking series ≡ false → verdictIn t (request step) ≡ Refused (pos 3) (pos 0)
+  unfolding test
+  refuses-figures step h = sym (stops (all-tests step) (ap not h))
+
+  pub refuses-turn : (step : Step) → giveUpFigures process id suffix giving taking series ≡ true → isOutOfTurn step suffix giving taking series used foundProcess ≡ true
+      → verdictIn t (request step) ≡ Refused (pos 18) (pos 0)
+  unfolding test
+  refuses-turn step figures h = sym (stops (past-figures step figures) h)
+
+  pub refuses-missing : (step : Step) → giveUpFigures process id suffix giving taking series ≡ true → isOutOfTurn step suffix giving taking series used foundProcess ≡ false
+      → foundRecord ≡ none → verdictIn t (request step) ≡ Refused (pos 5) (pos 0)
+  unfolding test
+  refuses-missing step figures turn e =
+      sym (stops (past-turn step figures turn) (ap (λ (o : Option Record). not (isSome o)) e ∙ ap not (isSome-none Record)))
+
+  -- ---- the tests from 12 on
+
+  module _ (sound : SoundTables t) where
+    -- A step that does not complete has that of the process table's room alone.
+    pub step-tail : (step : Step) (r : Record) → isComplete (after step) ≡ false → firstRefusal (tail step r) ≡ firstRefusal (processRoomTest (booksOf t) (some (finished (after step))))
+    unfolding giveUpEffects bookingTests booksOf test firstRefusal anyOf allOf
+    step-tail step r h =
+        let room : ltb (roomOf recordsLayout rs) (length (rowsOf recordsLayout rs) + 0) ≡ false =
+        le-ltb (roomOf recordsLayout rs) (length (rowsOf recordsLayout rs) + 0) (omega (arith, records-known rs (sound .records) .rows-fit)) in
+        let fits : ltb (roomOf positionsLayout ps) (length (rowsOf positionsLayout ps) + absentFrom positionKey (rowsOf positionsLayout ps) []) ≡ false =
+        le-ltb (roomOf positionsLayout ps) (length (rowsOf positionsLayout ps) + absentFrom positionKey (rowsOf positionsLayout ps) [])
+        (omega (arith, positions-known ps (sound .positions) .rows-fit, absentFrom-nil positionKey (rowsOf positionsLayout ps))) in
+        rw (h, room, fits)
+
+    -- The row of a process that is there needs no room.
+    pub present-room : (p x : ProcessRow) → find processKey (processKey p) (rowsOf processesLayout qs) ≡ some x → firstRefusal (processRoomTest (booksOf t) (some p)) ≡ none
+    unfolding processRoomTest booksOf test firstRefusal
+    present-room p x e =
+        let fits : ltb (roomOf processesLayout qs) (length (rowsOf processesLayout qs) + absentFrom processKey (rowsOf processesLayout qs) (p ∷ [])) ≡ false =
+        le-ltb (roomOf processesLayout qs) (length (rowsOf processesLayout qs) + absentFrom processKey (rowsOf processesLayout qs) (p ∷ []))
+        (omega (arith, processes-known qs (sound .processes) .rows-fit, absentFrom-old processKey (rowsOf processesLayout qs) p x [] e, absentFrom-nil processKey (rowsOf processesLayout qs))) in
+        rw fits
+
+    -- A step that completes has those of a record that moves, and then that of the room.
+    pub complete-tail : (step : Step) (r : Record) → isComplete (after step) ≡ true
+        → firstRefusal (processRoomTest (booksOf t) (some (finished (after step)))) ≡ none → verdictBy (tail step r) ≡ movingVerdict rs ps r id giving taking series
+    unfolding giveUpEffects movingVerdict
+    complete-tail step r h room =
+        ap (λ (b : Bool). verdictBy (test 12 (b && holdsTooLittle r old)
+        ∷ bookingTests (booksOf t) (withProcessRow (finished (after step)) (cond b (movingEffects giveUpKind takeUpKind rs ps r id giving taking series) (stepEffects step r))))) h
+        ∙ ap (λ (tests : List Test). verdictBy (test 12 (holdsTooLittle r old) ∷ tests)) (moving-step rs ps id giving taking series r giveUpKind takeUpKind qs (finished (after step)))
+        ∙ ap verdictOf (passing-end (test 12 (holdsTooLittle r old) ∷ bookingTests (booksOf (tablesOf rs ps)) (movingEffects transferKind transferKind rs ps r id giving taking series)) (processRoomTest (booksOf t) (some (finished (after step)))) room)

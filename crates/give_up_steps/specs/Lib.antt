@@ -1,0 +1,4 @@
+pub mod HandledIn
+pub mod OnAllTables
+pub mod StepTests
+pub mod Terms

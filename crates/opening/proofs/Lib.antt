@@ -1,0 +1,2 @@
+pub mod OpeningStep
+pub mod OpeningTests
