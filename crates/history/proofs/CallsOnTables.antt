@@ -1,4 +1,4 @@
--- Demand 2 on the cells of the two tables, of every call: sound tables stay sound, and cell 0 of the records table grows by the rows that the answer names, on any tables; for a batch
+-- Demand 2 on the cells of the tables, of every call: sound tables stay sound, and cell 0 of the records table grows by the rows that the answer names, on any tables; for a batch
 -- these are the trades that it booked, stopped or not. By the same of its requests (OnTables). Assumes nothing.
 use Prim.Native.Nat.{ℕ, zero, suc, _+_}
 use native.Mathlib.Omega.{arith}
@@ -31,7 +31,7 @@ done-sound : (done : List Done) (t end : Tables) → DoneFrom t done end → Sou
 done-sound [] t end h sound = subst (λ (u : Tables). SoundTables u) h sound
 done-sound (d ∷ rest) t end h sound = done-sound rest (handle t (d .request) .tables) end (h .1) (stays-sound t sound (d .request))
 
--- From tables that pass tests 1 and 2, whatever the call, the tables afterwards pass them.
+-- From tables that pass tests 1, 2 and 19, whatever the call, the tables afterwards pass them.
 pub calls-stay-sound : (t : Tables) → SoundTables t → (c : Call) → SoundTables (handleCall t c .tables)
 unfolding handleCall handleBatch answer batchAnswer
 calls-stay-sound t sound (one r) = stays-sound t sound r

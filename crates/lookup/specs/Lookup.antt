@@ -19,7 +19,7 @@ use Rattle.lookup.specs.declared.Greatest.the-variants.{Suffix, Nothing}
 use Rattle.lookup.specs.declared.Sought.{Sought}
 use Rattle.lookup.specs.declared.Sought.the-variants as Sought
 
--- A row's key is its first two cells, in both tables.
+-- A row's key is its first two cells, in every table.
 abbrev pub keyAt : List ℤ → ℕ → Key
 keyAt cells at = keyOf (getD cells at (pos 0)) (getD cells (at + 1) (pos 0))
 

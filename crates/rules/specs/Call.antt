@@ -1,4 +1,4 @@
--- What a host hands in by one call: a request of document 01, or a batch of trades (document 02, K1).
+-- What a host hands in by one call: a request, or a batch of trades (document 02, K1).
 use Prim.Native.Nat.{ℕ}
 use mathlib.Core.List.{List, [], _∷_}
 use lib.IntN.{ℤ}
@@ -12,7 +12,7 @@ pub data Call : Type 0 where
   one : Request → Call
   trades : (figures : List ℤ) (cells : ℕ) → Call
 
--- What it does to the two lent tables, whatever their cells and its figures.
+-- What it does to the lent tables, whatever their cells and its figures.
 unfoldable pub handleCall : Tables → Call → Answer
 handleCall t (one r) = handle t r
 handleCall t (trades figures cells) = handleBatch t figures cells

@@ -1,4 +1,4 @@
--- The rows of the two tables: their keys, their ranges ("Sound records", "Sound positions"), and how rules make one row from another.
+-- The rows of records and positions: their keys, their ranges ("Sound records", "Sound positions"), and how rules make one row from another.
 use mathlib.Core.Bool.{Bool, not, _&&_, _||_, Bool·beq}
 use mathlib.Core.Option.{Option, none, some}
 use lib.IntN.{ℤ, pos, negℤ, _+ℤ_}

@@ -18,7 +18,7 @@ emptyCells cells = pos 0 ∷ replicate cells (pos 0)
 abbrev pub emptyTables : (records positions processes : ℕ) → Tables
 emptyTables records positions processes = allTables (emptyCells records) (emptyCells positions) (emptyCells processes)
 
--- The same of the two tables that every request is lent.
+-- The same of the two tables that a request is lent which is no step of a give-up.
 abbrev pub empty : ℕ → ℕ → Tables
 empty records positions = tablesOf (emptyCells records) (emptyCells positions)
 

@@ -1,23 +1,17 @@
--- What the code's tests on a field of a process say of its figure: bits are equal exactly where the figures are. And what a call's answer says once it was branched on.
--- Assumes nothing.
-use mathlib.Core.Path.{_≡_, sym, _∙_}
-use mathlib.Core.Bool.{Bool, true, false, not}
+-- What the code's tests on a field of a process say of its figure: bits are equal exactly where the figures are. Assumes nothing.
+use mathlib.Core.Path.{_≡_}
+use mathlib.Core.Bool.{true, false}
 use Prim.Native.Nat.{ℕ, _<_, _^_}
 use borrow.Author.Needs.{sfits-of}
-use borrow.Author.Tests.{not-true, not-false}
 use lib.Dec.{T, eqb, ltb}
 use lib.IntN.{ℤ, pos}
 use lib.Signed.{mag}
-use mir.Facts.{toZ-ofZ, sfits-lit}
+use mir.Facts.{sfits-lit}
 use mir.Syntax.{w64}
-use mir.Val.{SFits, toZ, ofZ}
+use mir.Val.{SFits, ofZ}
 use Rattle.integers.specs.Order.{eqZ}
 use Rattle.integers.proofs.Parts.{true-eqZ, false-eqZ}
 use Rattle.integers.proofs.Bits.{ofZ-inj, eqb-ofZ}
-
--- A field read back from its bits.
-pub read-back : (z : ℤ) → mag z < 2 ^ 63 → toZ w64 (ofZ w64 z) ≡ z
-read-back z h = toZ-ofZ (sfits-of {w = w64} {z = z} h)
 
 -- ---- a field against a number: they are the same, they are not, the test's outcome
 
@@ -40,11 +34,3 @@ not-literal z k n = is-other z (pos k) n
 
 pub literal-test : (z : ℤ) (k : ℕ) → T (ltb k (2 ^ 63)) → mag z < 2 ^ 63 → eqb (ofZ w64 z) k ≡ eqZ z (pos k)
 literal-test z k t h = same-test z (pos k) h (sfits-lit {z = pos k} t)
-
--- ---- a call's answer `r`, which equals a test: the branch on `!r` was taken, or left
-
-pub failed : {r t : Bool} → r ≡ t → not r ≡ true → t ≡ false
-failed {r} e h = sym e ∙ not-true r h
-
-pub passed : {r t : Bool} → r ≡ t → not r ≡ false → t ≡ true
-passed {r} e h = sym e ∙ not-false r h

@@ -1,7 +1,8 @@
 -- `stages::is_complete` meets its contract: claimed, and both cells 1. Assumes nothing.
 use borrow.Author.Needs.{needs}
 use Rattle.rules.specs.GiveUp.{isComplete}
-use Rattle.stages.proofs.FieldTests.{is-literal, not-literal, literal-test, failed, passed}
+use Rattle.figures.proofs.Tests.{failed, passed}
+use Rattle.stages.proofs.FieldTests.{is-literal, not-literal, literal-test}
 use Rattle.stages.proofs.is_complete.Statement.{statement}
 use Rattle.stages.proofs.is_complete.Tie as tie
 

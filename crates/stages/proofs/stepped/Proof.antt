@@ -7,7 +7,7 @@ use Rattle.rules.specs.declared.Process.{Process}
 use Rattle.rules.specs.declared.ProcessRow.{ProcessRow}
 use Rattle.rules.specs.declared.Step.{Step}
 use Rattle.rules.specs.declared.Step.the-variants.{ApproveGiver, ApproveTaker}
-use Rattle.stages.proofs.FieldTests.{read-back}
+use Rattle.scan.proofs.ReadBack.{read-back}
 use Rattle.stages.proofs.stepped.Statement.{statement}
 use Rattle.stages.proofs.stepped.Tie as tie
 
