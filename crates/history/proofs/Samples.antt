@@ -4,6 +4,8 @@ use mathlib.Core.Path.{_≡_, refl, sym, subst}
 use mathlib.Core.Bool.{true}
 use mathlib.Core.List.{List, [], _∷_}
 use lib.IntN.{pos}
+use Rattle.rules.specs.Rows.{keyOf}
+use Rattle.rules.specs.Tables.{booksOf}
 use Rattle.rules.specs.Touching.{touch}
 use Rattle.rules.specs.Call.{one}
 use Rattle.rules.specs.Run.{run}
@@ -11,13 +13,14 @@ use Rattle.rules.specs.declared.Reply.the-variants.{Booked, ClosingError}
 use Rattle.rules.proofs.Computed.{Computed}
 use Rattle.history.specs.History.{Entry, isAccepted, callAccepted, bookedBy, entriesOf, acceptedEntries, entriesTouch, callsOf, Reordering}
 use Rattle.history.specs.ByPlaces.{eachTwo, mayStand, isOrder}
-use Rattle.history.specs.Sample.{start, history, accepted, places, past, another, finish, buy, sell}
+use Rattle.history.specs.UnderGiveUp.{isOpenFor, openFor}
+use Rattle.history.specs.Sample.{start, history, accepted, places, past, another, finish, underWay, ended, buy, sell}
 use Rattle.history.proofs.Demand3.{demand-3}
 use Rattle.history.proofs.ByPlaces.{by-places}
 
 -- To compute with the definitions of demand 3 too.
 unfoldable ComputedHistory : Type 0
-unfolding Computed isAccepted callAccepted bookedBy entriesOf acceptedEntries entriesTouch eachTwo mayStand isOrder
+unfolding Computed isAccepted callAccepted bookedBy entriesOf acceptedEntries entriesTouch eachTwo mayStand isOrder isOpenFor openFor
 ComputedHistory = Unit {0}
 
 pub sample-accepted : acceptedEntries start history ≡ accepted
@@ -56,3 +59,12 @@ pair-in-order = refl
 pub pair-exchanged : run start (one sell ∷ one buy ∷ []) .replies ≡ ClosingError (pos 60) ∷ Booked (pos 1) (pos 0) ∷ []
 unfolding ComputedHistory
 pair-exchanged = refl
+
+-- One process is open for trade 2 while its give-up is under way, and none once it has ended.
+pub open-while-under-way : openFor (keyOf (pos 2) (pos 0)) (booksOf (run start underWay .tables) .processes) ≡ 1
+unfolding ComputedHistory
+open-while-under-way = refl
+
+pub none-open-at-the-end : openFor (keyOf (pos 2) (pos 0)) (booksOf (run start ended .tables) .processes) ≡ 0
+unfolding ComputedHistory
+none-open-at-the-end = refl

@@ -7,7 +7,7 @@ use Rattle.rules.specs.Request.{Request, trade, separate, transfer, merge, line
 use Rattle.rules.specs.Call.{Call, one, trades}
 use Rattle.rules.specs.Tables.{Tables, allTables}
 use Rattle.rules.specs.declared.Step.{Step}
-use Rattle.rules.specs.declared.Step.the-variants.{Open, Claim, ApproveGiver, ApproveTaker}
+use Rattle.rules.specs.declared.Step.the-variants.{Open, Claim, Cancel, ApproveGiver, ApproveTaker}
 use Rattle.rules.specs.declared.Reply.{Reply}
 use Rattle.rules.specs.declared.Reply.the-variants.{Booked, Lineage}
 use Rattle.history.specs.History.{Entry, entriesTouch}
@@ -131,6 +131,13 @@ finish = record {
       ++ replicate 2 (negℤ (pos 1));
   processes = pos 1 ∷ pos 90 ∷ pos 2 ∷ pos 0 ∷ pos 20 ∷ pos 21 ∷ pos 5 ∷ pos 1 ∷ pos 1 ∷ pos 0 ∷ replicate 11 (negℤ (pos 1));
 }
+
+-- A give-up of trade 2 that is claimed, and one that is cancelled.
+abbrev pub underWay : List Call
+underWay = one trade2 ∷ one (giveUp2 Open) ∷ one (giveUp2 Claim) ∷ []
+
+abbrev pub ended : List Call
+ended = one trade2 ∷ one (giveUp2 Open) ∷ one (giveUp2 Cancel) ∷ []
 
 -- A buy to open, and a sell to close that closes part of it.
 abbrev pub buy : Request
