@@ -1,6 +1,7 @@
 // The shifter: the part of a lent table from the insertion row on is lent to it, and it moves the rows there up and writes the new one. One for every table; the row's
 // length is its width. Where a request adds several rows, its own shifter moves them all up at once by `move_up` and writes each by `replace_row`.
 use rules::layout::POSITION_WIDTH;
+use rules::layout::PROCESS_WIDTH;
 use rules::layout::RECORD_WIDTH;
 ghost use mathlib.Core.Path.{_≡_};
 ghost use mathlib.Core.List.{_++_};
@@ -42,6 +43,8 @@ pub fn move_up(tail: &mut [i64], used: usize, by: usize)
         move_by(tail, used, THREE_RECORDS);
     } else if by == FOUR_RECORDS {
         move_by(tail, used, FOUR_RECORDS);
+    } else if by == PROCESS_WIDTH {
+        move_by(tail, used, PROCESS_WIDTH);
     } else {
         move_by(tail, used, by);
     }
