@@ -1,4 +1,4 @@
--- The theorem is not hollow: a history of all five kinds and of batches, with refused requests and a batch that stops among them, has the accepted entries stated, another order of them is a reordering, and it goes through with
+-- The theorem is not hollow: a history of every kind and of batches, with refused requests and a batch that stops among them, has the accepted entries stated, another order of them is a reordering, and it goes through with
 -- the same answers to the same cells. And a pair that touches does not: exchanged, it answers otherwise. By computation. Assumes nothing.
 use mathlib.Core.Path.{_≡_, refl, sym, subst}
 use mathlib.Core.Bool.{true}

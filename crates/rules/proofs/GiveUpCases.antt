@@ -196,6 +196,14 @@ pub nothing-ends-it :
 unfolding Computed
 nothing-ends-it = refl
 
+-- "7 meaning status not 3": a pending process whose record has status 0, on which no step but an opening is accepted.
+pub later-steps-ask-for-three :
+    map (λ (step : Step). handle (withProcesses (pos 1 ∷ pos 9 ∷ pos 7 ∷ pos 0 ∷ pos 1 ∷ pos 2 ∷ pos 1 ∷ pos 0 ∷ pos 0 ∷ pos 6 ∷ []) ((runOf small (buy (pos 7) (pos 1) ∷ [])) .tables)) (step9 step) .reply)
+    (Claim ∷ Cancel ∷ Refuse ∷ ApproveGiver ∷ [])
+    ≡ Refused (pos 7) (pos 0) ∷ Refused (pos 7) (pos 0) ∷ Refused (pos 7) (pos 0) ∷ Refused (pos 7) (pos 0) ∷ []
+unfolding Computed
+later-steps-ask-for-three = refl
+
 -- Touching: the process id is among the ids, one set with the transaction ids; both accounts count.
 pub process-id-touches :
     map (touch (step9 Claim)) (buy (pos 9) (pos 3) ∷ buy (pos 7) (pos 3) ∷ buy (pos 6) (pos 1) ∷ buy (pos 6) (pos 2) ∷ buy (pos 6) (pos 3) ∷ [])

@@ -1,5 +1,5 @@
 -- `give_up_steps::figures_valid` meets its contract: the process id, then a transfer's figures, each read back from its field. Assumes nothing.
-use mathlib.Core.Path.{_≡_, sym, _∙_}
+use mathlib.Core.Path.{_≡_, sym, _∙_, ap}
 use mathlib.Core.Bool.{true, false}
 use borrow.Author.Needs.{needs}
 use borrow.Author.Tests.{not-true, not-false}
@@ -10,7 +10,7 @@ use Rattle.give_up_steps.proofs.figures_valid.Statement.{statement}
 use Rattle.give_up_steps.proofs.figures_valid.Tie as tie
 
 process-test : (c : tie.After-valid-id) → c .valid-id .result ≡ validId (c .before .before .args .g .process)
-process-test c = simp (read-back (c .before .before .args .g .process) (c .before .struct-told .given .0 .1)) at (c .valid-id .ensures)
+process-test c = c .valid-id .ensures ∙ ap validId (read-back (c .before .before .args .g .process) (c .before .struct-told .given .0 .1))
 
 returns : tie.Need-returns
 unfolding giveUpFigures
