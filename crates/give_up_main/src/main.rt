@@ -184,8 +184,9 @@ fn run_cancelled() {
 fn main() {
     printing::line(b"trade: id, account, series, side code, quantity, price");
     printing::line(b"separation: id, suffix, account, series; parts");
-    showing::give_up_legend();
+    printing::line(b"a step: process id, id, suffix, giving account, taking account, series");
     showing::tables_legend();
+    showing::processes_legend();
     run_booked();
     run_refused();
     run_cancelled();

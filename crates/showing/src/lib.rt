@@ -23,9 +23,7 @@ pub fn tables_legend() {
     printing::line(b"positions: count | account | series | long | short | cash |");
 }
 
-// The same of a give-up.
-pub fn give_up_legend() {
-    printing::line(b"a step: process id, id, suffix, giving account, taking account, series");
+pub fn processes_legend() {
     printing::text(
         b"processes: count | process id | id | suffix | giving account | taking account",
     );
