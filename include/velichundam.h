@@ -306,9 +306,10 @@ velichundam_reply velichundam_transfer(int64_t *records, size_t records_len, int
     int64_t id, int64_t suffix, int64_t from, int64_t to, int64_t series);
 
 /*
- * Merges records to open of one account, series and side into one under a new id, at their average price, a half going to the greater number.
+ * Merges records to open of one account, series and side into one under a new id, at their average price, a half going away from zero.
  * pairs holds id, suffix, id, suffix, ..: pairs_len is twice the number of sources. Each source becomes adjusted and gets an inverse row whose
  * cell into is the new id. What the rounding leaves, the residual, goes to the position's cash, in price units times quantity.
+ * A record that an earlier release merged, a half going to the greater number, keeps its price and is handled like any other.
  *
  * Answers booked (a row for each source and one more, and the residual). Refuses by 1, 2, 3, 4, 5 to 10 and 17 with their place, 11, 13,
  * 14, 15, 16.

@@ -393,7 +393,7 @@ impl SqlBook {
         let quantity: i64 = rows.iter().map(|row| row[6]).sum();
         refuse_if(quantity > 1_000_000, 11, 0)?;
         let value: i64 = rows.iter().map(|row| row[6] * row[7]).sum();
-        let average = (2 * value + quantity).div_euclid(2 * quantity);
+        let average = (2 * value + value.signum() * quantity) / (2 * quantity);
         let residual = (quantity * average - value) * if side == 1 { 1 } else { -1 };
         for (&[of, suffix], row) in sources.iter().zip(&rows) {
             self.run(self.adjust, &[of, suffix]);

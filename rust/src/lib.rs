@@ -137,7 +137,7 @@ pub fn transfer(records: &mut [i64], positions: &mut [i64], id: i64, suffix: i64
     unsafe { c::velichundam_transfer(r, records.len(), p, positions.len(), id, suffix, from, to, series) }.into()
 }
 
-/// Merges records, named by id and suffix in turn, into a new id at their average price.
+/// Merges records, named by id and suffix in turn, into a new id at their average price, a half going away from zero.
 pub fn merge(records: &mut [i64], positions: &mut [i64], id: i64, account: i64, series: i64, pairs: &[i64]) -> Reply {
     let (r, p) = (records.as_mut_ptr(), positions.as_mut_ptr());
     unsafe { c::velichundam_merge(r, records.len(), p, positions.len(), id, account, series, pairs.as_ptr(), pairs.len()) }.into()

@@ -378,7 +378,7 @@ fn try_merge(records: &mut [i64], positions: &mut [i64], id: i64, account: i64, 
     let held = positions.find(account, series);
     refuse_if(held.is_err() && positions.is_full(1), 15)?;
     let value: i64 = rows.iter().map(|&at| row(at)[QUANTITY] * row(at)[PRICE]).sum();
-    let average = (2 * value + quantity).div_euclid(2 * quantity);
+    let average = (2 * value + value.signum() * quantity) / (2 * quantity);
     let over = quantity * average - value;
     let residual = if side == BUY_OPEN { over } else { -over };
     let mut position = positions.row_or_zeros(held, account, series);

@@ -1,10 +1,10 @@
 pub mod AverageLaws
 pub mod Bits
-pub mod Floor
 pub mod Linear
 pub mod Order
 pub mod Parts
 pub mod Products
 pub mod Quotient
 pub mod Ring
+pub mod Rounded
 pub mod Rounding

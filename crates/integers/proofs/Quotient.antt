@@ -1,21 +1,10 @@
--- Division toward zero by a positive number, as an `i64` is divided: quotient and remainder make up the dividend, the remainder is smaller than the divisor.
-use mathlib.Core.Path.{_≡_, ap}
-use Prim.Native.Nat.{ℕ, suc, _+_, _*_, _/_, _%_, _≤_, _<_}
-use native.Mathlib.Nat.{div-add-mod, mod-lt, div-le-self}
-use lib.IntN.{ℤ, pos, negsuc, _+ℤ_, _*ℤ_, negℤ, natAbs}
+-- Division toward zero by a positive number, as an `i64` is divided: the remainder is smaller than the divisor, the quotient no larger than the dividend.
+use Prim.Native.Nat.{suc, _/_, _%_, _≤_, _<_}
+use native.Mathlib.Nat.{mod-lt, div-le-self}
+use lib.IntN.{ℤ, pos, negsuc, natAbs}
 use lib.Signed.{quotZ, remZ, _≤ℤ_}
-use Rattle.integers.proofs.Linear.{zarith, neg-lin, +-lin}
-use Rattle.integers.proofs.Products.{times-lin, natAbs-negℤ}
-
-whole : (m q r n : ℕ) → m * q + r ≡ n → pos m *ℤ negℤ (pos q) +ℤ negℤ (pos r) ≡ negℤ (pos n)
-whole m q r n e =
-    omega
-    (zarith, +-lin (pos m *ℤ negℤ (pos q)) (negℤ (pos r)), times-lin m (negℤ (pos q)), neg-lin (pos q), neg-lin (pos r), neg-lin (pos n), ap (λ (x : ℕ). m * x) (neg-lin (pos q) .0), ap (λ (x : ℕ). m * x) (neg-lin (pos q) .1))
-
-pub quot-rem : (a b : ℤ) → pos 1 ≤ℤ b → b *ℤ quotZ a b +ℤ remZ a b ≡ a
-quot-rem (pos a) (pos m) h = ap pos (div-add-mod a m)
-quot-rem (negsuc a) (pos m) h = whole m (suc a / m) (suc a % m) (suc a) (div-add-mod (suc a) m)
-quot-rem a (negsuc m) h = absurd (omega zarith)
+use Rattle.integers.proofs.Linear.{zarith}
+use Rattle.integers.proofs.Products.{natAbs-negℤ}
 
 pub rem-small : (a b : ℤ) → pos 1 ≤ℤ b → natAbs (remZ a b) < natAbs b
 rem-small (pos a) (pos m) h = mod-lt a (omega zarith)

@@ -1,39 +1,56 @@
 -- How the code rounds: the quotient toward zero, corrected by the remainder, is the average, and every step fits an `i64`.
-use mathlib.Core.Path.{_≡_, _∙_}
+use mathlib.Core.Path.{_≡_, sym, ap}
 use mathlib.Core.Bool.{true, false}
-use Prim.Native.Nat.{_*_, _≤_, _<_}
+use Prim.Native.Nat.{ℕ, suc, _+_, _*_, _/_, _%_, _≤_, _<_}
 use native.Mathlib.Omega.{arith}
 use lib.IntN.{ℤ, pos, negsuc, _+ℤ_, _-ℤ_, _*ℤ_, negℤ, natAbs}
 use lib.Signed.{quotZ, remZ, _≤ℤ_, _<ℤ_}
 use mir.Syntax.{w64}
 use mir.Val.{SFits, ofZ}
+use Rattle.integers.specs.Rounded.{halfUp, rounded}
 use Rattle.integers.specs.Average.{averageOf, residualOf}
 use Rattle.integers.specs.Averageable.{Averageable}
 use Rattle.integers.proofs.Linear.{zarith, neg-lin, +-lin, minus-lin, abs-sum, abs-lin}
-use Rattle.integers.proofs.Ring.{diff, zdiff}
 use Rattle.integers.proofs.Products.{mul-sfits, sfits-of-bound}
-use Rattle.integers.proofs.Quotient.{quot-rem, rem-small, quot-small}
-use Rattle.integers.proofs.AverageLaws.{average-unique, average-bound, residual-buy, residual-sell, residual-bound}
+use Rattle.integers.proofs.Quotient.{rem-small, quot-small}
+use Rattle.integers.proofs.Rounded.{half-up-stays, half-up-next}
+use Rattle.integers.proofs.AverageLaws.{average-bound, residual-buy, residual-sell, residual-bound}
 
--- x is the average of v over q if what is left, r, is at least -q/2 and below q/2
-near : (v q x r : ℤ) → pos 1 ≤ℤ q → q *ℤ x +ℤ r ≡ v → negℤ q ≤ℤ (r +ℤ r) → (r +ℤ r) <ℤ q → x ≡ averageOf v q
-near v q x r h e low high =
-    let y : ℤ = q *ℤ x in
-    average-unique v q x h
-    (omega (zarith, +-lin y y, +-lin v v, +-lin (v +ℤ v) q, +-lin y r, +-lin r r, neg-lin q))
-    (omega (zarith, +-lin y y, +-lin v v, +-lin (v +ℤ v) q, +-lin y r, +-lin r r, +-lin q q, +-lin (y +ℤ y) (q +ℤ q)))
+-- ---- the three ways: division is toward zero, so the remainder has the value's sign
 
-one-up : (q x r : ℤ) → q *ℤ (x +ℤ pos 1) +ℤ (r -ℤ q) ≡ q *ℤ x +ℤ r
-one-up q x r = rw (diff q, diff x, diff r) (simp zdiff (omega arith))
+-- a half or more is left above
+pub rounds-up : (v q : ℤ) → pos 1 ≤ℤ q → q ≤ℤ (remZ v q +ℤ remZ v q) → quotZ v q +ℤ pos 1 ≡ averageOf v q
+unfolding averageOf rounded
+rounds-up (pos a) (pos m) h t = ap pos (sym (half-up-next a m (omega zarith) (omega zarith)))
+rounds-up (negsuc a) (pos m) h t =
+    let r : ℤ = negℤ (pos (suc a % m)) in
+    absurd (omega (zarith, neg-lin (pos (suc a % m)), +-lin r r))
+rounds-up v (negsuc m) h t = absurd (omega zarith)
 
-one-down : (q x r : ℤ) → q *ℤ (x -ℤ pos 1) +ℤ (r +ℤ q) ≡ q *ℤ x +ℤ r
-one-down q x r = rw (diff q, diff x, diff r) (simp zdiff (omega arith))
+-- a half or more is left below
+pub rounds-down : (v q : ℤ) → pos 1 ≤ℤ q → (remZ v q +ℤ remZ v q) ≤ℤ (pos 0 -ℤ q) → quotZ v q -ℤ pos 1 ≡ averageOf v q
+unfolding averageOf rounded
+rounds-down (pos a) (pos m) h t = absurd (omega (zarith, minus-lin (pos 0) (pos m)))
+rounds-down (negsuc a) (pos m) h t =
+    let r : ℤ = negℤ (pos (suc a % m)) in
+    let x : ℤ = negℤ (pos (suc a / m)) in
+    let up : halfUp (suc a) m ≡ suc a / m + 1 =
+    half-up-next (suc a) m (omega zarith) (omega (zarith, neg-lin (pos (suc a % m)), +-lin r r, minus-lin (pos 0) (pos m))) in
+    omega (zarith, up, neg-lin (pos (suc a / m)), minus-lin x (pos 1), neg-lin (pos (halfUp (suc a) m)))
+rounds-down v (negsuc m) h t = absurd (omega zarith)
+
+-- less than a half is left on either side
+pub stays : (v q : ℤ) → pos 1 ≤ℤ q → (remZ v q +ℤ remZ v q) <ℤ q → (pos 0 -ℤ q) <ℤ (remZ v q +ℤ remZ v q) → quotZ v q ≡ averageOf v q
+unfolding averageOf rounded
+stays (pos a) (pos m) h t u = ap pos (sym (half-up-stays a m (omega zarith)))
+stays (negsuc a) (pos m) h t u =
+    let r : ℤ = negℤ (pos (suc a % m)) in
+    let k : suc a % m + suc a % m < m = omega (zarith, neg-lin (pos (suc a % m)), +-lin r r, minus-lin (pos 0) (pos m)) in
+    ap (λ (n : ℕ). negℤ (pos n)) (sym (half-up-stays (suc a) m k))
+stays v (negsuc m) h t u = absurd (omega zarith)
 
 module _ (v q : ℤ) (ok : Averageable v q) where
   -- what the laws of division say here
-  made : q *ℤ quotZ v q +ℤ remZ v q ≡ v
-  made = quot-rem v q (ok .positive)
-
   rest : natAbs (remZ v q) < natAbs q
   rest = rem-small v q (ok .positive)
 
@@ -66,27 +83,6 @@ module _ (v q : ℤ) (ok : Averageable v q) where
 
   pub down-fits : SFits w64 (quotZ v q -ℤ pos 1)
   down-fits = omega (zarith, small, abs-sum (quotZ v q), minus-lin (quotZ v q) (pos 1))
-
-  -- ---- the three ways
-
-  -- a half or more is left above
-  pub rounds-up : q ≤ℤ (remZ v q +ℤ remZ v q) → quotZ v q +ℤ pos 1 ≡ averageOf v q
-  rounds-up t =
-      let r : ℤ = remZ v q in
-      near v q (quotZ v q +ℤ pos 1) (r -ℤ q) (ok .positive) (one-up q (quotZ v q) r ∙ made)
-      (omega (zarith, +-lin r r, minus-lin r q, +-lin (r -ℤ q) (r -ℤ q), neg-lin q))
-      (omega (zarith, rest, abs-sum r, abs-lin q, ok .positive, +-lin r r, minus-lin r q, +-lin (r -ℤ q) (r -ℤ q)))
-
-  -- more than a half is left below
-  pub rounds-down : (remZ v q +ℤ remZ v q) <ℤ (pos 0 -ℤ q) → quotZ v q -ℤ pos 1 ≡ averageOf v q
-  rounds-down t =
-      let r : ℤ = remZ v q in
-      near v q (quotZ v q -ℤ pos 1) (r +ℤ q) (ok .positive) (one-down q (quotZ v q) r ∙ made)
-      (omega (zarith, rest, abs-sum r, abs-lin q, ok .positive, +-lin r q, +-lin (r +ℤ q) (r +ℤ q), neg-lin q))
-      (omega (zarith, +-lin r r, +-lin r q, +-lin (r +ℤ q) (r +ℤ q), minus-lin (pos 0) q))
-
-  pub stays : (remZ v q +ℤ remZ v q) <ℤ q → (pos 0 -ℤ q) ≤ℤ (remZ v q +ℤ remZ v q) → quotZ v q ≡ averageOf v q
-  stays t u = near v q (quotZ v q) (remZ v q) (ok .positive) made (omega (zarith, neg-lin q, minus-lin (pos 0) q)) (omega zarith)
 
   -- ---- the residual's steps fit
 

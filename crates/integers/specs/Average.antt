@@ -1,16 +1,11 @@
--- The average price of a merge and its residual, as document 01 ("Merge") states them.
-use Prim.Native.Nat.{ℕ, _/_, _+_}
+-- The average price of a merge and its residual, as document 01 ("Merge") states them, with the rounding of document 02 (K4).
 use mathlib.Core.Bool.{Bool, true, false}
-use lib.IntN.{ℤ, pos, negsuc, _+ℤ_, _-ℤ_, _*ℤ_, negℤ, natAbs}
+use lib.IntN.{ℤ, _-ℤ_, _*ℤ_, negℤ, natAbs}
+use Rattle.integers.specs.Rounded.{rounded}
 
--- The quotient of an integer by a positive number, rounded down: of -(a + 1) by m it is -(a / m + 1).
-unfoldable pub floorDiv : ℤ → ℕ → ℤ
-floorDiv (pos a) m = pos (a / m)
-floorDiv (negsuc a) m = negsuc (a / m)
-
--- "the average is V/Q rounded to a whole unit, a half going to the greater number": V/Q + 1/2 rounded down, which is 2V + Q by 2Q.
+-- "the average is V/Q rounded to a whole unit" (01). "A half goes away from zero, so that negating every price negates the average." (02, K4)
 unfoldable pub averageOf : ℤ → ℤ → ℤ
-averageOf value quantity = floorDiv (value +ℤ value +ℤ quantity) (natAbs quantity + natAbs quantity)
+averageOf value quantity = rounded value (natAbs quantity)
 
 -- "Residual for a buy is Q times the average less V; for a sell the negative of that."
 unfoldable pub residualOf : Bool → ℤ → ℤ → ℤ

@@ -1,3 +1,4 @@
 pub mod Average
 pub mod Averageable
 pub mod Order
+pub mod Rounded

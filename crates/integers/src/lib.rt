@@ -3,8 +3,8 @@ ghost use mathlib.Core.Path.{_≡_};
 ghost use Rattle.integers.specs.Average.{averageOf, residualOf};
 ghost use Rattle.integers.specs.Averageable.{Averageable};
 
-// The value over the quantity, rounded to a whole unit, a half going to the greater number.
-// Division is toward zero, so the remainder has the value's sign: half the quantity or more above corrects by one up, more than half below by one down.
+// The value over the quantity, rounded to a whole unit, a half going away from zero.
+// Division is toward zero, so the remainder has the value's sign: half the quantity or more above corrects by one up, half or more below by one down.
 pub fn average(value: i64, quantity: i64) -> i64
     requires { ⌜ Averageable value quantity ⌝ }
     ensures { λ r. ⌜ r ≡ averageOf value quantity ⌝ }
@@ -15,7 +15,7 @@ pub fn average(value: i64, quantity: i64) -> i64
     let least = -quantity;
     if quantity <= twice {
         quotient + 1
-    } else if twice < least {
+    } else if twice <= least {
         quotient - 1
     } else {
         quotient

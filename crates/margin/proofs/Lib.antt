@@ -1,2 +1,3 @@
 pub mod OneSide
 pub mod MergeMargin
+pub mod MirroredMerge

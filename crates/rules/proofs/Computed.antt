@@ -1,7 +1,8 @@
 -- To compute with the rules, each of their definitions is opened: a statement that holds by computation says `unfolding Computed`. A definition that the rules gain is one word more here.
 use mathlib.Core.List.{flatMap}
 use Rattle.integers.specs.Order.{eqZ, inRange}
-use Rattle.integers.specs.Average.{floorDiv, averageOf, residualOf}
+use Rattle.integers.specs.Average.{averageOf, residualOf}
+use Rattle.integers.specs.Rounded.{halfUp, rounded}
 use Rattle.rules.specs.Batch.{tradesOf, batchFigures, batchTests, excessOf, excessesOf, batchReply, batchAnswer, handleBatch}
 use Rattle.rules.specs.Books.{viewOf}
 use Rattle.rules.specs.Call.{handleCall, requestsOf}
@@ -27,5 +28,5 @@ use Rattle.rules.specs.Trade.{tradeFigures, openAgainst, smaller, closed
 use Rattle.rules.specs.Transfer.{transferFigures, inLong, inShort, holdsTooLittle, transferPlan}
 
 unfoldable pub Computed : Type 0
-unfolding flatMap eqZ inRange floorDiv averageOf residualOf tradesOf batchFigures batchTests excessOf excessesOf batchReply batchAnswer handleBatch viewOf handleCall requestsOf magnitudeAtMost validId validSuffix validAccount validSeries validQuantity validPrice validSide isBuy isToClose validCount giveUpFigures isAt hasTurn hasFigures mayStep isOutOfTurn stepped isComplete stepStatusTest recordAfter finished giveUpEffects processBefore giveUpPlan planOf soundProcessesTest soundnessTests refusals writtenBy planTables answer handle below same isSome atLeast rising find greatest upsert upsertAll absentFrom encode roomFor roomOf rowsOf countIsSound write oneMoreLink originVia originOf lineageReply lineagePlan pairsOf validPair mergeFigures sourcesOf recordsOf isMissing firstStatusRefusal statusOfEach closes isAmong stoodEarlier firstOf sideDiffers sumOfQuantities sumOfValues timesIn mergeInverses mergedRecord mergeResidual mergePlan noRecord theRecord isElsewhere isNotAdjustable statusRefusal statusTest nextSuffix suffixIsAbove processRoomTest bookingTests planTests putProcess booked planBooks planReply stageNumber validStage validApproval soundProcess openedProcess theProcess test anyOf allOf firstPlace testEach firstRefusal refusedBy validKind validStatus validSignedQuantity validBooked validInto validParent soundRecord soundPosition zeroPosition orZeros moved adjustedRecord newRecord inverseRecord adjustableRecord afterReply run goesOn untilRefused sumOf separationFigures partRecords separationPlan recordCells positionCells processCells soundTable soundRecords soundPositions soundProcesses booksOf writeBooks idsOf positionsOf isNamedIn shareId sharePosition touch callIds callPositions callsTouch tradeFigures openAgainst smaller closedBy longBooked shortBooked isClosingError tradeKind tradeReply tradePlan transferFigures inLong inShort holdsTooLittle transferPlan
+unfolding flatMap eqZ inRange halfUp rounded averageOf residualOf tradesOf batchFigures batchTests excessOf excessesOf batchReply batchAnswer handleBatch viewOf handleCall requestsOf magnitudeAtMost validId validSuffix validAccount validSeries validQuantity validPrice validSide isBuy isToClose validCount giveUpFigures isAt hasTurn hasFigures mayStep isOutOfTurn stepped isComplete stepStatusTest recordAfter finished giveUpEffects processBefore giveUpPlan planOf soundProcessesTest soundnessTests refusals writtenBy planTables answer handle below same isSome atLeast rising find greatest upsert upsertAll absentFrom encode roomFor roomOf rowsOf countIsSound write oneMoreLink originVia originOf lineageReply lineagePlan pairsOf validPair mergeFigures sourcesOf recordsOf isMissing firstStatusRefusal statusOfEach closes isAmong stoodEarlier firstOf sideDiffers sumOfQuantities sumOfValues timesIn mergeInverses mergedRecord mergeResidual mergePlan noRecord theRecord isElsewhere isNotAdjustable statusRefusal statusTest nextSuffix suffixIsAbove processRoomTest bookingTests planTests putProcess booked planBooks planReply stageNumber validStage validApproval soundProcess openedProcess theProcess test anyOf allOf firstPlace testEach firstRefusal refusedBy validKind validStatus validSignedQuantity validBooked validInto validParent soundRecord soundPosition zeroPosition orZeros moved adjustedRecord newRecord inverseRecord adjustableRecord afterReply run goesOn untilRefused sumOf separationFigures partRecords separationPlan recordCells positionCells processCells soundTable soundRecords soundPositions soundProcesses booksOf writeBooks idsOf positionsOf isNamedIn shareId sharePosition touch callIds callPositions callsTouch tradeFigures openAgainst smaller closedBy longBooked shortBooked isClosingError tradeKind tradeReply tradePlan transferFigures inLong inShort holdsTooLittle transferPlan
 Computed = Unit {0}

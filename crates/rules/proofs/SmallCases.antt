@@ -1,14 +1,14 @@
 -- What the rules say where a clerk goes wrong (document 01, "Slips a tired clerk makes") and in a few cases more, by computation on the smallest tables that show it. An edit
--- of a definition that goes wrong there is refused here. (That of the average is refused by the laws of the crate `integers`.) Assumes nothing.
+-- of a definition that goes wrong there is refused here. Assumes nothing.
 use mathlib.Core.Path.{_≡_, refl}
 use mathlib.Core.Bool.{true, false}
 use mathlib.Core.List.{List, [], _∷_, _++_, map}
-use lib.IntN.{pos}
+use lib.IntN.{pos, negℤ}
 use Rattle.rules.specs.Request.{trade, separate, transfer, merge}
 use Rattle.rules.specs.Handle.{answeredBy}
 use Rattle.rules.specs.Call.{one, trades, handleCall}
 use Rattle.rules.specs.Touching.{touch, callsTouch}
-use Rattle.rules.specs.SmallTables.{empty, buy, buyFigures, runOf, recordsAfter, positionsAfter}
+use Rattle.rules.specs.SmallTables.{empty, buy, buyFigures, halfMerged, mergedAt, runOf, recordsAfter, positionsAfter}
 use Rattle.rules.specs.declared.Record.{Record}
 use Rattle.rules.specs.declared.Position.{Position}
 use Rattle.rules.specs.declared.Reply.the-variants.{Booked, Refused, Stopped}
@@ -102,6 +102,13 @@ pub residual-in-cash :
     ≡ pos 1 ∷ []
 unfolding Computed
 residual-in-cash = refl
+
+-- "A half goes away from zero, so that negating every price negates the average" (02, K4), of buys and of sells: 1 at 1 and 1 at 0 come at 1, and 1 at -1 and 1 at 0 at -1.
+pub halves-away-from-zero :
+    halfMerged (pos 1) (pos 1) ∷ halfMerged (pos 1) (negℤ (pos 1)) ∷ halfMerged (pos 2) (pos 1) ∷ halfMerged (pos 2) (negℤ (pos 1)) ∷ []
+    ≡ mergedAt (pos 1) (pos 1) ∷ mergedAt (negℤ (pos 1)) (negℤ (pos 1)) ∷ mergedAt (pos 1) (negℤ (pos 1)) ∷ mergedAt (negℤ (pos 1)) (pos 1) ∷ []
+unfolding Computed
+halves-away-from-zero = refl
 
 -- "row count plus the request's new rows": with room for one row a second trade is refused 14.
 pub room-counts-new-rows :

@@ -4,12 +4,14 @@ use mathlib.Core.List.{List, [], _∷_, map}
 use lib.IntN.{ℤ, pos}
 use lib.ListN.{replicate}
 use Rattle.rules.specs.Layout.{rowsOf}
-use Rattle.rules.specs.Request.{Request, trade}
+use Rattle.rules.specs.Request.{Request, trade, merge, lineage}
 use Rattle.rules.specs.Call.{one}
 use Rattle.rules.specs.Run.{Run, run}
 use Rattle.rules.specs.Tables.{Tables, allTables, tablesOf, recordsLayout, positionsLayout}
 use Rattle.rules.specs.declared.Record.{Record}
 use Rattle.rules.specs.declared.Position.{Position}
+use Rattle.rules.specs.declared.Reply.{Reply}
+use Rattle.rules.specs.declared.Reply.the-variants.{Booked, Lineage}
 
 -- Tables with so many cells after their counts, no row of them used.
 abbrev pub emptyCells : ℕ → List ℤ
@@ -38,3 +40,16 @@ recordsAfter t requests = rowsOf recordsLayout ((runOf t requests) .tables .reco
 
 abbrev pub positionsAfter : Tables → List Request → List Position
 positionsAfter t requests = rowsOf positionsLayout ((runOf t requests) .tables .positions)
+
+-- The replies to two trades of 1, the first at a price and the second at 0, to their merge, and to the lineage of the merged record, which gives its price.
+abbrev pub halfMerged : (side price : ℤ) → List Reply
+halfMerged side price =
+    (runOf (empty 65 5)
+    (trade (pos 7) (pos 1) (pos 1) side (pos 1) price
+    ∷ trade (pos 8) (pos 1) (pos 1) side (pos 1) (pos 0)
+    ∷ merge (pos 9) (pos 1) (pos 1) (pos 7 ∷ pos 0 ∷ pos 8 ∷ pos 0 ∷ [])
+    ∷ lineage (pos 9) (pos 0)
+    ∷ [])) .replies
+
+abbrev pub mergedAt : (average residual : ℤ) → List Reply
+mergedAt average residual = Booked (pos 1) (pos 0) ∷ Booked (pos 1) (pos 0) ∷ Booked (pos 3) residual ∷ Lineage average (pos 0) ∷ []

@@ -110,9 +110,9 @@ P5 = mergeOfTwo (pos 1) (pos 1) (pos 10000000) (pos 1) (pos 10000001) (pos 1) (p
 abbrev pub P5-as-sells : Example
 P5-as-sells = mergeOfTwo (pos 2) (pos 1) (pos 10000000) (pos 1) (pos 10000001) (pos 0) (pos 1) (pos 0) (pos 1) (pos 10000001) (minus 1)
 
--- Buys 1 at -1 and 1 at 0: average 0, residual +1.
+-- Buys 1 at -1 and 1 at 0: by document 02 (K4) "P6 becomes average -1, residual -1".
 abbrev pub P6 : Example
-P6 = mergeOfTwo (pos 1) (pos 1) (minus 1) (pos 1) (pos 0) (pos 1) (pos 0) (pos 1) (pos 0) (pos 0) (pos 1)
+P6 = mergeOfTwo (pos 1) (pos 1) (minus 1) (pos 1) (pos 0) (pos 1) (pos 0) (pos 1) (pos 0) (minus 1) (minus 1)
 
 -- One trade of a quantity, and one more request.
 abbrev pub tradeThen : ℤ → Request → Reply → List ℤ → Example

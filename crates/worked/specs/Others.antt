@@ -1,8 +1,8 @@
--- The figures of document 01 that carry no P, and the slips of "Slips a tired clerk makes", as rows of the same shape.
+-- The figures of document 01 that carry no P, the slips of "Slips a tired clerk makes", and document 02's halves away from zero (K4), as rows of the same shape.
 use mathlib.Core.List.{List, [], _∷_}
 use lib.IntN.{ℤ, pos}
 use Rattle.rules.specs.Tables.{tablesOf}
-use Rattle.rules.specs.Request.{Request, trade, separate, merge, lineage}
+use Rattle.rules.specs.Request.{Request, trade, separate, transfer, merge, lineage}
 use Rattle.rules.specs.declared.Reply.the-variants.{Booked, Lineage, Refused}
 use Rattle.worked.specs.Examples.{Example, minus, mergeOfTwo, row, position, table}
 
@@ -44,6 +44,55 @@ loneZeros = refusedOn (pos 0 ∷ []) (pos 0 ∷ []) (trade (pos 7) (pos 1) (pos 
 abbrev pub belowZero : Example
 belowZero = mergeOfTwo (pos 1) (pos 3) (minus 1) (pos 1) (pos 0) (pos 3) (pos 0) (pos 1) (pos 0) (minus 1) (minus 1)
 
+-- "negating every price negates the average" (02, K4), on both sides: P6 at 1 and 0, and both as sells.
+abbrev pub P6-mirrored : Example
+P6-mirrored = mergeOfTwo (pos 1) (pos 1) (pos 1) (pos 1) (pos 0) (pos 1) (pos 0) (pos 1) (pos 0) (pos 1) (pos 1)
+
+abbrev pub P6-as-sells : Example
+P6-as-sells = mergeOfTwo (pos 2) (pos 1) (minus 1) (pos 1) (pos 0) (pos 0) (pos 1) (pos 0) (pos 1) (minus 1) (pos 1)
+
+abbrev pub P6-mirrored-as-sells : Example
+P6-mirrored-as-sells = mergeOfTwo (pos 2) (pos 1) (pos 1) (pos 1) (pos 0) (pos 0) (pos 1) (pos 0) (pos 1) (pos 1) (minus 1)
+
+-- "Merges already booked keep their stored price" (02, K4): 3/0 stands at 0 with a residual of 1 in cash, as P6 was booked under document 01. It is transferred
+-- at that price, and merged at it with 2 bought at -1: average -2/4, now -1, residual -2.
+abbrev pub mergedBefore : Example
+mergedBefore = record {
+  start = tablesOf
+      (table 5
+      (row (pos 1) (pos 0) (pos 0) (pos 0) (pos 1) (pos 4) (pos 9) (pos 1) (pos 1) (minus 1) (pos 1) (pos 0) (pos 0)
+      ∷ row (pos 1) (pos 1) (pos 0) (pos 901) (pos 2) (pos 4) (pos 9) (pos 1) (minus 1) (minus 1) (pos 0) (pos 0) (pos 3)
+      ∷ row (pos 2) (pos 0) (pos 0) (pos 0) (pos 1) (pos 4) (pos 9) (pos 1) (pos 1) (pos 0) (pos 1) (pos 0) (pos 0)
+      ∷ row (pos 2) (pos 1) (pos 0) (pos 901) (pos 2) (pos 4) (pos 9) (pos 1) (minus 1) (pos 0) (pos 0) (pos 0) (pos 3)
+      ∷ row (pos 3) (pos 0) (pos 0) (pos 901) (pos 0) (pos 4) (pos 9) (pos 1) (pos 2) (pos 0) (pos 0) (pos 0) (pos 0)
+      ∷ [])
+      78)
+      (table 1 (position (pos 4) (pos 9) (pos 2) (pos 0) (pos 1) ∷ []) 5);
+  requests =
+      transfer (pos 3) (pos 0) (pos 4) (pos 5) (pos 9)
+      ∷ trade (pos 4) (pos 5) (pos 9) (pos 1) (pos 2) (minus 1)
+      ∷ merge (pos 6) (pos 5) (pos 9) (pos 3 ∷ pos 2 ∷ pos 4 ∷ pos 0 ∷ [])
+      ∷ lineage (pos 3) (pos 2)
+      ∷ [];
+  replies = Booked (pos 2) (pos 0) ∷ Booked (pos 1) (pos 0) ∷ Booked (pos 3) (minus 2) ∷ Lineage (pos 0) (pos 1) ∷ [];
+  finish = tablesOf
+      (table 11
+      (row (pos 1) (pos 0) (pos 0) (pos 0) (pos 1) (pos 4) (pos 9) (pos 1) (pos 1) (minus 1) (pos 1) (pos 0) (pos 0)
+      ∷ row (pos 1) (pos 1) (pos 0) (pos 901) (pos 2) (pos 4) (pos 9) (pos 1) (minus 1) (minus 1) (pos 0) (pos 0) (pos 3)
+      ∷ row (pos 2) (pos 0) (pos 0) (pos 0) (pos 1) (pos 4) (pos 9) (pos 1) (pos 1) (pos 0) (pos 1) (pos 0) (pos 0)
+      ∷ row (pos 2) (pos 1) (pos 0) (pos 901) (pos 2) (pos 4) (pos 9) (pos 1) (minus 1) (pos 0) (pos 0) (pos 0) (pos 3)
+      ∷ row (pos 3) (pos 0) (pos 0) (pos 901) (pos 1) (pos 4) (pos 9) (pos 1) (pos 2) (pos 0) (pos 0) (pos 0) (pos 0)
+      ∷ row (pos 3) (pos 1) (pos 0) (pos 4) (pos 2) (pos 4) (pos 9) (pos 1) (minus 2) (pos 0) (minus 2) (pos 0) (pos 0)
+      ∷ row (pos 3) (pos 2) (pos 0) (pos 4) (pos 1) (pos 5) (pos 9) (pos 1) (pos 2) (pos 0) (pos 2) (pos 0) (pos 0)
+      ∷ row (pos 3) (pos 3) (pos 2) (pos 901) (pos 2) (pos 5) (pos 9) (pos 1) (minus 2) (pos 0) (pos 0) (pos 0) (pos 6)
+      ∷ row (pos 4) (pos 0) (pos 0) (pos 0) (pos 1) (pos 5) (pos 9) (pos 1) (pos 2) (minus 1) (pos 2) (pos 0) (pos 0)
+      ∷ row (pos 4) (pos 1) (pos 0) (pos 901) (pos 2) (pos 5) (pos 9) (pos 1) (minus 2) (minus 1) (pos 0) (pos 0) (pos 6)
+      ∷ row (pos 6) (pos 0) (pos 0) (pos 901) (pos 0) (pos 5) (pos 9) (pos 1) (pos 4) (minus 1) (pos 0) (pos 0) (pos 0)
+      ∷ [])
+      0)
+      (table 2 (position (pos 4) (pos 9) (pos 0) (pos 0) (pos 1) ∷ position (pos 5) (pos 9) (pos 4) (pos 0) (minus 2) ∷ []) 0);
+}
+
 -- "two sources share an id": 5/2 and 5/3 are the parts of 5/0, and their inverses take the next two suffixes, 4 and 5. The lineage of the
 -- second part has one link; that of a suffix which the id does not have is refused 5.
 abbrev pub sharedId : Example
@@ -72,4 +121,4 @@ sharedId = record {
 }
 
 abbrev pub others : List Example
-others = mostAccepted ∷ moreRefused ∷ emptySlice ∷ loneZeros ∷ belowZero ∷ sharedId ∷ []
+others = mostAccepted ∷ moreRefused ∷ emptySlice ∷ loneZeros ∷ belowZero ∷ P6-mirrored ∷ P6-as-sells ∷ P6-mirrored-as-sells ∷ mergedBefore ∷ sharedId ∷ []

@@ -1,4 +1,4 @@
-// Document 01's "Figures to check by hand" and its clerk's slips, and document 02's batches, run through the proved calls: the examples of the crate `worked`, which proves them
+// Document 01's "Figures to check by hand" and its clerk's slips, and document 02's batches and halves away from zero, run through the proved calls: the examples of the crate `worked`, which proves them
 // of the rules, with the same cells at the start and the same requests in the same order. Printed are the tables at the start, and after each request
 // its answer and both tables, the cells past the last row too. A cell that holds no row is -1 at the start.
 mod calls;
@@ -99,6 +99,24 @@ fn shared_id() {
     calls::lineage(&records, &positions, 5, 6);
 }
 
+// P6 as document 01's rule booked it, at 0 with a residual of 1; then the merged record is transferred, and merged with a trade.
+fn merged_before() {
+    let mut records = [-1; 144];
+    let mut positions = [-1; 11];
+    records[0] = 0;
+    positions[0] = 0;
+    book::trade(&mut records, &mut positions, 1, 4, 9, 1, 1, -1);
+    book::trade(&mut records, &mut positions, 2, 4, 9, 1, 1, 0);
+    book::merge(&mut records, &mut positions, 3, 4, 9, &[1, 0, 2, 0]);
+    records[62] = 0;
+    positions[5] = 1;
+    showing::start(b"A record merged before, at 0", &records, &positions);
+    calls::transfer(&mut records, &mut positions, 3, 0, 4, 5, 9);
+    calls::trade(&mut records, &mut positions, 4, 5, 9, 1, 2, -1);
+    calls::merge(&mut records, &mut positions, 6, 5, 9, &[3, 2, 4, 0]);
+    calls::lineage(&records, &positions, 3, 2);
+}
+
 // The figures to be proved, P1 to P11.
 fn proved() {
     let mut both = [1, 1, 1, 100, 120, 0, -1, -1, -1, -1, -1];
@@ -133,6 +151,10 @@ fn others() {
     empty_slices();
     without_room(b"Both tables a lone 0", &mut one, &mut other);
     merging(b"V = -3 with Q = 4", 1, 3, -1, 1, 0);
+    merging(b"P6 at 1 and 0", 1, 1, 1, 1, 0);
+    merging(b"P6, sells", 2, 1, -1, 1, 0);
+    merging(b"P6 at 1 and 0, sells", 2, 1, 1, 1, 0);
+    merged_before();
     shared_id();
 }
 

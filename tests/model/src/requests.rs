@@ -212,10 +212,11 @@ fn merge(books: &mut Books, new: i64, account: i64, series: i64, pairs: &[i64]) 
     Ok(Reply::Booked { rows: sources.len() as i64 + 1, residual })
 }
 
-/// "V/Q rounded to a whole unit, a half going to the greater number": the greatest whole number that is at most V/Q + 1/2.
+/// "V/Q rounded to a whole unit" (01), "A half goes away from zero" (02, K4): of the magnitude the greatest whole number that is at most |V|/Q + 1/2,
+/// with V's sign.
 fn average(value: i128, quantity: i64) -> i128 {
     let quantity = i128::from(quantity);
-    (2 * value + quantity).div_euclid(2 * quantity)
+    value.signum() * ((2 * value.abs() + quantity) / (2 * quantity))
 }
 
 /// "follows parent to parent until suffix 0"; "no such record; for lineage also a parent row missing"

@@ -51,9 +51,23 @@ fn p4_to_p6() {
     assert_eq!(merging(1, (2, 10_000_000), (1, 10_000_001)), (booked(3, -1), 10_000_000));
     assert_eq!(merging(1, (1, 10_000_000), (1, 10_000_001)), (booked(3, 1), 10_000_001));
     assert_eq!(merging(2, (1, 10_000_000), (1, 10_000_001)), (booked(3, -1), 10_000_001));
-    assert_eq!(merging(1, (1, -1), (1, 0)), (booked(3, 1), 0));
+    // K4: "P6 becomes average -1, residual -1"
+    assert_eq!(merging(1, (1, -1), (1, 0)), (booked(3, -1), -1));
     // "V = -3 with Q = 4 gives -1, not 0."
     assert_eq!(merging(1, (1, 0), (3, -1)).1, -1);
+}
+
+/// K4: "negating every price negates the average"
+#[test]
+fn negated_prices() {
+    for side in [1, 2] {
+        for (first, second) in [(1, 1), (1, 3), (2, 2), (3, 2), (5, 1)] {
+            for price in -7..=7 {
+                let (Reply::Booked { residual, .. }, average) = merging(side, (first, price), (second, 0)) else { panic!("a merge is booked") };
+                assert_eq!(merging(side, (first, -price), (second, 0)), (booked(3, -residual), -average));
+            }
+        }
+    }
 }
 
 #[test]

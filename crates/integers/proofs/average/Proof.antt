@@ -56,19 +56,19 @@ returns : tie.Need-returns
 returns c =
     let s : tie.Start = c .before in
     simp (v s, q s, quotient s, toZ-ofZ (up-fits _ _ (s .pre)))
-    (rounds-up _ _ (s .pre) (omega (zarith, simp (v s, q s, rest s, twice s) at (c .if1 .taken))))
+    (rounds-up _ _ (s .pre .positive) (omega (zarith, simp (v s, q s, rest s, twice s) at (c .if1 .taken))))
 
 returns-2 : tie.Need-returns-2
 returns-2 c =
     let s : tie.Start = c .before .before in
     simp (v s, q s, quotient s, toZ-ofZ (down-fits _ _ (s .pre)))
-    (rounds-down _ _ (s .pre) (omega (zarith, simp (v s, q s, rest s, twice s, least s) at (c .if2 .taken))))
+    (rounds-down _ _ (s .pre .positive) (omega (zarith, simp (v s, q s, rest s, twice s, least s) at (c .if2 .taken))))
 
 returns-3 : tie.Need-returns-3
 returns-3 c =
     let s : tie.Start = c .before .before in
     simp (v s, q s, quotient s)
-    (stays _ _ (s .pre)
+    (stays _ _ (s .pre .positive)
     (omega (zarith, simp (v s, q s, rest s, twice s) at (c .before .if1 .left)))
     (omega (zarith, simp (v s, q s, rest s, twice s, least s) at (c .if2 .left))))
 
