@@ -1,8 +1,8 @@
--- What other crates know of the average and its residual: its range, the residual's range and equation, the margin that they keep together,
--- and that prices of the other sign give both the other sign. How a half is rounded shows in the last alone.
+-- What other crates know of the average and its residual: its range, the residual's range and equation, the margin that they keep together. How a half is
+-- rounded shows in none of these; the last part says it: away from zero, so that negated prices negate both.
 use mathlib.Core.Path.{_≡_, refl, ap}
 use mathlib.Core.Bool.{Bool, true, false}
-use Prim.Native.Nat.{_*_, _≤_}
+use Prim.Native.Nat.{ℕ, _+_, _*_, _≤_}
 use native.Mathlib.Omega.{arith}
 use lib.IntN.{ℤ, pos, negsuc, _+ℤ_, _-ℤ_, _*ℤ_, negℤ, natAbs}
 use lib.Signed.{_≤ℤ_}
@@ -10,7 +10,7 @@ use Rattle.integers.specs.Average.{averageOf, residualOf}
 use Rattle.integers.proofs.Linear.{zarith}
 use Rattle.integers.proofs.Ring.{diff, zdiff}
 use Rattle.integers.proofs.Products.{natAbs-negℤ}
-use Rattle.integers.proofs.Rounded.{rounded-negℤ, rounded-bound, rounded-near}
+use Rattle.integers.proofs.Rounded.{rounded-negℤ, rounded-half, rounded-bound, rounded-near}
 
 pub average-bound : (v q : ℤ) → pos 1 ≤ℤ q → natAbs v ≤ natAbs q * 1_000_000_000_000 → natAbs (averageOf v q) ≤ 1_000_000_000_000
 unfolding averageOf
@@ -49,7 +49,15 @@ margin-kept-buy s v q = rw (residual-buy v q) (margin q s (averageOf v q) v)
 pub margin-kept-sell : (s v q : ℤ) → negℤ q *ℤ (s -ℤ averageOf v q) +ℤ residualOf false v q ≡ negℤ (q *ℤ s -ℤ v)
 margin-kept-sell s v q = rw (residual-sell v q) (margin-sell q s (averageOf v q) v)
 
--- ---- "negating every price negates the average" (document 02, K4), and the residual: a value is a sum of quantities times prices
+-- ---- document 02, K4
+
+-- "A half goes away from zero": at a magnitude of k + 1/2 the average's is k + 1.
+pub average-half : (v q : ℤ) (k : ℕ) → pos 1 ≤ℤ q → natAbs v + natAbs v ≡ natAbs q * (k + k + 1) → natAbs (averageOf v q) ≡ k + 1
+unfolding averageOf
+average-half v (pos m) k h e = rounded-half v m k (omega zarith) e
+average-half v (negsuc m) k h e = absurd (omega zarith)
+
+-- "negating every price negates the average", and the residual: the value is the sum of quantities times prices
 
 pub average-negℤ : (v q : ℤ) → averageOf (negℤ v) q ≡ negℤ (averageOf v q)
 unfolding averageOf

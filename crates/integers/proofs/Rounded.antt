@@ -1,4 +1,4 @@
--- Quotients rounded with a half away from zero: negation, how near they are, their bound, and what they are beside the quotient toward zero.
+-- Quotients rounded with a half away from zero: negation, what a half becomes, their bound, how near they are, and what they are beside the quotient toward zero.
 use mathlib.Core.Path.{_≡_, refl}
 use Prim.Native.Nat.{ℕ, zero, suc, _+_, _*_, _/_, _%_, _≤_, _<_}
 use native.Mathlib.Nat.{mul-div-le, lt-mul-div-succ, div-eq-of-lt, div-eq-of-lt-le, div-lt-iff-lt-mul, div-add-mod, mod-lt}
@@ -30,6 +30,9 @@ unfolding halfUp
 half-up-zero zero = refl
 half-up-zero (suc m) = div-eq-of-lt (omega arith)
 
+half-up-half : (a m k : ℕ) → 0 < m → a + a ≡ m * (k + k + 1) → halfUp a m ≡ k + 1
+half-up-half a m k h e = half-up-unique a m (k + 1) (omega arith) (omega arith)
+
 half-up-bound : (a m b : ℕ) → 0 < m → a ≤ m * b → halfUp a m ≤ b
 unfolding halfUp
 half-up-bound a m b h k =
@@ -52,6 +55,12 @@ unfolding rounded
 rounded-negℤ (pos zero) m = rw (half-up-zero m) refl
 rounded-negℤ (pos (suc a)) m = refl
 rounded-negℤ (negsuc a) m = omega (zarith, neg-lin (pos (halfUp (suc a) m)), neg-lin (negℤ (pos (halfUp (suc a) m))))
+
+-- a half goes away from zero: k + 1/2 times m has k + 1
+pub rounded-half : (z : ℤ) (m k : ℕ) → 0 < m → natAbs z + natAbs z ≡ m * (k + k + 1) → natAbs (rounded z m) ≡ k + 1
+unfolding rounded
+rounded-half (pos a) m k h e = half-up-half a m k h e
+rounded-half (negsuc a) m k h e = rw (natAbs-negℤ (pos (halfUp (suc a) m))) (half-up-half (suc a) m k h e)
 
 -- no magnitude is rounded past a bound that it keeps
 pub rounded-bound : (z : ℤ) (m b : ℕ) → 0 < m → natAbs z ≤ m * b → natAbs (rounded z m) ≤ b

@@ -1,1 +1,1 @@
-// A merge keeps the margin: the definition of margin and the law over the rules, and no code.
+// A merge keeps the margin, and negated prices negate its average and residual: definitions and laws over the rules, and no code.
