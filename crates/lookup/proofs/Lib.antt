@@ -5,6 +5,8 @@ pub mod RowPlaced
 pub mod RisingKeys
 pub mod GreatestPlace
 pub mod Halving
+pub mod Steps
+pub mod AnySearch
 pub mod RowBefore
 pub mod LookedUp
 pub mod TableLookup

@@ -1,10 +1,18 @@
-// Lookup in a lent table whose keys rise, by halving: every table has a row's key in its first two cells, so one search serves all. `header` is the number of cells before the
-// first row, `width` that of a row.
+// Lookup in a lent table whose keys rise, by halving, in at most 13 steps of 4,096 rows: every table has a row's key in its first two cells, so one search serves all. `header` is
+// the number of cells before the first row, `width` that of a row.
 ghost use mathlib.Core.Path.{_≡_};
-ghost use Prim.Native.Nat.{_≤_, _<_};
+ghost use Prim.Native.Nat.{_+_, _<_};
+ghost use lib.ListN.{length};
 ghost use Rattle.rules.specs.Rows.{keyOf};
 ghost use Rattle.rules.specs.Keyed.{below, same};
-ghost use Rattle.lookup.specs.Lookup.{Searchable, rowFound, rowPlace, rowSought};
+ghost use Rattle.lookup.specs.Lookup.{Searchable, keyAt, rowFound, rowPlace, rowSought};
+ghost use Rattle.lookup.specs.Steps.{rowSearched, InThirteenSteps};
+
+// Where a key belongs, and in how many steps that was found.
+pub struct Searched {
+    pub place: usize,
+    pub steps: usize,
+}
 
 // The row with a key, from 0; or that there is none, with the row where the key belongs.
 pub enum Found {
@@ -47,44 +55,63 @@ pub fn key_same(major: i64, minor: i64, major2: i64, minor2: i64) -> bool
     minor == minor2
 }
 
-// The same without a jump: in a search neither answer is likelier.
+// Whether the first key comes before the second, without a jump.
 fn comes_before(major: i64, minor: i64, major2: i64, minor2: i64) -> bool
     ensures { λ r. ⌜ r ≡ below (keyOf major minor) (keyOf major2 minor2) ⌝ }
 {
     (major < major2) | ((major == major2) & (minor < minor2))
 }
 
-// How many rows halving leaves for the walk: of few rows the last ones are faster one by one.
-fn rows_to_walk(count: usize) -> usize
-    ensures { λ r. ⌜ 1 ≤ r ⌝ }
+// Whether a key comes before that of the row at a cell. Among many rows neither answer is likelier, and the text has no jump. Among few the processor foresees it, and a jump is
+// faster: the second figure is read only where it decides, so that the compiler makes one.
+fn before_row(cells: &[i64], at: usize, major: i64, minor: i64, few: bool) -> bool
+    requires { ⌜ at + 1 < length (now cells) ⌝ }
+    ensures { λ r. ⌜ r ≡ below (keyOf major minor) (keyAt (now (cells .entry)) at) ⌝ }
 {
-    if 64 < count { 1 } else { 8 }
+    let first = cells[at];
+    if few {
+        if major < first {
+            return true;
+        }
+        if major != first {
+            return false;
+        }
+        return minor < cells[at + 1];
+    }
+    comes_before(major, minor, first, cells[at + 1])
 }
 
-// By halving, a row near the place where a key belongs, and not after it.
-fn row_near(
+// By halving, where a key belongs: the last row of the first half of those left says in which half the place lies, and as many rows are left as the second half has. So the
+// number of steps is that of the halvings, whatever the keys.
+fn place_by_halving(
     cells: &[i64],
     header: usize,
     width: usize,
     count: usize,
     major: i64,
     minor: i64,
-) -> usize
+) -> Searched
     requires { ⌜ Searchable header width count (now cells) ⌝ }
-    ensures { λ r. ⌜ r ≤ rowPlace header width (keyOf major minor) count (now (cells .entry)) ⌝ }
+    ensures { λ r. ⌜ (r ≡ rowSearched header width (keyOf major minor) count (now (cells .entry))) × InThirteenSteps count (r .steps) ⌝ }
 {
-    let least = rows_to_walk(count);
+    let few = count <= 16;
     let mut low = 0;
     let mut left = count;
-    while least < left {
+    let mut steps: usize = 0;
+    while 0 < left {
         let half = left / 2;
-        let at = header + (low + half) * width;
-        if !comes_before(major, minor, cells[at], cells[at + 1]) {
-            low += half;
+        let past = low + (left - half);
+        let at = header + (past - 1) * width;
+        if !before_row(cells, at, major, minor, few) {
+            low = past;
         }
-        left -= half;
+        left = half;
+        steps += 1;
     }
-    low
+    Searched {
+        place: low,
+        steps: steps,
+    }
 }
 
 // How many rows stand before the place where a key belongs.
@@ -99,15 +126,8 @@ pub fn place_of(
     requires { ⌜ Searchable header width count (now cells) ⌝ }
     ensures { λ r. ⌜ r ≡ rowPlace header width (keyOf major minor) count (now (cells .entry)) ⌝ }
 {
-    let mut place = row_near(cells, header, width, count, major, minor);
-    while place < count {
-        let at = header + place * width;
-        if key_below(major, minor, cells[at], cells[at + 1]) {
-            return place;
-        }
-        place += 1;
-    }
-    place
+    let searched = place_by_halving(cells, header, width, count, major, minor);
+    searched.place
 }
 
 pub fn find_row(
