@@ -108,7 +108,7 @@
  * itself on the parent, once for each link, and a table of 4,096 records has chains of up to 4,095 links. A merge keeps of each source its row and
  * the greatest suffix of its id, in two arrays of 1,000 numbers of 16 bits. In bytes, from the host's call down, rounded up:
  *
- *     lineage                                460,000 at the longest chain: 112 for each link, and 300
+ *     lineage                                525,000 at the longest chain: 128 for each link, and 300
  *     merge                                    5,000
  *     trade, trades, separation, transfer      1,000
  *     the steps of a give-up                   2,000

@@ -34,7 +34,7 @@ struct Options {
 }
 
 fn options() -> Result<Options, String> {
-    let mut options = Options { seed: 1, calls: 250_000, show: None };
+    let mut options = Options { seed: 1, calls: 260_000, show: None };
     let mut words = std::env::args().skip(1);
     while let Some(word) = words.next() {
         let mut number = || words.next().and_then(|n| n.replace([',', '_'], "").parse::<u64>().ok()).ok_or(format!("{word} needs a number"));

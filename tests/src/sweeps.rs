@@ -49,6 +49,7 @@ pub fn run(checker: &mut Checker) {
     list_lengths(checker);
     last_suffixes(checker);
     full_tables(checker);
+    every_place(checker);
     deep_lineage(checker);
     ends_of_averages(checker);
 }
@@ -203,6 +204,40 @@ fn full_tables(checker: &mut Checker) {
     tables.positions.extend(vec![77; 61]);
     for k in 0..8 {
         checker.call(&mut tables, &Request::Trade { id: 1 + k, account: 4 - k % 2 * 2, series: 20 - k, side: 1 + k % 4, quantity: 5, price: 1 });
+    }
+}
+
+/// Each place of records and positions in tables of few rows, and the places around each power of two in a table of 4,095 and of 4,096 rows: a trade that belongs there, and the
+/// lineage of the record before it.
+fn every_place(checker: &mut Checker) {
+    let of_places = |rows: i64| {
+        let mut tables = many(rows as usize, rows as usize + 1, 1);
+        for k in 0..rows as usize {
+            tables.records[1 + k * RECORD_CELLS] = 2 + 2 * k as i64;
+        }
+        tables.positions = vec![rows];
+        tables.positions.extend((0..rows).flat_map(|k| [1 + k / 9, 2 + 2 * (k % 9), 5, 5, k]));
+        tables.positions.extend([-9; POSITION_CELLS]);
+        tables
+    };
+    for rows in 0..=66 {
+        let tables = of_places(rows);
+        for place in 0..=rows {
+            let (account, series) = (1 + place / 9, 1 + 2 * (place % 9));
+            checker.ask(&tables, &Request::Trade { id: 1 + 2 * place, account, series, side: 1, quantity: 1, price: 1 });
+            checker.ask(&tables, &Request::Trade { id: 1 + 2 * place, account, series: series + 1, side: 4, quantity: 7, price: 1 });
+            checker.ask(&tables, &Request::Lineage { id: 2 * place, suffix: 0 });
+        }
+    }
+    for rows in [4_095, 4_096] {
+        let mut tables = of_places(rows);
+        tables.positions = small().positions;
+        for power in 0..=12 {
+            for place in [1 << power, rows - (1 << power)].into_iter().flat_map(|p| p - 1..=p + 1).filter(|p| (0..=rows).contains(p)) {
+                checker.ask(&tables, &Request::Trade { id: 1 + 2 * place, account: 1, series: 1, side: 1, quantity: 1, price: 1 });
+                checker.ask(&tables, &Request::Lineage { id: 2 * place, suffix: 0 });
+            }
+        }
     }
 }
 
