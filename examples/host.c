@@ -1,11 +1,13 @@
 /*
  * A host: lends its tables, books document 01's worked example P11, and prints the tables, a refusal, a list of trades that stops, and a give-up from its
- * opening to the booked rows.
+ * opening to the booked rows. It keeps a journal of what is booked, and replays it into other tables.
  *
  *     cc -std=c11 -Iinclude examples/host.c target/staticlib/libvelichundam.a -o host
  */
 #include <inttypes.h>
 #include <stdio.h>
+#include <stdlib.h>
+#include <string.h>
 
 #include "velichundam.h"
 
@@ -16,6 +18,12 @@
 static int64_t records[RECORDS_LEN];
 static int64_t positions[POSITIONS_LEN];
 static int64_t processes[PROCESSES_LEN];
+
+static uint8_t journal[20 * VELICHUNDAM_TRADE_LINE];
+static size_t journal_len;
+
+/* What is left of the journal's buffer: a pointer and a length, as the writing calls take it. */
+#define JOURNAL_REST journal + journal_len, sizeof journal - journal_len
 
 static const char *why(int64_t number)
 {
@@ -60,9 +68,35 @@ static void print_reply(const char *request, velichundam_reply r)
     case VELICHUNDAM_STOPPED:
         printf("stopped, booked %" PRId64 ", number %" PRId64 " (%s), place %" PRId64 "\n", r.first, r.second, why(r.second), r.third);
         break;
+    case VELICHUNDAM_REPLAYED:
+        printf("replayed, lines %" PRId64 "\n", r.first);
+        break;
+    case VELICHUNDAM_BAD_LINE:
+        printf("line %" PRId64 " is bad\n", r.first);
+        break;
+    case VELICHUNDAM_LINE_REFUSED:
+        printf("line %" PRId64 " is refused, number %" PRId64 " (%s), place %" PRId64 "\n", r.first, r.second, why(r.second), r.third);
+        break;
     default:
         printf("refused, number %" PRId64 " (%s), place %" PRId64 "\n", r.first, why(r.first), r.second);
     }
+}
+
+/* Prints the answer, and says whether the request was booked. */
+static int booked(const char *request, velichundam_reply r)
+{
+    print_reply(request, r);
+    return r.kind == VELICHUNDAM_BOOKED || r.kind == VELICHUNDAM_CLOSING_ERROR;
+}
+
+/* Takes what was written into the journal. A host would store it here, before it tells anyone that the request is booked. */
+static void keep(velichundam_reply written)
+{
+    if (written.kind != VELICHUNDAM_WRITTEN) {
+        fprintf(stderr, "the journal is full\n");
+        exit(1);
+    }
+    journal_len += (size_t)written.first;
 }
 
 static void print_table(const char *title, const int64_t *table, size_t width)
@@ -87,8 +121,12 @@ static void book_a_morning(void)
     };
     int64_t excess[TRADES] = {-1, -1, -1, -1};
 
-    print_reply("morning", velichundam_trades(records, RECORDS_LEN, positions, POSITIONS_LEN,
-        trades, TRADES * VELICHUNDAM_TRADE_FIGURES, excess, TRADES));
+    velichundam_reply r = velichundam_trades(records, RECORDS_LEN, positions, POSITIONS_LEN,
+        trades, TRADES * VELICHUNDAM_TRADE_FIGURES, excess, TRADES);
+    print_reply("morning", r);
+    /* The trades that it booked have their lines: all, or those before the stop. */
+    if (r.kind == VELICHUNDAM_BOOKED || (r.kind == VELICHUNDAM_STOPPED && r.first > 0))
+        keep(velichundam_write_trades(JOURNAL_REST, trades, (size_t)r.first * VELICHUNDAM_TRADE_FIGURES));
     printf("excess:");
     for (int k = 0; k < TRADES; k++)
         printf(" %" PRId64, excess[k]);
@@ -103,9 +141,10 @@ typedef velichundam_reply step(int64_t *records, size_t records_len, int64_t *po
     int64_t process, int64_t id, int64_t suffix, int64_t giving, int64_t taking, int64_t series);
 
 /* Process 9001 gives one of the separated parts, suffix 4, up from account 2 to account 5. */
-static void print_step(const char *who, step *call)
+static void take_step(const char *who, step *call, int64_t letter)
 {
-    print_reply(who, call(records, RECORDS_LEN, positions, POSITIONS_LEN, processes, PROCESSES_LEN, 9001, 456789, 4, 2, 5, 1));
+    if (booked(who, call(records, RECORDS_LEN, positions, POSITIONS_LEN, processes, PROCESSES_LEN, 9001, 456789, 4, 2, 5, 1)))
+        keep(velichundam_write_give_up(JOURNAL_REST, letter, 9001, 456789, 4, 2, 5, 1));
 }
 
 /* While the process runs, the part can't be adjusted; the taker's clearing member approves after the claim. The last step books two rows. */
@@ -113,31 +152,65 @@ static void give_up_a_part(void)
 {
     const int64_t halves[] = {25, 25};
 
-    print_step("give-up opened", velichundam_give_up_open);
+    take_step("give-up opened", velichundam_give_up_open, VELICHUNDAM_STEP_OPEN);
     print_reply("separation meanwhile", velichundam_separate(records, RECORDS_LEN, positions, POSITIONS_LEN,
         456789, 4, 2, 1, halves, sizeof halves / sizeof halves[0]));
-    print_step("taker's approval, too early", velichundam_give_up_approve_taker);
-    print_step("claim", velichundam_give_up_claim);
-    print_step("taker's approval", velichundam_give_up_approve_taker);
+    take_step("taker's approval, too early", velichundam_give_up_approve_taker, VELICHUNDAM_STEP_APPROVE_TAKER);
+    take_step("claim", velichundam_give_up_claim, VELICHUNDAM_STEP_CLAIM);
+    take_step("taker's approval", velichundam_give_up_approve_taker, VELICHUNDAM_STEP_APPROVE_TAKER);
     print_table("processes", processes, VELICHUNDAM_PROCESS_CELLS);
 
     printf("\n");
-    print_step("giver's approval", velichundam_give_up_approve_giver);
+    take_step("giver's approval", velichundam_give_up_approve_giver, VELICHUNDAM_STEP_APPROVE_GIVER);
     print_table("records", records, VELICHUNDAM_RECORD_CELLS);
     print_table("positions", positions, VELICHUNDAM_POSITION_CELLS);
     print_table("processes", processes, VELICHUNDAM_PROCESS_CELLS);
+}
+
+/* Whether two tables have the same rows; what lies past them may differ. */
+static int same_rows(const int64_t *table, const int64_t *other, size_t width)
+{
+    return memcmp(table, other, (1 + (size_t)table[0] * width) * sizeof *table) == 0;
+}
+
+/* The day once more, from its journal: into empty tables of the same room, again into these, and with a byte that was lost. */
+static void replay_the_day(void)
+{
+    static int64_t records_again[RECORDS_LEN];
+    static int64_t positions_again[POSITIONS_LEN];
+    static int64_t processes_again[PROCESSES_LEN];
+
+    printf("journal: %zu bytes\n", journal_len);
+    fwrite(journal, 1, journal_len, stdout);
+
+    printf("\n");
+    print_reply("replay", velichundam_replay(records_again, RECORDS_LEN, positions_again, POSITIONS_LEN, processes_again, PROCESSES_LEN,
+        journal, journal_len));
+    printf("records, positions and processes: %s\n",
+        same_rows(records, records_again, VELICHUNDAM_RECORD_CELLS) && same_rows(positions, positions_again, VELICHUNDAM_POSITION_CELLS)
+        && same_rows(processes, processes_again, VELICHUNDAM_PROCESS_CELLS) ? "the same rows" : "other rows");
+
+    print_reply("replay on top of it", velichundam_replay(records_again, RECORDS_LEN, positions_again, POSITIONS_LEN,
+        processes_again, PROCESSES_LEN, journal, journal_len));
+
+    records_again[0] = positions_again[0] = processes_again[0] = 0;
+    print_reply("replay without the last newline", velichundam_replay(records_again, RECORDS_LEN, positions_again, POSITIONS_LEN,
+        processes_again, PROCESSES_LEN, journal, journal_len - 1));
 }
 
 int main(void)
 {
     const int64_t parts[] = {50, 25, 25};
     const int64_t again[] = {60, 41};
+    enum { PARTS = sizeof parts / sizeof parts[0] };
 
-    print_reply("trade", velichundam_trade(records, RECORDS_LEN, positions, POSITIONS_LEN,
-        456789, 1, 1, VELICHUNDAM_BUY_OPEN, 100, 1250000000));
-    print_reply("transfer", velichundam_transfer(records, RECORDS_LEN, positions, POSITIONS_LEN, 456789, 0, 1, 2, 1));
-    print_reply("separation", velichundam_separate(records, RECORDS_LEN, positions, POSITIONS_LEN,
-        456789, 2, 2, 1, parts, sizeof parts / sizeof parts[0]));
+    if (booked("trade", velichundam_trade(records, RECORDS_LEN, positions, POSITIONS_LEN,
+            456789, 1, 1, VELICHUNDAM_BUY_OPEN, 100, 1250000000)))
+        keep(velichundam_write_trade(JOURNAL_REST, 456789, 1, 1, VELICHUNDAM_BUY_OPEN, 100, 1250000000));
+    if (booked("transfer", velichundam_transfer(records, RECORDS_LEN, positions, POSITIONS_LEN, 456789, 0, 1, 2, 1)))
+        keep(velichundam_write_transfer(JOURNAL_REST, 456789, 0, 1, 2, 1));
+    if (booked("separation", velichundam_separate(records, RECORDS_LEN, positions, POSITIONS_LEN, 456789, 2, 2, 1, parts, PARTS)))
+        keep(velichundam_write_separation(JOURNAL_REST, 456789, 2, 2, 1, parts, PARTS));
     print_reply("lineage of suffix 6", velichundam_lineage(records, RECORDS_LEN, 456789, 6));
 
     print_table("records", records, VELICHUNDAM_RECORD_CELLS);
@@ -152,5 +225,8 @@ int main(void)
 
     printf("\n");
     give_up_a_part();
+
+    printf("\n");
+    replay_the_day();
     return 0;
 }

@@ -4,11 +4,13 @@
  * The book lives in tables that the host owns and lends for the length of a call: plain arrays of signed 64-bit numbers. Nothing is
  * allocated, nothing is kept between calls, and no call does input or output. Four requests book: trade, separation, account transfer and
  * average-price merge; a list of trades may be handed in by one call. Six more are the steps by which a record is given up to another member's
- * account; they alone are lent the third table, the processes. One question, lineage, only reads.
+ * account; they and a replay alone are lent the third table, the processes. One question, lineage, only reads.
  *
- * Every call takes any tables of any length with any contents and any figures, and answers. A request that is refused changes nothing; a list of
- * trades stops at the first that is refused, and those before it stay booked. What each call answers and what it leaves in every cell is proved of
- * the code behind these functions (see crates/velichundam/src/lib.rt).
+ * A host may keep a journal: six calls write a request as a line of text, and one replays such a text.
+ *
+ * Every call takes any tables of any length with any contents, any figures and any text, and answers. A request that is refused changes nothing; a
+ * list of trades stops at the first that is refused, a replay at the first line that is bad or refused, and what came before stays booked. What each
+ * call answers and what it leaves in every cell and byte is proved of the code behind these functions (see crates/velichundam/src/lib.rt).
  *
  * docs/RULES.md has the rules of the book for a host's author: what each request writes, row by row with every cell, and the refusals in order.
  *
@@ -92,12 +94,33 @@
  * step comes from the one who may make it: the book knows accounts, not persons. (A table that these calls did not make may hold a claimed process
  * with both approvals: it is sound, and no step ends it.)
  *
+ * THE JOURNAL
+ *
+ * A journal has a line for each request that was accepted and changed a table, in the order in which they were booked. Its fields are parted by tabs
+ * (byte 9) and it is ended by a newline (byte 10):
+ *
+ *     T  id  account  series  side  quantity  price                   a trade; a list of trades has a line for each that it booked
+ *     S  id  suffix  account  series  part  part  ..                  a separation
+ *     A  id  suffix  from  to  series                                 an account transfer
+ *     M  id  account  series  id  suffix  id  suffix  ..              a merge
+ *     G  step  process  id  suffix  giving  taking  series            a step of a give-up, by its letter: O open, C claim, X cancel, R refuse,
+ *                                                                     G the giver's approval, T the taker's
+ *
+ * Figures are decimal, without leading zeros, with a minus for negatives only. Nothing else stands in a line: no space, no plus, no carriage return.
+ * The line of document 01's first trade, each tab shown as |:
+ *
+ *     T|456789|1|1|1|100|1250000000
+ *
+ * A host writes the line once the request is booked; the line says nothing of the answer. A replay into empty tables of the same room ends with the
+ * rows that a day begun on empty tables ended with. The program in crates/replay replays a file.
+ *
  * WHAT THE HOST GUARANTEES
  *
  * For the length of a call:
- *   - a pointer points to as many int64_t as its length says, aligned as int64_t is, and is not NULL even where the length is 0;
- *   - that memory may be read, and written for the tables and the excesses (not for a parameter that is const);
- *   - records, positions, processes, the list and the excesses share no cell with each other;
+ *   - a pointer points to as many int64_t as its length says, aligned as int64_t is, a text to as many bytes, and is not NULL even where the length
+ *     is 0;
+ *   - that memory may be read, and written for the tables, the excesses and a text that is written to (not for a parameter that is const);
+ *   - records, positions, processes, the list, the excesses and the text share no cell with each other;
  *   - nobody else writes any of them, nor reads what the call may write: where threads share a book, hold a lock.
  *
  * Different tables may be used from different threads at the same time: the functions have no state of their own.
@@ -106,16 +129,19 @@
  *
  * A call needs stack, and nothing sees to it that there is enough: a thread with a small stack should allow for the call it makes. Lineage calls
  * itself on the parent, once for each link, and a table of 4,096 records has chains of up to 4,095 links. A merge keeps of each source its row and
- * the greatest suffix of its id, in two arrays of 1,000 numbers of 16 bits. In bytes, from the host's call down, rounded up:
+ * the greatest suffix of its id, in two arrays of 1,000 numbers of 16 bits; a replay keeps the figures of a line, 2,003 numbers. In bytes, from the
+ * host's call down, rounded up:
  *
  *     lineage                                525,000 at the longest chain: 128 for each link, and 300
  *     merge                                    5,000
  *     trade, trades, separation, transfer      1,000
  *     the steps of a give-up                   2,000
+ *     replay                                  22,000
+ *     the calls that write                     1,000
  *
- * These were measured with this archive on x86-64, on full tables, the longest chain, and lists of 1,000. They are no part of what is proved. The
- * C library's memmove and memset are in them, but not the dynamic linker: where it looks these two up at the first call (lazy binding), that call
- * took another 3,200.
+ * These were measured with this archive on x86-64, on full tables, the longest chain, lists of 1,000 and the longest lines. They are no part of what
+ * is proved. The C library's memmove and memset are in them, but not the dynamic linker: where it looks these two up at the first call (lazy binding),
+ * that call took another 3,200.
  */
 #ifndef VELICHUNDAM_H
 #define VELICHUNDAM_H
@@ -141,6 +167,14 @@ extern "C" {
 /* Figures of a trade in a list, and the most trades that one call takes. */
 #define VELICHUNDAM_TRADE_FIGURES 6
 #define VELICHUNDAM_MOST_TRADES 1000
+
+/* The most bytes that a line of a journal takes, its newline included: of each trade of a list, of a separation into so many parts, of a merge of so
+ * many sources. */
+#define VELICHUNDAM_TRADE_LINE 49
+#define VELICHUNDAM_SEPARATION_LINE(parts) (30 + (size_t)8 * (parts))
+#define VELICHUNDAM_TRANSFER_LINE 35
+#define VELICHUNDAM_MERGE_LINE(sources) (24 + (size_t)16 * (sources))
+#define VELICHUNDAM_GIVE_UP_LINE 47
 
 /* How many cells a table takes that has room for so many rows. */
 #define VELICHUNDAM_RECORDS_LEN(rows) (VELICHUNDAM_RECORDS_HEADER + (size_t)VELICHUNDAM_RECORD_CELLS * (rows))
@@ -183,8 +217,18 @@ enum {
     VELICHUNDAM_STAGE_CANCELLED = 12
 };
 
+/* The letter of a step in a journal, by its number in ASCII. */
+enum {
+    VELICHUNDAM_STEP_OPEN = 79,          /* O */
+    VELICHUNDAM_STEP_CLAIM = 67,         /* C */
+    VELICHUNDAM_STEP_CANCEL = 88,        /* X */
+    VELICHUNDAM_STEP_REFUSE = 82,        /* R */
+    VELICHUNDAM_STEP_APPROVE_GIVER = 71, /* G */
+    VELICHUNDAM_STEP_APPROVE_TAKER = 84  /* T */
+};
+
 /*
- * An answer: which of five it is, and up to three numbers. A number that an answer lacks is 0.
+ * An answer: which of nine it is, and up to three numbers. A number that an answer lacks is 0.
  *
  *     kind                            first                            second                          third
  *     0 VELICHUNDAM_BOOKED            rows added to the records table  residual (0 but for a merge)
@@ -192,6 +236,10 @@ enum {
  *     2 VELICHUNDAM_LINEAGE           price of the original            links followed
  *     3 VELICHUNDAM_REFUSED           number, 1 to 19 or 23            place
  *     4 VELICHUNDAM_STOPPED           trades booked                    number                          place
+ *     5 VELICHUNDAM_WRITTEN           bytes written
+ *     6 VELICHUNDAM_REPLAYED          lines booked, all of them
+ *     7 VELICHUNDAM_BAD_LINE          line, from 1
+ *     8 VELICHUNDAM_LINE_REFUSED      line, from 1                     number                          place
  */
 typedef struct velichundam_reply {
     int64_t kind;
@@ -205,12 +253,16 @@ enum {
     VELICHUNDAM_CLOSING_ERROR = 1,
     VELICHUNDAM_LINEAGE = 2,
     VELICHUNDAM_REFUSED = 3,
-    VELICHUNDAM_STOPPED = 4
+    VELICHUNDAM_STOPPED = 4,
+    VELICHUNDAM_WRITTEN = 5,
+    VELICHUNDAM_REPLAYED = 6,
+    VELICHUNDAM_BAD_LINE = 7,
+    VELICHUNDAM_LINE_REFUSED = 8
 };
 
 /*
- * Why a request is refused, or why a list of trades stops: the first that applies, in the order of the tests. They go by number, but for those of
- * give-ups: 1, 2, 19, 3, 18, 4, 5, 6, 7 or 17, 8, .. 16, 23. What a request is not said to refuse by, it does not test.
+ * Why a request is refused, or why a list of trades or a replay stops: the first that applies, in the order of the tests. They go by number, but for
+ * those of give-ups: 1, 2, 19, 3, 18, 4, 5, 6, 7 or 17, 8, .. 16, 23. What a request is not said to refuse by, it does not test.
  *
  * The place is the position in the list, from 0, of the first source that fails, for 5 to 10 and 17 in a merge; otherwise 0. In a merge each test
  * runs over the whole list before the next number is tried; 7 and 17 are one test, and the first source whose status is not 0 gives number and
@@ -222,7 +274,8 @@ enum {
     /* The positions table is not sound. Not for lineage. */
     VELICHUNDAM_POSITIONS_NOT_SOUND = 2,
     /* A figure of the request, an element of its list or the list's count is out of range; the list of pairs has an odd length; from equals to,
-     * or giving taking; the list of trades has no multiple of six figures, or fewer cells for the excesses than trades. */
+     * or giving taking; the list of trades has no multiple of six figures, or fewer cells for the excesses than trades; a step to be written is no
+     * step's letter. */
     VELICHUNDAM_OUT_OF_RANGE = 3,
     /* Trade, merge: the new id has a record already, under whatever suffix. */
     VELICHUNDAM_ID_TAKEN = 4,
@@ -244,7 +297,7 @@ enum {
     VELICHUNDAM_NOT_HELD = 12,
     /* An id would need a suffix above 65,535. */
     VELICHUNDAM_NO_SUFFIX = 13,
-    /* The new rows don't fit into the records table's room. */
+    /* The new rows don't fit into the records table's room. A call that writes: the line doesn't fit into the text. */
     VELICHUNDAM_RECORDS_FULL = 14,
     /* The rows that are needed and absent don't fit into the positions table's room. */
     VELICHUNDAM_POSITIONS_FULL = 15,
@@ -387,6 +440,54 @@ velichundam_reply velichundam_give_up_approve_taker(int64_t *records, size_t rec
  * Answers lineage: the original's price, and the number of links. Refuses by 1, 3, 5.
  */
 velichundam_reply velichundam_lineage(const int64_t *records, size_t records_len, int64_t id, int64_t suffix);
+
+/*
+ * The six calls that write a request as a line of a journal. See THE JOURNAL above. They are lent no table, and don't know whether the request was
+ * accepted: the host writes those that were.
+ *
+ * Each writes from the first byte of text on, at most VELICHUNDAM_TRADE_LINE bytes and so on; a host that appends lends the rest of its buffer. The
+ * bytes past what is written stay as they were.
+ *
+ * Answers written (the bytes). Refuses by 3 what its own call would refuse by 3, then by 14 where text is too short; the text is left as it was.
+ */
+
+/* Writes the line of a trade. */
+velichundam_reply velichundam_write_trade(uint8_t *text, size_t text_len,
+    int64_t id, int64_t account, int64_t series, int64_t side, int64_t quantity, int64_t price);
+
+/*
+ * Writes a line for each of 1 to 1,000 trades, six figures each: of a list that stopped, those that it booked. Refuses by 3 also where one of the
+ * trades has a figure out of range.
+ */
+velichundam_reply velichundam_write_trades(uint8_t *text, size_t text_len, const int64_t *trades, size_t trades_len);
+
+/* Writes the line of a separation. */
+velichundam_reply velichundam_write_separation(uint8_t *text, size_t text_len,
+    int64_t id, int64_t suffix, int64_t account, int64_t series, const int64_t *parts, size_t parts_len);
+
+/* Writes the line of an account transfer. */
+velichundam_reply velichundam_write_transfer(uint8_t *text, size_t text_len,
+    int64_t id, int64_t suffix, int64_t from, int64_t to, int64_t series);
+
+/* Writes the line of a merge. */
+velichundam_reply velichundam_write_merge(uint8_t *text, size_t text_len,
+    int64_t id, int64_t account, int64_t series, const int64_t *pairs, size_t pairs_len);
+
+/* Writes the line of a step of a give-up; step is one of VELICHUNDAM_STEP_OPEN and so on, another number is refused 3. */
+velichundam_reply velichundam_write_give_up(uint8_t *text, size_t text_len,
+    int64_t step, int64_t process, int64_t id, int64_t suffix, int64_t giving, int64_t taking, int64_t series);
+
+/*
+ * Replays a journal: each line's request is handled as by its own call, line by line up to the first that is bad or refused. A line is bad where it is
+ * none that the calls above write; so one whose figures fail test 3 is bad, and so are an empty line, a line of another letter and a last line without
+ * its newline. The lines before the one that is named stay booked; it and those after it change nothing.
+ *
+ * Answers replayed (the lines) where all are booked, which an empty text is, whatever the tables hold. Otherwise a bad line (its place from 1), or a
+ * refused line (its place from 1, and its request's refusal by any number but 3). Tables that are not sound refuse the first line, by 1 or 2; a
+ * process table that is not sound refuses only the lines of give-ups, by 19.
+ */
+velichundam_reply velichundam_replay(int64_t *records, size_t records_len, int64_t *positions, size_t positions_len,
+    int64_t *processes, size_t processes_len, const uint8_t *text, size_t text_len);
 
 #ifdef __cplusplus
 }

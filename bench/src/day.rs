@@ -89,7 +89,7 @@ impl Day {
     }
 }
 
-fn draw(rng: &mut Rng, records: &[i64]) -> Request {
+pub fn draw(rng: &mut Rng, records: &[i64]) -> Request {
     let (rows, _) = records[RECORDS_HEADER..].as_chunks::<RECORD_CELLS>();
     let rows = &rows[..records[0] as usize];
     let pick = |likes: &dyn Fn(&[i64; RECORD_CELLS]) -> bool, rng: &mut Rng| {

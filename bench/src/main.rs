@@ -1,10 +1,11 @@
 //! The time of a request, for the proved book, for the same written by hand in Rust, and for SQLite:
-//! `cargo run --release -- [--samples N] [--batches N] [--days N]`. No time is asserted; that the books agree is.
+//! `cargo run --release -- [--samples N] [--batches N] [--days N] [--replays N]`. No time is asserted; that the books agree is.
 
 mod batch;
 mod calls;
 mod day;
 mod give_ups;
+mod journal;
 mod request;
 mod rng;
 mod sqlite;
@@ -27,6 +28,7 @@ fn main() {
     print_give_ups(samples);
     print_batches(number(&words, "--batches", 50));
     print_day(number(&words, "--days", 15));
+    print_journals(number(&words, "--replays", 50));
 }
 
 fn cell(s: Spread) -> String {
@@ -96,5 +98,31 @@ fn print_day(days: usize) {
         let sqlite = micros.get(2).map_or("-".to_string(), |time| format!("{time:.2}"));
         let against = micros.get(2).map_or("-".to_string(), |time| format!("{:.2}", time / micros[0]));
         println!("| {name:<10} | {count:>5} | {:>8.2} | {:>8.2} | {sqlite:>8} | {:>14.2} | {against:>13} |", micros[0], micros[1], micros[0] / micros[1]);
+    }
+}
+
+fn print_journals(samples: usize) {
+    let sql = SqlBook::open();
+    println!("\nA journal replayed into empty tables, in nanoseconds a line: median of {samples} samples [a tenth below .. a tenth above]. By calls: the same");
+    println!("requests, each by our call for it. {}\n", sql_note(&sql, "the same requests in one transaction, not read from a text"));
+    println!(
+        "| journal           | lines |                  ours |         by hand, Rust | by calls |   SQLite | ours / by hand | by calls / ours | SQLite / ours |"
+    );
+    println!(
+        "|-------------------|------:|----------------------:|----------------------:|---------:|---------:|---------------:|----------------:|--------------:|"
+    );
+    let journals = journal::all();
+    for line in journal::measure_replays(&journals, samples, sql) {
+        let (ours, by_hand, calls) = (line.ours.median, line.by_hand.median, line.by_calls);
+        let (sqlite, against) = line.sqlite.map_or(("-".into(), "-".into()), |time| (format!("{time:.0}"), format!("{:.2}", time / ours)));
+        print!("| {:<17} | {:>5} | {:>21} | {:>21} | {calls:>8.0} | {sqlite:>8} ", line.name, line.lines, cell(line.ours), cell(line.by_hand));
+        println!("| {:>14.2} | {:>15.2} | {against:>13} |", ours / by_hand, calls / ours);
+    }
+    println!("\nThe lines of these journals written, likewise.\n");
+    println!("| journal           | lines |                  ours |         by hand, Rust | ours / by hand |");
+    println!("|-------------------|------:|----------------------:|----------------------:|---------------:|");
+    for line in journal::measure_writing(&journals, samples) {
+        let ratio = line.ours.median / line.by_hand.median;
+        println!("| {:<17} | {:>5} | {:>21} | {:>21} | {ratio:>14.2} |", line.name, line.lines, cell(line.ours), cell(line.by_hand));
     }
 }

@@ -1,10 +1,12 @@
-//! A request, and the two books that answer it on lent tables: the archive through its C interface, and the peer by hand.
+//! A request, and the two books that answer it on lent tables and write and replay its line: the archive through its C interface, and the peer by hand.
 
 use peer::Step;
 pub use velichundam::c::Coded;
 use velichundam::c::{velichundam_give_up_approve_giver, velichundam_give_up_approve_taker, velichundam_give_up_cancel};
 use velichundam::c::{velichundam_give_up_claim, velichundam_give_up_open, velichundam_give_up_refuse};
 use velichundam::c::{velichundam_lineage, velichundam_merge, velichundam_separate, velichundam_trade, velichundam_trades, velichundam_transfer};
+use velichundam::c::{velichundam_replay, velichundam_write_give_up, velichundam_write_merge, velichundam_write_separation};
+use velichundam::c::{velichundam_write_trade, velichundam_write_transfer};
 
 #[derive(Clone, Debug)]
 pub enum Request {
@@ -32,6 +34,8 @@ impl Request {
 
 pub const REFUSED: i64 = 3;
 const STOPPED: i64 = 4;
+pub const WRITTEN: i64 = 5;
+pub const REPLAYED: i64 = 6;
 
 pub type Book = fn(&mut [i64], &mut [i64], &Request) -> Coded;
 
@@ -72,6 +76,10 @@ fn coded(reply: peer::Reply) -> Coded {
         peer::Reply::Lineage { price, links } => (2, price, links, 0),
         peer::Reply::Refused { number, place } => (REFUSED, number, place, 0),
         peer::Reply::Stopped { booked, number, place } => (STOPPED, booked, number, place),
+        peer::Reply::Written { bytes } => (WRITTEN, bytes, 0, 0),
+        peer::Reply::Replayed { lines } => (REPLAYED, lines, 0, 0),
+        peer::Reply::BadLine { line } => (7, line, 0, 0),
+        peer::Reply::LineRefused { line, number, place } => (8, line, number, place),
     };
     Coded { kind, first, second, third }
 }
@@ -131,4 +139,101 @@ pub fn step_by_hand(tables: &mut [Vec<i64>; 3], step: Step, names: &Names) -> Co
     let [records, positions, processes] = tables;
     let [process, id, suffix, giving, taking, series] = *names;
     coded(peer::give_up(step, records, positions, processes, process, id, suffix, giving, taking, series))
+}
+
+/// What a line of a journal asks for: a request that changes a table, or a step of a give-up.
+#[derive(Clone, Debug)]
+pub enum Entry {
+    Request(Request),
+    Step(Step, Names),
+}
+
+fn letter(step: Step) -> i64 {
+    let letter = match step {
+        Step::Open => b'O',
+        Step::Claim => b'C',
+        Step::Cancel => b'X',
+        Step::Refuse => b'R',
+        Step::ApproveGiver => b'G',
+        Step::ApproveTaker => b'T',
+    };
+    i64::from(letter)
+}
+
+/// The archive, a call.
+pub fn entry_of_ours(tables: &mut [Vec<i64>; 3], entry: &Entry) -> Coded {
+    match entry {
+        Entry::Request(request) => {
+            let [records, positions, _] = tables;
+            ours(records, positions, request)
+        }
+        Entry::Step(step, names) => step_of_ours(tables, *step, names),
+    }
+}
+
+/// The peer, a call.
+pub fn entry_by_hand(tables: &mut [Vec<i64>; 3], entry: &Entry) -> Coded {
+    match entry {
+        Entry::Request(request) => {
+            let [records, positions, _] = tables;
+            by_hand(records, positions, request)
+        }
+        Entry::Step(step, names) => step_by_hand(tables, *step, names),
+    }
+}
+
+/// The archive, a line written.
+#[inline(never)]
+pub fn line_of_ours(text: &mut [u8], entry: &Entry) -> Coded {
+    let (t, tn) = (text.as_mut_ptr(), text.len());
+    unsafe {
+        match entry {
+            Entry::Request(Request::Trade { id, account, series, side, quantity, price }) => {
+                velichundam_write_trade(t, tn, *id, *account, *series, *side, *quantity, *price)
+            }
+            Entry::Request(Request::Separate { id, suffix, account, series, parts }) => {
+                velichundam_write_separation(t, tn, *id, *suffix, *account, *series, parts.as_ptr(), parts.len())
+            }
+            Entry::Request(Request::Transfer { id, suffix, from, to, series }) => velichundam_write_transfer(t, tn, *id, *suffix, *from, *to, *series),
+            Entry::Request(Request::Merge { id, account, series, pairs }) => {
+                velichundam_write_merge(t, tn, *id, *account, *series, pairs.as_ptr(), pairs.len())
+            }
+            Entry::Request(Request::Lineage { .. }) => unreachable!("it changes no table"),
+            Entry::Step(step, [process, id, suffix, giving, taking, series]) => {
+                velichundam_write_give_up(t, tn, letter(*step), *process, *id, *suffix, *giving, *taking, *series)
+            }
+        }
+    }
+}
+
+/// The peer, a line written.
+#[inline(never)]
+pub fn line_by_hand(text: &mut [u8], entry: &Entry) -> Coded {
+    let reply = match entry {
+        Entry::Request(Request::Trade { id, account, series, side, quantity, price }) => {
+            peer::write_trade(text, *id, *account, *series, *side, *quantity, *price)
+        }
+        Entry::Request(Request::Separate { id, suffix, account, series, parts }) => peer::write_separation(text, *id, *suffix, *account, *series, parts),
+        Entry::Request(Request::Transfer { id, suffix, from, to, series }) => peer::write_transfer(text, *id, *suffix, *from, *to, *series),
+        Entry::Request(Request::Merge { id, account, series, pairs }) => peer::write_merge(text, *id, *account, *series, pairs),
+        Entry::Request(Request::Lineage { .. }) => unreachable!("it changes no table"),
+        Entry::Step(step, [process, id, suffix, giving, taking, series]) => {
+            peer::write_give_up(text, letter(*step), *process, *id, *suffix, *giving, *taking, *series)
+        }
+    };
+    coded(reply)
+}
+
+/// The archive, a text replayed.
+#[inline(never)]
+pub fn replay_of_ours(tables: &mut [Vec<i64>; 3], text: &[u8]) -> Coded {
+    let [(r, rn), (p, pn), (q, qn)] = tables.each_mut().map(|table| (table.as_mut_ptr(), table.len()));
+    unsafe { velichundam_replay(r, rn, p, pn, q, qn, text.as_ptr(), text.len()) }
+}
+
+/// The peer, a text replayed.
+#[inline(never)]
+pub fn replay_by_hand(tables: &mut [Vec<i64>; 3], text: &[u8]) -> Coded {
+    let [records, positions, processes] = tables;
+    coded(peer::replay(records, positions, processes, text))
 }

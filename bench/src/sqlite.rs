@@ -1,4 +1,4 @@
-//! The same book kept in SQLite, in memory: the two tables as SQL tables, a transaction for each request or for a list of trades, prepared statements.
+//! The same book kept in SQLite, in memory: the two tables as SQL tables, a transaction for each request or for a list of them, prepared statements.
 //! SQLite keeps the rows sound by CHECK constraints and finds them by their keys; its tables have no room, so 14 and 15 are not tested. Give-ups are not in it.
 //!
 //! The library is opened at run time, where it is installed.
@@ -225,14 +225,7 @@ impl SqlBook {
     /// One request in a transaction of its own.
     pub fn handle(&mut self, request: &Request) -> Coded {
         self.run(self.begin, &[]);
-        let outcome = match request {
-            Request::Trade { id, account, series, side, quantity, price } => self.trade(*id, *account, *series, *side, *quantity, *price),
-            Request::Separate { id, suffix, account, series, parts } => self.separate(*id, *suffix, *account, *series, parts),
-            Request::Transfer { id, suffix, from, to, series } => self.transfer(*id, *suffix, *from, *to, *series),
-            Request::Merge { id, account, series, pairs } => self.merge(*id, *account, *series, pairs),
-            Request::Lineage { id, suffix } => self.lineage(*id, *suffix),
-        };
-        match outcome {
+        match self.perform(request) {
             Ok(answer) => {
                 self.run(self.commit, &[]);
                 answer
@@ -242,6 +235,31 @@ impl SqlBook {
                 Coded { kind: REFUSED, first: number, second: place as i64, third: 0 }
             }
         }
+    }
+
+    fn perform(&self, request: &Request) -> Result<Coded, Stop> {
+        match request {
+            Request::Trade { id, account, series, side, quantity, price } => self.trade(*id, *account, *series, *side, *quantity, *price),
+            Request::Separate { id, suffix, account, series, parts } => self.separate(*id, *suffix, *account, *series, parts),
+            Request::Transfer { id, suffix, from, to, series } => self.transfer(*id, *suffix, *from, *to, *series),
+            Request::Merge { id, account, series, pairs } => self.merge(*id, *account, *series, pairs),
+            Request::Lineage { id, suffix } => self.lineage(*id, *suffix),
+        }
+    }
+
+    /// A list of requests in one transaction: how many are done. It is taken back whole where one is refused: what is measured is booked whole.
+    pub fn handle_all<'a>(&mut self, requests: impl IntoIterator<Item = &'a Request>) -> usize {
+        self.run(self.begin, &[]);
+        let mut done = 0;
+        for request in requests {
+            if self.perform(request).is_err() {
+                self.run(self.rollback, &[]);
+                return 0;
+            }
+            done += 1;
+        }
+        self.run(self.commit, &[]);
+        done
     }
 
     /// A list of trades in one transaction; each one's excess is written. It is taken back whole where a trade is refused: what is measured is booked whole.

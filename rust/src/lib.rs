@@ -27,6 +27,23 @@ pub const TRADE_FIGURES: usize = 6;
 /// The most trades that one call takes.
 pub const MOST_TRADES: usize = 1_000;
 
+/// The most bytes that the line of a trade takes in a journal.
+pub const TRADE_LINE: usize = 49;
+/// The most bytes that the line of a transfer takes in a journal.
+pub const TRANSFER_LINE: usize = 35;
+/// The most bytes that the line of a step of a give-up takes in a journal.
+pub const GIVE_UP_LINE: usize = 47;
+
+/// The most bytes that the line of a separation into so many parts takes in a journal.
+pub const fn separation_line(parts: usize) -> usize {
+    30 + 8 * parts
+}
+
+/// The most bytes that the line of a merge of so many sources takes in a journal.
+pub const fn merge_line(sources: usize) -> usize {
+    24 + 16 * sources
+}
+
 /// How many cells a records table takes that has room for so many rows.
 pub const fn records_len(rows: usize) -> usize {
     RECORDS_HEADER + RECORD_CELLS * rows
@@ -59,6 +76,20 @@ pub enum Step {
     ApproveTaker,
 }
 
+impl Step {
+    /// The letter of the step in a journal.
+    pub const fn letter(self) -> u8 {
+        match self {
+            Step::Open => b'O',
+            Step::Claim => b'C',
+            Step::Cancel => b'X',
+            Step::Refuse => b'R',
+            Step::ApproveGiver => b'G',
+            Step::ApproveTaker => b'T',
+        }
+    }
+}
+
 /// How far a give-up has come: the last cell of a process, by its number.
 #[derive(Clone, Copy, Debug, PartialEq, Eq)]
 pub enum Stage {
@@ -89,13 +120,21 @@ pub enum Reply {
     Refused { number: i64, place: i64 },
     /// A list of trades stopped at one that is refused: how many trades before it are booked, and that refusal. Those stay booked.
     Stopped { booked: i64, number: i64, place: i64 },
+    /// Written to a journal: so many bytes, from the first of the lent text on.
+    Written { bytes: i64 },
+    /// A journal replayed to its end: so many lines, all of them booked.
+    Replayed { lines: i64 },
+    /// A journal replayed up to this line, counted from 1, which is none that a writing call writes. The lines before it stay booked.
+    BadLine { line: i64 },
+    /// A journal replayed up to this line, counted from 1, whose request is refused, and that refusal. The lines before it stay booked.
+    LineRefused { line: i64, number: i64, place: i64 },
 }
 
 /// The answer that the numbers of the C interface stand for.
 ///
 /// # Panics
 ///
-/// At a kind that is none of 0 to 4. The archive is proved to answer with these alone, so another number means that the archive that was linked and this crate
+/// At a kind that is none of 0 to 8. The archive is proved to answer with these alone, so another number means that the archive that was linked and this crate
 /// don't belong together. To call it a refusal would be to say that no cell has changed, which nobody knows then.
 impl From<c::Coded> for Reply {
     fn from(coded: c::Coded) -> Reply {
@@ -106,6 +145,10 @@ impl From<c::Coded> for Reply {
             2 => Reply::Lineage { price: first, links: second },
             3 => Reply::Refused { number: first, place: second },
             4 => Reply::Stopped { booked: first, number: second, place: third },
+            5 => Reply::Written { bytes: first },
+            6 => Reply::Replayed { lines: first },
+            7 => Reply::BadLine { line: first },
+            8 => Reply::LineRefused { line: first, number: second, place: third },
             _ => panic!("an answer of kind {kind}: the archive that is linked is not the one that this crate was written for"),
         }
     }
@@ -175,6 +218,47 @@ pub fn lineage(records: &[i64], id: i64, suffix: i64) -> Reply {
     unsafe { c::velichundam_lineage(records.as_ptr(), records.len(), id, suffix) }.into()
 }
 
+/// Writes the line of a trade to the front of `text`. A host does so for each request that was accepted, and replays the lines later.
+///
+/// This and the other calls that write answer the bytes written, at most those of `TRADE_LINE` and its like. They refuse what fails test 3 by 3, and then a text
+/// that is too short by 14; a refusal leaves the text as it was. The bytes past what is written stay.
+pub fn write_trade(text: &mut [u8], id: i64, account: i64, series: i64, side: i64, quantity: i64, price: i64) -> Reply {
+    unsafe { c::velichundam_write_trade(text.as_mut_ptr(), text.len(), id, account, series, side, quantity, price) }.into()
+}
+
+/// Writes a line for each of 1 to 1,000 trades, six figures each: of a list that stopped, those that it booked.
+pub fn write_trades(text: &mut [u8], trades: &[i64]) -> Reply {
+    unsafe { c::velichundam_write_trades(text.as_mut_ptr(), text.len(), trades.as_ptr(), trades.len()) }.into()
+}
+
+/// Writes the line of a separation.
+pub fn write_separation(text: &mut [u8], id: i64, suffix: i64, account: i64, series: i64, parts: &[i64]) -> Reply {
+    unsafe { c::velichundam_write_separation(text.as_mut_ptr(), text.len(), id, suffix, account, series, parts.as_ptr(), parts.len()) }.into()
+}
+
+/// Writes the line of a transfer.
+pub fn write_transfer(text: &mut [u8], id: i64, suffix: i64, from: i64, to: i64, series: i64) -> Reply {
+    unsafe { c::velichundam_write_transfer(text.as_mut_ptr(), text.len(), id, suffix, from, to, series) }.into()
+}
+
+/// Writes the line of a merge.
+pub fn write_merge(text: &mut [u8], id: i64, account: i64, series: i64, pairs: &[i64]) -> Reply {
+    unsafe { c::velichundam_write_merge(text.as_mut_ptr(), text.len(), id, account, series, pairs.as_ptr(), pairs.len()) }.into()
+}
+
+/// Writes the line of a step of a give-up.
+#[allow(clippy::too_many_arguments)]
+pub fn write_give_up(text: &mut [u8], step: Step, process: i64, id: i64, suffix: i64, giving: i64, taking: i64, series: i64) -> Reply {
+    let letter = i64::from(step.letter());
+    unsafe { c::velichundam_write_give_up(text.as_mut_ptr(), text.len(), letter, process, id, suffix, giving, taking, series) }.into()
+}
+
+/// Books the lines of a journal one by one, each as its own call does, up to the first that is bad or refused.
+pub fn replay(records: &mut [i64], positions: &mut [i64], processes: &mut [i64], text: &[u8]) -> Reply {
+    let (r, p, q) = (records.as_mut_ptr(), positions.as_mut_ptr(), processes.as_mut_ptr());
+    unsafe { c::velichundam_replay(r, records.len(), p, positions.len(), q, processes.len(), text.as_ptr(), text.len()) }.into()
+}
+
 /// The C interface as it is.
 pub mod c {
     /// An answer by the numbers of include/velichundam.h.
@@ -212,5 +296,17 @@ pub mod c {
         pub fn velichundam_give_up_approve_taker(records: *mut i64, records_len: usize, positions: *mut i64, positions_len: usize,
             processes: *mut i64, processes_len: usize, process: i64, id: i64, suffix: i64, giving: i64, taking: i64, series: i64) -> Coded;
         pub fn velichundam_lineage(records: *const i64, records_len: usize, id: i64, suffix: i64) -> Coded;
+        pub fn velichundam_write_trade(text: *mut u8, text_len: usize,
+            id: i64, account: i64, series: i64, side: i64, quantity: i64, price: i64) -> Coded;
+        pub fn velichundam_write_trades(text: *mut u8, text_len: usize, trades: *const i64, trades_len: usize) -> Coded;
+        pub fn velichundam_write_separation(text: *mut u8, text_len: usize,
+            id: i64, suffix: i64, account: i64, series: i64, parts: *const i64, parts_len: usize) -> Coded;
+        pub fn velichundam_write_transfer(text: *mut u8, text_len: usize, id: i64, suffix: i64, from: i64, to: i64, series: i64) -> Coded;
+        pub fn velichundam_write_merge(text: *mut u8, text_len: usize,
+            id: i64, account: i64, series: i64, pairs: *const i64, pairs_len: usize) -> Coded;
+        pub fn velichundam_write_give_up(text: *mut u8, text_len: usize,
+            step: i64, process: i64, id: i64, suffix: i64, giving: i64, taking: i64, series: i64) -> Coded;
+        pub fn velichundam_replay(records: *mut i64, records_len: usize, positions: *mut i64, positions_len: usize,
+            processes: *mut i64, processes_len: usize, text: *const u8, text_len: usize) -> Coded;
     }
 }

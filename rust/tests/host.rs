@@ -1,7 +1,9 @@
-//! A host in Rust: document 01's P11, the answers that carry other values, a refusal that changes nothing, a list of trades, give-ups, and what is no answer at
-//! all.
+//! A host in Rust: document 01's P11, the answers that carry other values, a refusal that changes nothing, a list of trades, give-ups, a journal and its
+//! replay, and what is no answer at all.
 
 use velichundam::{c::Coded, give_up, lineage, merge, positions_len, processes_len, records_len, separate, trade, trades, transfer, Reply, Stage, Step};
+use velichundam::{merge_line, separation_line, GIVE_UP_LINE, TRADE_LINE, TRANSFER_LINE};
+use velichundam::{replay, write_give_up, write_merge, write_separation, write_trade, write_trades, write_transfer};
 
 #[test]
 fn each_call_answers_by_its_enum() {
@@ -57,6 +59,10 @@ impl Book {
         give_up(step, &mut self.records, &mut self.positions, &mut self.processes, process, 7, 0, 1, 2, 1)
     }
 
+    fn replay(&mut self, text: &str) -> Reply {
+        replay(&mut self.records, &mut self.positions, &mut self.processes, text.as_bytes())
+    }
+
     /// The status of id 7, and of the process in that row the approvals and the stage.
     fn state(&self, row: usize) -> (i64, [i64; 2], Option<Stage>) {
         let cells = &self.processes[processes_len(row)..processes_len(row + 1)];
@@ -102,6 +108,70 @@ fn a_give_up_is_cancelled_or_refused_while_pending() {
     assert_eq!(Stage::of(1), None);
 }
 
+/// A journal, to which lines are appended.
+#[derive(Default)]
+struct Journal(Vec<u8>);
+
+impl Journal {
+    /// Lends room for a line of at most so many bytes after the others.
+    fn append(&mut self, most: usize, write: impl FnOnce(&mut [u8]) -> Reply) {
+        let end = self.0.len();
+        self.0.resize(end + most, 0);
+        let Reply::Written { bytes } = write(&mut self.0[end..]) else { panic!("the line is refused") };
+        self.0.truncate(end + bytes as usize);
+    }
+}
+
+#[test]
+fn a_day_is_journalled_and_replayed() {
+    let mut book = Book::new();
+    let mut journal = Journal::default();
+    journal.append(TRADE_LINE, |text| write_trade(text, 7, 1, 1, 1, 100, 5));
+
+    let (list, mut excess) = ([30, 1, 1, 1, 40, -5, 10, 1, 1, 4, 60, 5, 30, 1, 1, 2, 1, 5], [0; 3]);
+    assert_eq!(trades(&mut book.records, &mut book.positions, &list, &mut excess), Reply::Stopped { booked: 2, number: 4, place: 0 });
+    journal.append(2 * TRADE_LINE, |text| write_trades(text, &list[..12]));
+
+    for step in [Step::Open, Step::Cancel] {
+        assert_eq!(book.step(9, step), NO_ROW);
+        journal.append(GIVE_UP_LINE, |text| write_give_up(text, step, 9, 7, 0, 1, 2, 1));
+    }
+    let (records, positions) = (&mut book.records, &mut book.positions);
+    assert_eq!(merge(records, positions, 8, 1, 1, &[7, 0, 30, 0]), Reply::Booked { rows: 3, residual: -20 });
+    journal.append(merge_line(2), |text| write_merge(text, 8, 1, 1, &[7, 0, 30, 0]));
+    assert_eq!(separate(records, positions, 10, 0, 1, 1, &[59, 1]), Reply::Refused { number: 14, place: 0 });
+    assert_eq!(transfer(records, positions, 8, 0, 1, 2, 1), Reply::Refused { number: 12, place: 0 });
+
+    let text =
+        "T\t7\t1\t1\t1\t100\t5\nT\t30\t1\t1\t1\t40\t-5\nT\t10\t1\t1\t4\t60\t5\nG\tO\t9\t7\t0\t1\t2\t1\nG\tX\t9\t7\t0\t1\t2\t1\nM\t8\t1\t1\t7\t0\t30\t0\n";
+    assert_eq!(std::str::from_utf8(&journal.0), Ok(text));
+    let mut again = Book { records: vec![0; records_len(8)], positions: vec![0; positions_len(3)], processes: vec![0; processes_len(3)] };
+    assert_eq!(again.replay(text), Reply::Replayed { lines: 6 });
+    assert_eq!((again.records, again.positions, again.processes), (book.records, book.positions, book.processes));
+}
+
+#[test]
+fn a_replay_stops_at_a_line() {
+    let mut book = Book::new();
+    assert_eq!(book.replay(""), Reply::Replayed { lines: 0 });
+    assert_eq!(book.replay("A\t7\t0\t1\t2\t1\nS\t7\t2\t2\t1\t60\t40\nM\t8\t2\t1\t7\t3\t7\t4\n"), Reply::LineRefused { line: 3, number: 7, place: 0 });
+    assert_eq!((book.records[0], book.positions[..11].to_vec()), (6, vec![2, 1, 1, 0, 0, 0, 2, 1, 100, 0, 0]));
+    assert_eq!(book.replay("T\t9\t1\t1\t1\t1\t1\nT\t10\t1\t1\t1\t01\t1\n"), Reply::BadLine { line: 2 });
+    assert_eq!(book.replay("T\t11\t1\t1\t1\t1\t1"), Reply::BadLine { line: 1 });
+    assert_eq!(book.records[0], 7);
+}
+
+#[test]
+fn a_text_that_is_too_short_stays() {
+    let mut text = [7; TRANSFER_LINE];
+    assert_eq!(write_transfer(&mut text, 999_999_999, 65_535, 9_998, 9_999, 999_999), Reply::Written { bytes: 35 });
+    assert_eq!(&text, b"A\t999999999\t65535\t9998\t9999\t999999\n");
+    let mut short = [7; separation_line(2) - 1];
+    assert_eq!(write_separation(&mut short, 999_999_999, 65_535, 9_999, 999_999, &[1_000_000; 2]), Reply::Refused { number: 14, place: 0 });
+    assert_eq!(write_separation(&mut short, 999_999_999, 65_535, 9_999, 999_999, &[1_000_000]), Reply::Refused { number: 3, place: 0 });
+    assert_eq!(short, [7; 45]);
+}
+
 #[test]
 fn each_kind_has_its_case() {
     let answer = |kind| Reply::from(Coded { kind, first: 7, second: 8, third: 9 });
@@ -110,12 +180,16 @@ fn each_kind_has_its_case() {
     assert_eq!(answer(2), Reply::Lineage { price: 7, links: 8 });
     assert_eq!(answer(3), Reply::Refused { number: 7, place: 8 });
     assert_eq!(answer(4), Reply::Stopped { booked: 7, number: 8, place: 9 });
+    assert_eq!(answer(5), Reply::Written { bytes: 7 });
+    assert_eq!(answer(6), Reply::Replayed { lines: 7 });
+    assert_eq!(answer(7), Reply::BadLine { line: 7 });
+    assert_eq!(answer(8), Reply::LineRefused { line: 7, number: 8, place: 9 });
 }
 
 #[test]
-#[should_panic(expected = "an answer of kind 5:")]
+#[should_panic(expected = "an answer of kind 9:")]
 fn an_unknown_kind_is_no_refusal() {
-    let _ = Reply::from(Coded { kind: 5, first: 7, second: 8, third: 9 });
+    let _ = Reply::from(Coded { kind: 9, first: 7, second: 8, third: 9 });
 }
 
 #[test]

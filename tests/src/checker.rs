@@ -1,13 +1,14 @@
-//! One call on the book and on the model, compared in everything: the answer, every cell of the tables and of the lent output, the lists, and the
+//! One call on the book and on the model, compared in everything: the answer, every cell of the tables and of the lent output, the lists, the texts and the
 //! memory around them.
 
 use crate::coverage::Coverage;
 use crate::give_up_situations;
+use crate::journal_situations;
 use crate::lent::{note_call, Fence};
 use crate::situations;
-use crate::subject::{coded, lent_output, Coded, Outcome, Subject};
+use crate::subject::{coded, lent_output, Coded, Outcome, Subject, Wrote};
 use crate::tables::{first_differences, Tables};
-use model::{Answer, Request};
+use model::{Answer, Reply, Request, Writing};
 
 pub struct Checker {
     subject: Subject,
@@ -24,12 +25,10 @@ impl Checker {
 
     /// Calls the book and the model. The tables become what the book left, which is what the model left. The first difference ends the run.
     pub fn call(&mut self, tables: &mut Tables, request: &Request) -> Answer {
-        self.calls += 1;
-        note_call(self.calls);
+        let fence = self.next_call();
         if self.show == Some(self.calls) {
-            println!("call {}\n{}\n{request:?}\n", self.calls, tables.print());
+            println!("call {}\n{}\n{}\n", self.calls, tables.print(), print_request(request));
         }
-        let fence = if self.calls & 1 == 0 { Fence::Before } else { Fence::After };
         let outcome = self.subject.call(tables, request, fence);
         let mut expected = tables.clone();
         let answer = model::handle(&mut expected.records, &mut expected.positions, &mut expected.processes, request);
@@ -41,8 +40,43 @@ impl Checker {
         self.coverage.answer(request, answer.reply);
         situations::note(&mut self.coverage, tables, &expected, request, &answer);
         give_up_situations::note(&mut self.coverage, tables, &expected, request, answer.reply);
+        journal_situations::note(&mut self.coverage, tables, &expected, request, answer.reply);
         *tables = expected;
         answer
+    }
+
+    /// Counts a call, and says at which fence its slices lie.
+    fn next_call(&mut self) -> Fence {
+        self.calls += 1;
+        note_call(self.calls);
+        if self.calls & 1 == 0 {
+            Fence::Before
+        } else {
+            Fence::After
+        }
+    }
+
+    /// Calls the book and the model to write into a buffer of so many bytes: the answer, and what was written.
+    pub fn write(&mut self, writing: &Writing, bytes: usize) -> (Reply, Vec<u8>) {
+        let fence = self.next_call();
+        if self.show == Some(self.calls) {
+            println!("call {}\n{writing:?} into {bytes} bytes\n", self.calls);
+        }
+        // The buffer holds bytes that no line has.
+        let buffer: Vec<u8> = (0..bytes).map(|k| 128 + (k % 127) as u8).collect();
+        let outcome = self.subject.write(writing, &buffer, fence);
+        let mut expected = buffer.clone();
+        let reply = model::journal::write(writing, &mut expected);
+        if outcome.text != expected || outcome.answer != coded(reply) || !outcome.guards_kept || !outcome.list_kept {
+            self.fail_to_write(writing, &outcome, reply, &expected);
+        }
+        journal_situations::note_written(&mut self.coverage, writing, bytes, reply);
+        if let Reply::Written { bytes } = reply {
+            expected.truncate(bytes as usize);
+        } else {
+            expected.clear();
+        }
+        (reply, expected)
     }
 
     /// The answer of a call, without a look at the tables that it leaves.
@@ -53,7 +87,7 @@ impl Checker {
     fn fail(&self, before: &Tables, request: &Request, outcome: &Outcome, answer: &Answer, expected: &Tables) -> ! {
         println!("FAILED: the book and the model differ in call {} of seed {}", self.calls, self.seed);
         println!("\nTables before\n{}", before.print());
-        println!("Request\n  {request:?}\n");
+        println!("Request\n  {}\n", print_request(request));
         let reply = answer.reply;
         println!("Answers (kind, first, second, third)\n  book  {:?}\n  model {:?} = {reply:?}\n", numbers(outcome.answer), numbers(coded(reply)));
         println!("First differing cells");
@@ -61,12 +95,16 @@ impl Checker {
         print!("{}", first_differences("positions", &outcome.tables.positions, &expected.positions));
         print!("{}", first_differences("processes", &outcome.tables.processes, &expected.processes));
         print!("{}", first_differences("output", &outcome.output, &expected_output(request, answer)));
-        if !outcome.guards_kept {
-            println!("  a cell beside a lent slice was written");
-        }
-        if !outcome.list_kept {
-            println!("  the lent list was written");
-        }
+        print_kept(outcome.guards_kept, outcome.list_kept);
+        std::process::exit(1)
+    }
+
+    fn fail_to_write(&self, writing: &Writing, outcome: &Wrote, reply: Reply, expected: &[u8]) -> ! {
+        println!("FAILED: the book and the model differ in call {} of seed {}", self.calls, self.seed);
+        println!("\nTo write, into {} bytes\n  {writing:?}\n", expected.len());
+        println!("Answers (kind, first, second, third)\n  book  {:?}\n  model {:?} = {reply:?}\n", numbers(outcome.answer), numbers(coded(reply)));
+        println!("Bytes afterwards\n  book  {}\n  model {}", outcome.text.escape_ascii(), expected.escape_ascii());
+        print_kept(outcome.guards_kept, outcome.list_kept);
         std::process::exit(1)
     }
 
@@ -82,6 +120,23 @@ fn expected_output(request: &Request, answer: &Answer) -> Vec<i64> {
     let mut cells = lent_output(request);
     cells[..answer.output.len()].copy_from_slice(&answer.output);
     cells
+}
+
+fn print_kept(guards_kept: bool, list_kept: bool) {
+    if !guards_kept {
+        println!("  a cell or a byte beside a lent slice was written");
+    }
+    if !list_kept {
+        println!("  the lent list or text was written");
+    }
+}
+
+/// A text is printed as text.
+fn print_request(request: &Request) -> String {
+    match request {
+        Request::Replay { text } => format!("Replay of \"{}\"", text.escape_ascii()),
+        _ => format!("{request:?}"),
+    }
 }
 
 fn numbers(answer: Coded) -> (i64, i64, i64, i64) {

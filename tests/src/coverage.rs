@@ -1,15 +1,21 @@
 //! Which answers were seen, for each kind of request, and which special situations; a run that misses a possible one fails.
 
 use crate::give_up_situations::GIVE_UP_SITUATIONS;
+use crate::journal_situations::JOURNAL_SITUATIONS;
 use model::{Reply, Request};
 use std::collections::{BTreeMap, BTreeSet};
 
-pub const KINDS: [&str; 12] = ["trade", "separation", "transfer", "merge", "lineage", "batch", "open", "claim", "cancel", "refuse", "giver's", "taker's"];
+/// The kinds of request, and last the calls that write a request's line.
+pub const KINDS: [&str; 14] =
+    ["trade", "separation", "transfer", "merge", "lineage", "batch", "open", "claim", "cancel", "refuse", "giver's", "taker's", "replay", "writing"];
 
 /// The first of the six steps of a give-up among the kinds.
 pub const STEPS: usize = 6;
+pub const LINEAGE_KIND: usize = 4;
+pub const REPLAY: usize = 12;
+const WRITING: usize = 13;
 
-/// 0 to 11, in the order of `KINDS`.
+/// 0 to 12, in the order of `KINDS`.
 pub fn kind_of(request: &Request) -> usize {
     match request {
         Request::Trade { .. } => 0,
@@ -19,17 +25,23 @@ pub fn kind_of(request: &Request) -> usize {
         Request::Lineage { .. } => 4,
         Request::Trades { .. } => 5,
         Request::GiveUp { step, .. } => STEPS + *step as usize,
+        Request::Replay { .. } => REPLAY,
     }
 }
 
-/// Columns 1 to 23 are the refusals; then booked, booked without a row, closing error, lineage; then the stops, by the number of the refusal.
+/// Columns 1 to 23 are the refusals; then booked, booked without a row, closing error, lineage; then the stops, by the number of the refusal; then written,
+/// replayed and bad line; then the refused lines, by the number of the refusal.
 const REFUSALS: usize = 23;
 pub const BOOKED: usize = 24;
 pub const NO_ROW: usize = 25;
 pub const CLOSING_ERROR: usize = 26;
 pub const LINEAGE: usize = 27;
 const STOPPED: usize = 28;
-const COLUMNS: usize = STOPPED + REFUSALS + 1;
+const WRITTEN: usize = STOPPED + REFUSALS + 1;
+const REPLAYED: usize = WRITTEN + 1;
+const BAD_LINE: usize = WRITTEN + 2;
+const LINE_REFUSED: usize = WRITTEN + 3;
+const COLUMNS: usize = LINE_REFUSED + REFUSALS + 1;
 
 fn refusal_column(number: i64) -> usize {
     number.clamp(1, REFUSALS as i64) as usize
@@ -43,6 +55,10 @@ pub fn column_of(reply: Reply) -> usize {
         Reply::ClosingError { .. } => CLOSING_ERROR,
         Reply::Lineage { .. } => LINEAGE,
         Reply::Stopped { number, .. } => STOPPED + refusal_column(number),
+        Reply::Written { .. } => WRITTEN,
+        Reply::Replayed { .. } => REPLAYED,
+        Reply::BadLine { .. } => BAD_LINE,
+        Reply::LineRefused { number, .. } => LINE_REFUSED + refusal_column(number),
     }
 }
 
@@ -52,6 +68,10 @@ fn column_name(column: usize) -> String {
         NO_ROW => "booked, no row".to_string(),
         CLOSING_ERROR => "closing error".to_string(),
         LINEAGE => "lineage".to_string(),
+        WRITTEN => "written".to_string(),
+        REPLAYED => "replayed".to_string(),
+        BAD_LINE => "bad line".to_string(),
+        line if line > LINE_REFUSED => format!("line refused {}", line - LINE_REFUSED),
         stop if stop > STOPPED => format!("stopped {}", stop - STOPPED),
         number => format!("refused {number}"),
     }
@@ -63,8 +83,9 @@ fn column_name(column: usize) -> String {
 /// no id; its list of one record has no 9 to 11. A merge takes nothing out of a position, so 12 can't apply. Lineage has 1, 3 and 5 alone. A
 /// batch is refused before its first trade alone; its tables being sound, it stops by the other numbers of a trade. A record under give-up is refused 17
 /// wherever it would be adjusted or opened on. An opening books no row, and 23 is its own; a cancellation and a refusal end the process without a row; a claim
-/// or an approval may be the step that completes, the claim on foreign tables only, and is then tested and booked as a transfer.
-pub const POSSIBLE: [&[usize]; 12] = [
+/// or an approval may be the step that completes, the claim on foreign tables only, and is then tested and booked as a transfer. A replay itself is never
+/// refused; a line that fails test 3 is bad. A writing call reads no table, and has 3 and 14 alone.
+pub const POSSIBLE: [&[usize]; 14] = [
     &[1, 2, 3, 4, 14, 15, 16, BOOKED, CLOSING_ERROR],
     &[1, 2, 3, 5, 6, 7, 11, 13, 14, 17, BOOKED],
     &[1, 2, 3, 5, 6, 7, 8, 12, 13, 14, 15, 16, 17, BOOKED],
@@ -77,9 +98,33 @@ pub const POSSIBLE: [&[usize]; 12] = [
     &[1, 2, 3, 5, 6, 7, 8, 18, 19, NO_ROW],
     &[1, 2, 3, 5, 6, 7, 8, 12, 13, 14, 15, 16, 18, 19, NO_ROW, BOOKED],
     &[1, 2, 3, 5, 6, 7, 8, 12, 13, 14, 15, 16, 18, 19, NO_ROW, BOOKED],
+    &[
+        REPLAYED,
+        BAD_LINE,
+        LINE_REFUSED + 1,
+        LINE_REFUSED + 2,
+        LINE_REFUSED + 4,
+        LINE_REFUSED + 5,
+        LINE_REFUSED + 6,
+        LINE_REFUSED + 7,
+        LINE_REFUSED + 8,
+        LINE_REFUSED + 9,
+        LINE_REFUSED + 10,
+        LINE_REFUSED + 11,
+        LINE_REFUSED + 12,
+        LINE_REFUSED + 13,
+        LINE_REFUSED + 14,
+        LINE_REFUSED + 15,
+        LINE_REFUSED + 16,
+        LINE_REFUSED + 17,
+        LINE_REFUSED + 18,
+        LINE_REFUSED + 19,
+        LINE_REFUSED + 23,
+    ],
+    &[3, 14, WRITTEN],
 ];
 
-/// Situations that a good run has met besides, those of give-ups not among them.
+/// Situations that a good run has met besides, those of give-ups and journals not among them.
 pub const SITUATIONS: [&str; 54] = [
     "trade: buy open",
     "trade: sell open",
@@ -146,6 +191,12 @@ pub struct Coverage {
     before_other: [bool; 2],
     /// Each step with the approvals and the stage that it found.
     progress: BTreeSet<(usize, [i64; 3])>,
+    /// The numbers by which a line was refused after booked ones.
+    late_lines: BTreeSet<i64>,
+    /// The letters of the lines that replays booked, of a give-up the step's.
+    booked_lines: BTreeSet<[u8; 2]>,
+    /// What came of each writing call, and how long its buffer was.
+    writings: BTreeSet<(usize, &'static str)>,
 }
 
 impl Coverage {
@@ -157,6 +208,9 @@ impl Coverage {
             late_stops: [false; REFUSALS + 1],
             before_other: [false; 2],
             progress: BTreeSet::new(),
+            late_lines: BTreeSet::new(),
+            booked_lines: BTreeSet::new(),
+            writings: BTreeSet::new(),
         }
     }
 
@@ -180,7 +234,7 @@ impl Coverage {
     }
 
     pub fn situation(&mut self, name: &'static str) {
-        debug_assert!(SITUATIONS.contains(&name) || GIVE_UP_SITUATIONS.contains(&name), "{name}");
+        debug_assert!(SITUATIONS.contains(&name) || GIVE_UP_SITUATIONS.contains(&name) || JOURNAL_SITUATIONS.contains(&name), "{name}");
         *self.situations.entry(name).or_default() += 1;
     }
 
@@ -200,6 +254,31 @@ impl Coverage {
         }
     }
 
+    /// A line was refused by this number after booked ones: any but 1 and 2, which apply to the first line, and 3.
+    pub fn late_line(&mut self, number: i64) {
+        self.late_lines.insert(number);
+        if (4..=19).chain([23]).all(|n| self.late_lines.contains(&n)) {
+            self.situation("replay: refused after booked lines, by each of 4 to 19 and 23");
+        }
+    }
+
+    /// A replay booked a line of these letters: there are four kinds and six steps.
+    pub fn booked_line(&mut self, letters: [u8; 2]) {
+        self.booked_lines.insert(letters);
+        if self.booked_lines.len() == 10 {
+            self.situation("replay: lines of each kind and each step booked");
+        }
+    }
+
+    /// One of the six writing calls, and one of the six things that may come of it.
+    pub fn writing(&mut self, call: usize, what: &'static str, reply: Reply) {
+        self.answers[WRITING][column_of(reply)] += 1;
+        self.writings.insert((call, what));
+        if self.writings.len() == 36 {
+            self.situation("writing: each call, into buffers of every kind, and refused");
+        }
+    }
+
     /// The two lists, and what is missing in them.
     pub fn report(&self) -> (String, Vec<String>) {
         let mut missing = Vec::new();
@@ -212,7 +291,7 @@ impl Coverage {
             }
         }
         text += "\nSituations met\n";
-        for name in SITUATIONS.into_iter().chain(GIVE_UP_SITUATIONS) {
+        for name in SITUATIONS.into_iter().chain(GIVE_UP_SITUATIONS).chain(JOURNAL_SITUATIONS) {
             let count = self.situations.get(name).copied().unwrap_or(0);
             if count == 0 {
                 missing.push(name.to_string());

@@ -2,8 +2,9 @@
 //! requests meet each other's records and positions and the rules' limits.
 
 use crate::batches;
-use crate::coverage::STEPS;
+use crate::coverage::{REPLAY, STEPS};
 use crate::give_ups;
+use crate::journals;
 use crate::rng::Rng;
 use crate::tables::{Tables, POSITION_CELLS, PROCESS_CELLS, RECORD_CELLS};
 use model::Request;
@@ -238,6 +239,19 @@ pub fn empty_tables(rng: &mut Rng, records: usize, positions: usize, processes: 
     tables
 }
 
+/// Other empty tables of the same room: the cells past cell 0 are others, and so is the part of a row at the end.
+pub fn empty_again(rng: &mut Rng, tables: &Tables) -> Tables {
+    let mut table = |cells: &[i64], width: usize| {
+        let past = (cells.len() - 1) / width * width + rng.below(width);
+        [vec![0], draw_cells(rng, past)].concat()
+    };
+    Tables {
+        records: table(&tables.records, RECORD_CELLS),
+        positions: table(&tables.positions, POSITION_CELLS),
+        processes: table(&tables.processes, PROCESS_CELLS),
+    }
+}
+
 /// Writes something into one cell, or cuts a table: the tables may be sound or not afterwards.
 pub fn damage(rng: &mut Rng, tables: &mut Tables) {
     let (cells, width) = match rng.below(20) {
@@ -284,7 +298,7 @@ pub fn damage(rng: &mut Rng, tables: &mut Tables) {
     }
 }
 
-/// A request of that kind (0 to 11, as in `coverage::KINDS`), mostly one that fits the tables.
+/// A request of that kind (0 to 12, as in `coverage::KINDS`), mostly one that fits the tables.
 pub fn request(rng: &mut Rng, tables: &Tables, kind: usize) -> Request {
     let mut request = match kind {
         0 => trade(rng, tables),
@@ -293,6 +307,7 @@ pub fn request(rng: &mut Rng, tables: &Tables, kind: usize) -> Request {
         3 => merge(rng, tables),
         4 => lineage(rng, tables),
         5 => batches::draw(rng, tables),
+        REPLAY => journals::draw(rng, tables),
         _ => give_ups::draw(rng, tables, give_ups::EACH[kind - STEPS]),
     };
     let count = figures(&request);
@@ -305,7 +320,7 @@ pub fn request(rng: &mut Rng, tables: &Tables, kind: usize) -> Request {
 }
 
 pub fn any_request(rng: &mut Rng, tables: &Tables) -> Request {
-    let kind = rng.pick(&[0, 0, 0, 1, 1, 2, 2, 3, 3, 4, 5, 6, 6, 6, 7, 7, 8, 9, 10, 10, 11, 11]);
+    let kind = rng.pick(&[0, 0, 0, 1, 1, 2, 2, 3, 3, 4, 5, 6, 6, 6, 7, 7, 8, 9, 10, 10, 11, 11, REPLAY]);
     request(rng, tables, kind)
 }
 
@@ -319,6 +334,7 @@ pub fn figures(request: &Request) -> usize {
         Request::Lineage { .. } => 2,
         Request::Trades { figures, .. } => figures.len(),
         Request::GiveUp { .. } => 6,
+        Request::Replay { .. } => 0,
     }
 }
 
@@ -331,6 +347,7 @@ pub fn set_figure(request: &mut Request, which: usize, figure: i64) {
         Request::Lineage { id, suffix } => [id, suffix].into_iter().nth(which),
         Request::Trades { figures, .. } => figures.get_mut(which),
         Request::GiveUp { process, id, suffix, giving, taking, series, .. } => [process, id, suffix, giving, taking, series].into_iter().nth(which),
+        Request::Replay { .. } => None,
     };
     *place.expect("the request has this figure") = figure;
 }

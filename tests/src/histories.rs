@@ -2,17 +2,19 @@
 
 use crate::batches::{self, trades_of};
 use crate::checker::Checker;
-use crate::coverage::{column_of, POSSIBLE};
-use crate::draw::{any_request, damage, empty_tables, request, sound_tables, Lean, LEANS};
+use crate::coverage::{column_of, POSSIBLE, REPLAY, STEPS};
+use crate::draw::{any_request, damage, empty_again, empty_tables, request, sound_tables, Lean, LEANS};
 use crate::give_ups::{CLAIMED, PENDING};
+use crate::journals::{self, journalled, DAMAGES};
 use crate::orders::{entries_of, reordered};
 use crate::rng::Rng;
 use crate::tables::{Tables, POSITION_CELLS, RECORD_CELLS};
-use model::{Answer, Reply, Request};
+use model::journal::{line_of, lines, lines_of};
+use model::{Answer, Reply, Request, Writing};
 
-/// For each kind of request and each answer that it may get: calls that get just this answer, drawn until the model gives it.
+/// For each kind of request and each answer that it may get: calls that get just this answer, drawn until the model gives it, and replays of their lines.
 pub fn aimed(checker: &mut Checker, rng: &mut Rng, times: usize) {
-    for (kind, answers) in POSSIBLE.iter().enumerate() {
+    for (kind, answers) in POSSIBLE[..REPLAY].iter().enumerate() {
         for &answer in *answers {
             for _ in 0..times {
                 for _ in 0..200_000 {
@@ -24,11 +26,25 @@ pub fn aimed(checker: &mut Checker, rng: &mut Rng, times: usize) {
                     let request = request(rng, &tables, kind);
                     if column_of(tables.model_reply(&request)) == answer {
                         checker.ask(&tables, &request);
+                        replays_of(checker, rng, &tables, request);
                         break;
                     }
                 }
             }
         }
+    }
+}
+
+/// A request's lines alone, and after a line that is booked.
+fn replays_of(checker: &mut Checker, rng: &mut Rng, tables: &Tables, asked: Request) {
+    let Some(lines) = lines_of(&Writing::Of(asked)) else { return };
+    let drawn = (0..30).map(|_| {
+        let kind = rng.pick(&[0, 0, 1, 2, 3, STEPS]);
+        request(rng, tables, kind)
+    });
+    let booked = drawn.into_iter().find(|first| !matches!(tables.model_reply(first), Reply::Refused { .. }));
+    for first in ["".to_string()].into_iter().chain(booked.and_then(|first| line_of(&first))) {
+        checker.ask(tables, &Request::Replay { text: [first, lines.clone()].concat().into_bytes() });
     }
 }
 
@@ -45,7 +61,7 @@ pub fn foreign_tables(checker: &mut Checker, rng: &mut Rng, calls: u64) {
     }
 }
 
-/// A history of requests, refused ones too; then its accepted entries again, in other orders.
+/// A history of requests, refused ones too; then its accepted entries again, from its journal and in other orders.
 pub fn history(checker: &mut Checker, rng: &mut Rng) {
     let start = match rng.below(4) {
         0 => empty_tables(rng, 60, 18, 12),
@@ -57,25 +73,65 @@ pub fn history(checker: &mut Checker, rng: &mut Rng) {
     };
     let from_empty = start.records[0] == 0 && start.processes[0] == 0;
     let mut tables = start.clone();
-    let mut entries = Vec::new();
+    let (mut entries, mut journal) = (Vec::new(), Vec::new());
     for _ in 0..4 + rng.below(44) {
         let request = any_request(rng, &tables);
         let before = tables.clone();
         let answer = checker.call(&mut tables, &request);
+        journal.extend(journalled(checker, rng, &request, &answer));
         if from_empty {
             held_by_one_process(checker, &tables);
         }
         if rng.percent(20) {
             one_by_one(checker, &before, &request, &answer, &tables);
         }
-        entries.extend(entries_of(request, answer));
+        entries.extend(entries_of(&before, request, answer));
     }
+    replayed(checker, rng, &start, &journal, &tables);
     if entries.len() < 2 {
         return;
     }
     for _ in 0..1 + rng.below(2) {
         reordered(checker, rng, &start, &entries, &tables);
     }
+}
+
+/// A history's journal on the tables it began with; and where these were empty, into others of the same room: "gives the rows that a day begun on empty
+/// tables ended with". Then the journal with some damage, and on tables that are none of its own.
+fn replayed(checker: &mut Checker, rng: &mut Rng, start: &Tables, journal: &[u8], end: &Tables) {
+    let replay = Request::Replay { text: journal.to_vec() };
+    let all = Reply::Replayed { lines: lines(journal).count() as i64 };
+    let mut tables = start.clone();
+    if checker.call(&mut tables, &replay).reply != all || tables != *end {
+        checker.fail_later(&format!("a history and the replay of its journal\n{}\n{}{}", start.print(), journal.escape_ascii(), end.print()));
+    }
+    checker.coverage.situation("replay: a history again, from the same cells");
+    let is_day = [&start.records, &start.positions, &start.processes].into_iter().all(|table| table[0] == 0);
+    if !is_day {
+        return;
+    }
+    let mut tables = empty_again(rng, start);
+    if checker.call(&mut tables, &replay).reply != all || !tables.has_the_rows_of(end) {
+        checker.fail_later(&format!("a day and the replay of its journal\n{}\n{}{}", tables.print(), journal.escape_ascii(), end.print()));
+    }
+    checker.coverage.situation("replay: a day again, into empty tables of the same room");
+    if lines(journal).count() >= 20 && lines(journal).any(|line| line[0] == b'G') {
+        checker.coverage.situation("replay: a day of twenty lines or more again, give-ups among them");
+    }
+    for _ in 0..4 {
+        let (mut text, (damage, name)) = (journal.to_vec(), rng.pick(&DAMAGES));
+        journals::damage(rng, &mut text, damage);
+        if text != journal {
+            checker.coverage.situation(name);
+            checker.ask(start, &Request::Replay { text });
+        }
+    }
+    let lean = rng.pick(&LEANS);
+    let mut foreign = sound_tables(rng, lean, 14);
+    if rng.percent(50) {
+        damage(rng, &mut foreign);
+    }
+    checker.ask(&foreign, &replay);
 }
 
 /// Batches of 999 to 1,001 trades, on tables with room for about as many. From empty tables most are booked whole or stop far in.

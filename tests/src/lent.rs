@@ -5,7 +5,6 @@ use std::ffi::c_void;
 use std::sync::atomic::{AtomicU64, Ordering};
 
 const PAGE: usize = 4_096;
-const CELL: usize = std::mem::size_of::<i64>();
 
 extern "C" {
     fn mmap(at: *mut c_void, bytes: usize, access: i32, flags: i32, file: i32, offset: i64) -> *mut c_void;
@@ -49,9 +48,27 @@ pub fn catch_faults() {
     }
 }
 
+/// A cell of a table or a byte of a text.
+pub trait Cell: Copy + PartialEq {
+    /// What lies beside a lent slice at a place of its arena.
+    fn guard(place: usize) -> Self;
+}
+
+impl Cell for i64 {
+    fn guard(place: usize) -> i64 {
+        0x5afe_c311_0000_0000_u64.wrapping_add((place as u64).wrapping_mul(0x0001_0001_0003)) as i64
+    }
+}
+
+impl Cell for u8 {
+    fn guard(place: usize) -> u8 {
+        0x80 | (place % 101) as u8
+    }
+}
+
 /// Pages between two fences.
-pub struct Arena {
-    first: *mut i64,
+pub struct Arena<T> {
+    first: *mut T,
     cells: usize,
 }
 
@@ -64,31 +81,27 @@ pub enum Fence {
 
 /// A slice of an arena, lent for a call.
 #[derive(Clone, Copy)]
-pub struct Lent {
-    pub first: *mut i64,
+pub struct Lent<T> {
+    pub first: *mut T,
     pub len: usize,
 }
 
-const GUARD_CELLS: usize = 96;
+impl<T: Cell> Arena<T> {
+    const GUARDS: usize = 768 / size_of::<T>();
 
-fn guard_cell(place: usize) -> i64 {
-    0x5afe_c311_0000_0000_u64.wrapping_add((place as u64).wrapping_mul(0x0001_0001_0003)) as i64
-}
-
-impl Arena {
     /// An arena with room for a slice of so many cells and its guard cells.
-    pub fn new(cells: usize) -> Arena {
-        let bytes = ((cells + GUARD_CELLS) * CELL).div_ceil(PAGE) * PAGE;
+    pub fn new(cells: usize) -> Arena<T> {
+        let bytes = ((cells + Self::GUARDS) * size_of::<T>()).div_ceil(PAGE) * PAGE;
         unsafe {
             let start = mmap(std::ptr::null_mut(), bytes + 2 * PAGE, READ_AND_WRITE, PRIVATE_AND_ANONYMOUS, -1, 0).cast::<u8>();
             assert!(start as isize != -1, "no memory for an arena");
             assert_eq!(mprotect(start.cast(), PAGE, NO_ACCESS), 0);
             assert_eq!(mprotect(start.add(PAGE + bytes).cast(), PAGE, NO_ACCESS), 0);
-            Arena { first: start.add(PAGE).cast(), cells: bytes / CELL }
+            Arena { first: start.add(PAGE).cast(), cells: bytes / size_of::<T>() }
         }
     }
 
-    fn cells(&mut self) -> &mut [i64] {
+    fn cells(&mut self) -> &mut [T] {
         unsafe { std::slice::from_raw_parts_mut(self.first, self.cells) }
     }
 
@@ -102,30 +115,30 @@ impl Arena {
     /// The places of the guard cells, which lie on the side away from the fence.
     fn guards(&self, len: usize, fence: Fence) -> std::ops::Range<usize> {
         match fence {
-            Fence::Before => len..len + GUARD_CELLS,
-            Fence::After => self.cells - len - GUARD_CELLS..self.cells - len,
+            Fence::Before => len..len + Self::GUARDS,
+            Fence::After => self.cells - len - Self::GUARDS..self.cells - len,
         }
     }
 
-    pub fn lend(&mut self, contents: &[i64], fence: Fence) -> Lent {
+    pub fn lend(&mut self, contents: &[T], fence: Fence) -> Lent<T> {
         let len = contents.len();
-        assert!(len + GUARD_CELLS <= self.cells, "the arena is too small");
+        assert!(len + Self::GUARDS <= self.cells, "the arena is too small");
         let start = self.start_of(len, fence);
         let guards = self.guards(len, fence);
         let cells = self.cells();
         cells[start..start + len].copy_from_slice(contents);
         for place in guards {
-            cells[place] = guard_cell(place);
+            cells[place] = T::guard(place);
         }
         Lent { first: self.first.wrapping_add(start), len }
     }
 
     /// Takes the slice back: its cells, and whether the guard cells are as they were.
-    pub fn take_back(&mut self, len: usize, fence: Fence) -> (&[i64], bool) {
+    pub fn take_back(&mut self, len: usize, fence: Fence) -> (&[T], bool) {
         let start = self.start_of(len, fence);
         let guards = self.guards(len, fence);
         let cells = self.cells();
-        let kept = guards.clone().all(|place| cells[place] == guard_cell(place));
+        let kept = guards.clone().all(|place| cells[place] == T::guard(place));
         (&cells[start..start + len], kept)
     }
 }

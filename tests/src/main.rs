@@ -1,7 +1,7 @@
 //! Compares the book, as a host links it, with the model of documents 01 and 02: `cargo run --release -- [--seed S] [--calls N] [--show K]`.
 //!
-//! A run has a fixed part (the ends of every range, every length around the limits, full tables, every step of a give-up at every stage: some 85,000
-//! calls) and a random part of which the seed decides, until N calls are made. It prints which answers it saw, and ends with a line that says how many
+//! A run has a fixed part (the ends of every range, every length around the limits, full tables, every step of a give-up at every stage, every byte of a
+//! journal's lines: some 190,000 calls) and a random part of which the seed decides, until N calls are made. It prints which answers it saw, and ends with a line that says how many
 //! calls passed. The first difference is printed in full.
 
 mod batch_sweeps;
@@ -14,6 +14,9 @@ mod give_up_situations;
 mod give_up_sweeps;
 mod give_ups;
 mod histories;
+mod journal_situations;
+mod journal_sweeps;
+mod journals;
 mod lent;
 mod orders;
 mod rng;
@@ -21,6 +24,7 @@ mod situations;
 mod subject;
 mod sweeps;
 mod tables;
+mod writing_sweeps;
 
 use checker::Checker;
 use rng::Rng;
@@ -34,7 +38,7 @@ struct Options {
 }
 
 fn options() -> Result<Options, String> {
-    let mut options = Options { seed: 1, calls: 260_000, show: None };
+    let mut options = Options { seed: 1, calls: 450_000, show: None };
     let mut words = std::env::args().skip(1);
     while let Some(word) = words.next() {
         let mut number = || words.next().and_then(|n| n.replace([',', '_'], "").parse::<u64>().ok()).ok_or(format!("{word} needs a number"));
@@ -64,10 +68,13 @@ fn main() -> ExitCode {
     sweeps::run(&mut checker);
     batch_sweeps::run(&mut checker);
     give_up_sweeps::run(&mut checker);
+    writing_sweeps::run(&mut checker);
+    journal_sweeps::run(&mut checker);
     println!("the ends of the ranges, the lengths and the limits: {} calls", checker.calls);
     let fixed = checker.calls;
     histories::aimed(&mut checker, &mut rng, 20);
     histories::large_batches(&mut checker, &mut rng, 20);
+    writing_sweeps::drawn(&mut checker, &mut rng, 5_000);
     for _ in 0..100 {
         histories::history(&mut checker, &mut rng);
     }

@@ -2,8 +2,10 @@
 
 use crate::batches::trades_of;
 use crate::checker::Checker;
+use crate::journal_situations::booked_lines;
 use crate::rng::Rng;
 use crate::tables::Tables;
+use model::journal::{lines, request_of};
 use model::{Answer, Reply, Request, Step};
 use std::collections::BTreeSet;
 
@@ -11,21 +13,39 @@ use std::collections::BTreeSet;
 pub struct Entry {
     request: Request,
     answer: Answer,
-    /// It is a trade that a stopped batch booked.
-    of_a_stop: bool,
+    origin: Origin,
 }
 
-/// What a call adds to the list of accepted requests: "a batch is accepted only when all its trades are"; "a stopped one stands in the list as the
-/// trades it booked", each with the answer that it has by itself.
-pub fn entries_of(request: Request, answer: Answer) -> Vec<Entry> {
+/// By what a request was booked.
+#[derive(Clone, Copy, PartialEq, Eq)]
+enum Origin {
+    Itself,
+    StoppedBatch,
+    Replay,
+    StoppedReplay,
+}
+
+/// What a call on these tables adds to the list of accepted requests: "a batch is accepted only when all its trades are"; "a stopped one stands in the list as
+/// the trades it booked"; "a replay is the requests it books". Each of these has the answer that it has by itself.
+pub fn entries_of(before: &Tables, request: Request, answer: Answer) -> Vec<Entry> {
     match (&request, answer.reply) {
         (_, Reply::Refused { .. }) => Vec::new(),
         (Request::Trades { figures, .. }, Reply::Stopped { .. }) => {
             let alone = |excess: i64| if excess > 0 { Reply::ClosingError { excess } } else { Reply::Booked { rows: 1, residual: 0 } };
             let booked = trades_of(figures).zip(answer.output);
-            booked.map(|(request, excess)| Entry { request, answer: alone(excess).into(), of_a_stop: true }).collect()
+            booked.map(|(request, excess)| Entry { request, answer: alone(excess).into(), origin: Origin::StoppedBatch }).collect()
         }
-        _ => vec![Entry { request, answer, of_a_stop: false }],
+        (Request::Replay { text }, reply) => {
+            let origin = if matches!(reply, Reply::Replayed { .. }) { Origin::Replay } else { Origin::StoppedReplay };
+            let mut tables = before.clone();
+            let requests = lines(text).take(booked_lines(reply) as usize).map(|line| request_of(line).expect("it was booked"));
+            let answered = requests.map(|request| {
+                let answer = model::handle(&mut tables.records, &mut tables.positions, &mut tables.processes, &request);
+                Entry { request, answer, origin }
+            });
+            answered.collect()
+        }
+        _ => vec![Entry { request, answer, origin: Origin::Itself }],
     }
 }
 
@@ -65,8 +85,14 @@ fn note_order(checker: &mut Checker, entries: &[Entry], order: &[usize]) {
     if (0..order.len()).any(|k| matches!(entries[order[k]].request, Request::Trades { .. }) && moved(k)) {
         checker.coverage.situation("demand 3: a batch, in another order");
     }
-    if (0..order.len()).any(|k| entries[order[k]].of_a_stop && moved(k)) {
-        checker.coverage.situation("demand 3: trades of a stopped batch, in another order");
+    for (origin, name) in [
+        (Origin::StoppedBatch, "demand 3: trades of a stopped batch, in another order"),
+        (Origin::Replay, "demand 3: requests of a replay, in another order"),
+        (Origin::StoppedReplay, "demand 3: requests of a replay that stopped, in another order"),
+    ] {
+        if (0..order.len()).any(|k| entries[order[k]].origin == origin && moved(k)) {
+            checker.coverage.situation(name);
+        }
     }
     note_steps(checker, entries, order);
 }
@@ -130,6 +156,7 @@ fn names(request: &Request) -> Names {
             let trades: Vec<Names> = trades_of(figures).map(|trade| names(&trade)).collect();
             (trades.iter().flat_map(|trade| trade.0.clone()).collect(), trades.iter().flat_map(|trade| trade.1.clone()).collect())
         }
+        Request::Replay { .. } => unreachable!("it stands in the list as the requests it booked"),
     }
 }
 

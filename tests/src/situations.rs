@@ -22,6 +22,7 @@ fn note_empty_slices(seen: &mut Coverage, before: &Tables, request: &Request) {
         Request::Separate { parts, .. } => parts.is_empty(),
         Request::Merge { pairs, .. } => pairs.is_empty(),
         Request::Trades { figures, cells } => figures.is_empty() || *cells == 0,
+        Request::Replay { text } => text.is_empty(),
         _ => false,
     };
     let no_processes = request.lends_processes() && before.processes.is_empty();
@@ -47,8 +48,8 @@ fn note_booked(seen: &mut Coverage, before: &Tables, after: &Tables, request: &R
         Request::Merge { pairs, .. } => note_merge(seen, before, pairs, answer.reply),
         Request::Lineage { .. } => {}
         Request::Trades { figures, cells } => note_batch(seen, before, after, figures, *cells, answer),
-        // in `give_up_situations`
-        Request::GiveUp { .. } => {}
+        // in `give_up_situations` and `journal_situations`
+        Request::GiveUp { .. } | Request::Replay { .. } => {}
     }
 }
 

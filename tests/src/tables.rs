@@ -5,7 +5,7 @@ use std::fmt::Write;
 
 pub use velichundam::{positions_len, processes_len, records_len, MOST_POSITIONS, MOST_PROCESSES, MOST_RECORDS, POSITION_CELLS, PROCESS_CELLS, RECORD_CELLS};
 
-/// Only the steps of a give-up are lent the processes.
+/// Only the steps of a give-up and a replay are lent the processes.
 #[derive(Clone, Debug, PartialEq, Eq)]
 pub struct Tables {
     pub records: Vec<i64>,
@@ -35,6 +35,11 @@ impl Tables {
 
     pub fn process_rows(&self) -> impl Iterator<Item = &[i64]> {
         counted(&self.processes, PROCESS_CELLS)
+    }
+
+    /// Whether each table has the same rows, whatever the other cells are.
+    pub fn has_the_rows_of(&self, other: &Tables) -> bool {
+        self.record_rows().eq(other.record_rows()) && self.position_rows().eq(other.position_rows()) && self.process_rows().eq(other.process_rows())
     }
 
     /// The answer of the model, without a look at the tables that it leaves.

@@ -1,6 +1,6 @@
 //! Give-ups: a process table, and the six steps by which a record passes to another account.
 
-use crate::table::{by_first, ProcessRow, Processes, Records};
+use crate::table::{by_first, Positions, ProcessRow, Processes, Records};
 use crate::{adjustable, answer, change_account, is_account, is_id, is_series, is_suffix, is_to_close, named, open, refuse_if};
 use crate::{Outcome, Refusal, Reply, ADJUSTABLE, GIVE_UP, STATUS, TAKE_UP, UNDER_GIVE_UP};
 
@@ -12,6 +12,21 @@ pub enum Step {
     Refuse,
     ApproveGiver,
     ApproveTaker,
+}
+
+impl Step {
+    /// The step of a letter in a journal.
+    pub fn of_letter(letter: u8) -> Option<Step> {
+        match letter {
+            b'O' => Some(Step::Open),
+            b'C' => Some(Step::Claim),
+            b'X' => Some(Step::Cancel),
+            b'R' => Some(Step::Refuse),
+            b'G' => Some(Step::ApproveGiver),
+            b'T' => Some(Step::ApproveTaker),
+            _ => None,
+        }
+    }
 }
 
 // The cells of a process row that steps change; those before them are what a step names.
@@ -36,7 +51,7 @@ fn is_sound_process(row: &ProcessRow) -> bool {
 }
 
 /// What every step names: process, id, suffix, giving, taking, series
-type Names = [i64; 6];
+pub type Names = [i64; 6];
 
 fn are_figures(names: &Names) -> bool {
     let [process, id, suffix, giving, taking, series] = *names;
@@ -59,26 +74,41 @@ pub fn give_up(
     answer(try_give_up(step, records, positions, processes, &[process, id, suffix, giving, taking, series]))
 }
 
+/// Test 19.
+pub fn open_processes(processes: &mut [i64]) -> Result<Processes<'_>, Refusal> {
+    Processes::open(processes, PROCESSES_ROOM, by_first, is_sound_process).ok_or(Refusal { number: 19, place: 0 })
+}
+
+/// Test 3 of a step.
+pub fn is_step(names: &Names) -> bool {
+    are_figures(names) && names[3] != names[4]
+}
+
 fn try_give_up(step: Step, records: &mut [i64], positions: &mut [i64], processes: &mut [i64], names: &Names) -> Outcome {
     let (mut records, mut positions) = open(records, positions)?;
-    let mut processes = Processes::open(processes, PROCESSES_ROOM, by_first, is_sound_process).ok_or(Refusal { number: 19, place: 0 })?;
+    let mut processes = open_processes(processes)?;
+    refuse_if(!is_step(names), 3)?;
+    book_step(step, &mut records, &mut positions, &mut processes, names)
+}
+
+/// A step that passes test 3, on sound tables.
+pub fn book_step(step: Step, records: &mut Records, positions: &mut Positions, processes: &mut Processes, names: &Names) -> Outcome {
     let [process, id, suffix, giving, taking, series] = *names;
-    refuse_if(!are_figures(names) || giving == taking, 3)?;
     let found = processes.find_first(process);
     if step == Step::Open {
-        return open_process(&mut records, &mut processes, found, names);
+        return open_process(records, processes, found, names);
     }
     let Ok(place) = found else { return Err(Refusal { number: 18, place: 0 }) };
     let mut row = processes.rows()[place];
     refuse_if(row[..GIVER] != names[..] || !take_turn(step, &mut row), 18)?;
 
-    let (at, record) = named(&records, id, suffix, giving, series)?;
+    let (at, record) = named(records, id, suffix, giving, series)?;
     refuse_if(record[STATUS] != UNDER_GIVE_UP, 7)?;
     refuse_if(is_to_close(&record), 8)?;
     let mut rows = 0;
     match row[STAGE] {
         DONE => {
-            change_account(&mut records, &mut positions, at, record, taking, [GIVE_UP, TAKE_UP])?;
+            change_account(records, positions, at, record, taking, [GIVE_UP, TAKE_UP])?;
             rows = 2;
         }
         CANCELLED | REFUSED => records.rows_mut()[at][STATUS] = ADJUSTABLE,

@@ -2,9 +2,13 @@
 //! bookings. The benchmark compares the proved book with it, and `tests/` can be run against it to try the harness itself.
 
 mod give_up;
+mod replay;
 mod table;
+mod writing;
 
 pub use give_up::{give_up, Step};
+pub use replay::replay;
+pub use writing::{write_give_up, write_merge, write_separation, write_trade, write_trades, write_transfer};
 
 use table::{by_pair, sound_rows, PositionRow, Positions, RecordRow, Records};
 
@@ -15,8 +19,13 @@ pub enum Reply {
     Lineage { price: i64, links: i64 },
     Refused { number: i64, place: i64 },
     Stopped { booked: i64, number: i64, place: i64 },
+    Written { bytes: i64 },
+    Replayed { lines: i64 },
+    BadLine { line: i64 },
+    LineRefused { line: i64, number: i64, place: i64 },
 }
 
+#[derive(Clone, Copy)]
 struct Refusal {
     number: i64,
     place: usize,
@@ -184,18 +193,23 @@ pub fn trade(records: &mut [i64], positions: &mut [i64], id: i64, account: i64, 
 /// id, account, series, side, quantity, price
 type Trade = [i64; 6];
 
+/// Test 3 of a trade.
+fn is_trade(trade: &Trade) -> bool {
+    let [id, account, series, side, quantity, price] = *trade;
+    is_id(id) && is_account(account) && is_series(series) && (1..=4).contains(&side) && is_quantity(quantity) && is_price(price)
+}
+
 fn try_trade(records: &mut [i64], positions: &mut [i64], trade: &Trade) -> Outcome {
     let (mut records, mut positions) = open(records, positions)?;
+    refuse_if(!is_trade(trade), 3)?;
     let excess = book_trade(&mut records, &mut positions, trade)?;
     Ok(if excess > 0 { Reply::ClosingError { excess } } else { Reply::Booked { rows: 1, residual: 0 } })
 }
 
-/// A trade on sound tables: its excess.
+/// A trade that passes test 3, on sound tables: its excess.
 #[inline(always)]
 fn book_trade(records: &mut Records, positions: &mut Positions, trade: &Trade) -> Result<i64, Refusal> {
     let [id, account, series, side, quantity, price] = *trade;
-    let valid = is_id(id) && is_account(account) && is_series(series) && (1..=4).contains(&side) && is_quantity(quantity) && is_price(price);
-    refuse_if(!valid, 3)?;
     let place = records.find(id, i64::MIN).unwrap_or_else(|place| place);
     refuse_if(records.rows().get(place).is_some_and(|row| row[ID] == id), 4)?;
     refuse_if(records.is_full(1), 14)?;
@@ -236,7 +250,7 @@ fn try_trades(records: &mut [i64], positions: &mut [i64], trades: &[i64], excess
     let (trades, rest) = trades.as_chunks::<6>();
     refuse_if(!rest.is_empty() || !(1..=1_000).contains(&trades.len()) || excess.len() < trades.len(), 3)?;
     for (booked, (trade, cell)) in trades.iter().zip(excess).enumerate() {
-        match book_trade(&mut records, &mut positions, trade) {
+        match refuse_if(!is_trade(trade), 3).and_then(|()| book_trade(&mut records, &mut positions, trade)) {
             Ok(over) => *cell = over,
             Err(Refusal { number, place }) => return Ok(Reply::Stopped { booked: booked as i64, number, place: place as i64 }),
         }
@@ -245,22 +259,34 @@ fn try_trades(records: &mut [i64], positions: &mut [i64], trades: &[i64], excess
 }
 
 pub fn separate(records: &mut [i64], positions: &mut [i64], id: i64, suffix: i64, account: i64, series: i64, parts: &[i64]) -> Reply {
-    answer(try_separate(records, positions, id, suffix, account, series, parts))
+    answer(try_separate(records, positions, &[id, suffix, account, series], parts))
 }
 
-fn try_separate(records: &mut [i64], positions: &mut [i64], id: i64, suffix: i64, account: i64, series: i64, parts: &[i64]) -> Outcome {
-    let (mut records, _) = open(records, positions)?;
-    let valid = is_id(id)
+/// Test 3 of a separation of id, suffix, account and series.
+fn is_separation(names: &[i64; 4], parts: &[i64]) -> bool {
+    let [id, suffix, account, series] = *names;
+    is_id(id)
         && is_suffix(suffix)
         && is_account(account)
         && is_series(series)
         && (2..=1_000).contains(&parts.len())
-        && parts.iter().all(|&part| is_quantity(part));
-    refuse_if(!valid, 3)?;
-    let (at, mut row) = adjustable(&records, id, suffix, account, series)?;
+        && parts.iter().all(|&part| is_quantity(part))
+}
+
+fn try_separate(records: &mut [i64], positions: &mut [i64], names: &[i64; 4], parts: &[i64]) -> Outcome {
+    let (mut records, _) = open(records, positions)?;
+    refuse_if(!is_separation(names, parts), 3)?;
+    book_separation(&mut records, names, parts)
+}
+
+/// A separation that passes test 3, on sound tables.
+#[inline(always)]
+fn book_separation(records: &mut Records, names: &[i64; 4], parts: &[i64]) -> Outcome {
+    let [id, suffix, account, series] = *names;
+    let (at, mut row) = adjustable(records, id, suffix, account, series)?;
     refuse_if(parts.iter().sum::<i64>() != row[QUANTITY], 11)?;
     let added = parts.len() + 1;
-    let (end, greatest) = end_of(&records, id);
+    let (end, greatest) = end_of(records, id);
     refuse_if(greatest + added as i64 > GREATEST_SUFFIX, 13)?;
     refuse_if(records.is_full(added), 14)?;
 
@@ -283,16 +309,28 @@ fn try_separate(records: &mut [i64], positions: &mut [i64], id: i64, suffix: i64
 }
 
 pub fn transfer(records: &mut [i64], positions: &mut [i64], id: i64, suffix: i64, from: i64, to: i64, series: i64) -> Reply {
-    answer(try_transfer(records, positions, id, suffix, from, to, series))
+    answer(try_transfer(records, positions, &[id, suffix, from, to, series]))
 }
 
-fn try_transfer(records: &mut [i64], positions: &mut [i64], id: i64, suffix: i64, from: i64, to: i64, series: i64) -> Outcome {
+/// Test 3 of a transfer of id, suffix, from, to and series.
+fn is_transfer(names: &[i64; 5]) -> bool {
+    let [id, suffix, from, to, series] = *names;
+    is_id(id) && is_suffix(suffix) && is_account(from) && is_account(to) && is_series(series) && from != to
+}
+
+fn try_transfer(records: &mut [i64], positions: &mut [i64], names: &[i64; 5]) -> Outcome {
     let (mut records, mut positions) = open(records, positions)?;
-    let valid = is_id(id) && is_suffix(suffix) && is_account(from) && is_account(to) && is_series(series) && from != to;
-    refuse_if(!valid, 3)?;
-    let (at, row) = adjustable(&records, id, suffix, from, series)?;
+    refuse_if(!is_transfer(names), 3)?;
+    book_transfer(&mut records, &mut positions, names)
+}
+
+/// A transfer that passes test 3, on sound tables.
+#[inline(always)]
+fn book_transfer(records: &mut Records, positions: &mut Positions, names: &[i64; 5]) -> Outcome {
+    let [id, suffix, from, to, series] = *names;
+    let (at, row) = adjustable(records, id, suffix, from, series)?;
     refuse_if(is_to_close(&row), 8)?;
-    change_account(&mut records, &mut positions, at, row, to, [TRANSFER; 2])
+    change_account(records, positions, at, row, to, [TRANSFER; 2])
 }
 
 /// Tests 12 to 16 of a record, by its place and a copy of it, that goes to another account; then its inverse row and the row in the new account, of
@@ -340,19 +378,31 @@ fn change_account(records: &mut Records, positions: &mut Positions, at: usize, m
 }
 
 pub fn merge(records: &mut [i64], positions: &mut [i64], id: i64, account: i64, series: i64, pairs: &[i64]) -> Reply {
-    answer(try_merge(records, positions, id, account, series, pairs))
+    answer(try_merge(records, positions, &[id, account, series], pairs))
 }
 
-fn try_merge(records: &mut [i64], positions: &mut [i64], id: i64, account: i64, series: i64, pairs: &[i64]) -> Outcome {
-    let (mut records, mut positions) = open(records, positions)?;
+/// Test 3 of a merge into id, account and series.
+fn is_merge(names: &[i64; 3], pairs: &[i64]) -> bool {
+    let [id, account, series] = *names;
     let (sources, odd) = pairs.as_chunks::<2>();
-    let valid = is_id(id)
+    is_id(id)
         && is_account(account)
         && is_series(series)
         && odd.is_empty()
         && (2..=1_000).contains(&sources.len())
-        && sources.iter().all(|pair| is_id(pair[0]) && is_suffix(pair[1]));
-    refuse_if(!valid, 3)?;
+        && sources.iter().all(|pair| is_id(pair[0]) && is_suffix(pair[1]))
+}
+
+fn try_merge(records: &mut [i64], positions: &mut [i64], names: &[i64; 3], pairs: &[i64]) -> Outcome {
+    let (mut records, mut positions) = open(records, positions)?;
+    refuse_if(!is_merge(names, pairs), 3)?;
+    book_merge(&mut records, &mut positions, names, pairs)
+}
+
+/// A merge that passes test 3, on sound tables.
+fn book_merge(records: &mut Records, positions: &mut Positions, names: &[i64; 3], pairs: &[i64]) -> Outcome {
+    let [id, account, series] = *names;
+    let (sources, _) = pairs.as_chunks::<2>();
     let place = records.find(id, i64::MIN).unwrap_or_else(|place| place);
     refuse_if(records.rows().get(place).is_some_and(|row| row[ID] == id), 4)?;
     let rows = sources
@@ -373,7 +423,7 @@ fn try_merge(records: &mut [i64], positions: &mut [i64], id: i64, account: i64, 
     refuse_each(&rows, 10, |&at| row(at)[SIDE] != side)?;
     let quantity: i64 = rows.iter().map(|&at| row(at)[QUANTITY]).sum();
     refuse_if(quantity > MOST_QUANTITY, 11)?;
-    refuse_if(overflows_suffixes(&records, sources), 13)?;
+    refuse_if(overflows_suffixes(records, sources), 13)?;
     refuse_if(records.is_full(sources.len() + 1), 14)?;
     let held = positions.find(account, series);
     refuse_if(held.is_err() && positions.is_full(1), 15)?;
@@ -387,7 +437,7 @@ fn try_merge(records: &mut [i64], positions: &mut [i64], id: i64, account: i64, 
 
     for pair in sources {
         let at = records.find(pair[0], pair[1]).unwrap_or_else(|place| place);
-        let (end, greatest) = end_of(&records, pair[0]);
+        let (end, greatest) = end_of(records, pair[0]);
         let row = &mut records.rows_mut()[at];
         row[STATUS] = ADJUSTED;
         let mut inverse = *row;

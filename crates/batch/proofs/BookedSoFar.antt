@@ -51,6 +51,10 @@ booked-reply (Reply.ClosingError excess) over h = (refl, cc)
 booked-reply (Reply.Lineage price links) over h = (refl, cc)
 booked-reply (Reply.Refused number place) over h = let z : _≡_ {A = ℕ} 0 1 = cc in absurd (omega arith)
 booked-reply (Reply.Stopped booked number place) over h = (refl, cc)
+booked-reply (Reply.Written bytes) over h = (refl, cc)
+booked-reply (Reply.Replayed lines) over h = (refl, cc)
+booked-reply (Reply.BadLine line) over h = (refl, cc)
+booked-reply (Reply.LineRefused line number place) over h = (refl, cc)
 
 refused-reply : (reply : Reply) (number place : ℤ) → Refused number place ≡ outcomeOf reply → reply ≡ Reply.Refused number place
 refused-reply (Reply.Booked rows residual) number place h = let z : _≡_ {A = ℕ} 0 1 = cc in absurd (omega arith)
@@ -61,6 +65,10 @@ refused-reply (Reply.Refused n p) number place h =
     let same-place : p ≡ place = cc in
     λ i. Reply.Refused (same-number i) (same-place i)
 refused-reply (Reply.Stopped booked n p) number place h = let z : _≡_ {A = ℕ} 0 1 = cc in absurd (omega arith)
+refused-reply (Reply.Written bytes) number place h = let z : _≡_ {A = ℕ} 0 1 = cc in absurd (omega arith)
+refused-reply (Reply.Replayed lines) number place h = let z : _≡_ {A = ℕ} 0 1 = cc in absurd (omega arith)
+refused-reply (Reply.BadLine line) number place h = let z : _≡_ {A = ℕ} 0 1 = cc in absurd (omega arith)
+refused-reply (Reply.LineRefused line n p) number place h = let z : _≡_ {A = ℕ} 0 1 = cc in absurd (omega arith)
 
 -- ---- the sequence so far, and its rest
 

@@ -1,4 +1,4 @@
--- A trade of a batch, by its reply: refused, or booked with an excess.
+-- A trade of a batch, by its reply: refused, or booked with an excess. The answers of other calls are no trade's.
 use lib.IntN.{ℤ, pos}
 use Rattle.rules.specs.Batch.{excessOf}
 use Rattle.rules.specs.declared.Reply.{Reply}
@@ -12,3 +12,7 @@ outcomeOf (Reply.ClosingError excess) = Booked excess
 outcomeOf (Reply.Lineage price links) = Booked (pos 0)
 outcomeOf (Reply.Refused number place) = Refused number place
 outcomeOf (Reply.Stopped booked number place) = Booked (pos 0)
+outcomeOf (Reply.Written bytes) = Booked (pos 0)
+outcomeOf (Reply.Replayed lines) = Booked (pos 0)
+outcomeOf (Reply.BadLine line) = Booked (pos 0)
+outcomeOf (Reply.LineRefused line number place) = Booked (pos 0)

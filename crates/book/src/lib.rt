@@ -1,6 +1,6 @@
-// The transaction book: the four requests and the one question of document 01, a batch of trades, and the steps of a give-up, each on lent tables of any length and content and
-// with any figures. Each promise is one equation: the answer and the cells of the lent tables at the end are those of `handle` on the cells at entry and this request. A batch also
-// writes to a lent output; its promise gives every cell of it. The process table is lent to the steps of a give-up alone.
+// The transaction book: the four requests and the one question of document 01, a batch of trades, the steps of a give-up, and the replay of a text, each on lent tables of any length and content and
+// with any figures. Each promise is one equation: the answer and the cells of the lent tables at the end are those of `handle` on the cells at entry and this request, of a batch and a replay those of `handleCall`. A
+// batch also writes to a lent output; its promise gives every cell of it. The process table is lent to the steps of a give-up and to a replay alone.
 use give_up_steps::Terms;
 use rules::Reply;
 use rules::Step;
@@ -179,6 +179,24 @@ pub fn give_up(
                 series,
             };
             give_up::on_sound(records, positions, processes, step, g)
+        }
+    }
+}
+
+// The lines of a text, one by one, up to the first that is bad or refused (document 02, K5).
+pub fn replay(
+    records: &mut [i64],
+    positions: &mut [i64],
+    processes: &mut [i64],
+    text: &[u8],
+) -> Reply
+    ensures { λ r. ⌜ answeredBy r (allTables (now (records .exit)) (now (positions .exit)) (now (processes .exit))) ≡ handleCall (allTables (now (records .entry)) (now (positions .entry)) (now (processes .entry))) (Call.replay (now (text .entry))) ⌝ }
+{
+    match verdict_on_tables(records, positions) {
+        Verdict::Refused(number, place) => replaying::each_line::on_unsound(text, number, place),
+        Verdict::Accepted => {
+            let processes_sound = scan::soundness::processes_sound(processes);
+            replaying::each_line::on_sound(records, positions, processes, processes_sound, text)
         }
     }
 }

@@ -1,5 +1,6 @@
--- Demand 2 on the cells of the tables, of every call: sound tables stay sound, and cell 0 of the records table grows by the rows that the answer names, on any tables; for a batch
--- these are the trades that it booked, stopped or not. By the same of its requests (OnTables). Assumes nothing.
+-- Demand 2 on the cells of the tables, of every call: sound tables stay sound, and cell 0 of the records table grows by the rows that the call booked, on any tables. Those are the rows that the
+-- answer names: for a batch the trades that it booked, stopped or not; for a replay, whose answer names lines, those of the requests that it booked. By the same of its requests (OnTables).
+-- Assumes nothing.
 use Prim.Native.Nat.{ℕ, zero, suc, _+_}
 use native.Mathlib.Omega.{arith}
 use mathlib.Core.Path.{_≡_, refl, sym, _∙_, ap, subst}
@@ -18,11 +19,14 @@ use Rattle.rules.specs.Tables.{Tables}
 use Rattle.rules.specs.Handle.{answer, handle, refusalOf, planOf}
 use Rattle.rules.specs.Sequence.{Done, Sequence, goesOn, untilRefused}
 use Rattle.rules.specs.Batch.{tradeAt, tradeCount, tradesOf, batchRefusal, batchReply, batchAnswer, handleBatch}
-use Rattle.rules.specs.Call.{Call, one, trades, handleCall}
+use Rattle.rules.specs.Reader.{readingOf}
+use Rattle.rules.specs.Replay.{replayAnswer, handleReplay}
+use Rattle.rules.specs.Call.{Call, one, trades, replay, handleCall}
 use Rattle.rules.specs.declared.Reply.{Reply}
 use Rattle.soundness.specs.RowsAnswered.{rowsAnswered}
 use Rattle.soundness.specs.SoundTables.{SoundTables}
 use Rattle.history.specs.History.{isAccepted}
+use Rattle.history.specs.RowsBooked.{rowsOfAll, rowsBooked}
 use Rattle.history.proofs.Accepted.{none-accepted, accepted-reply}
 use Rattle.history.proofs.OnTables.{stays-sound, count-grows}
 use Rattle.history.proofs.Sequences.{DoneFrom, done-from}
@@ -33,7 +37,7 @@ done-sound (d ∷ rest) t end h sound = done-sound rest (handle t (d .request) .
 
 -- From tables that pass tests 1, 2 and 19, whatever the call, the tables afterwards pass them.
 pub calls-stay-sound : (t : Tables) → SoundTables t → (c : Call) → SoundTables (handleCall t c .tables)
-unfolding handleCall handleBatch answer batchAnswer
+unfolding handleCall handleBatch handleReplay answer batchAnswer replayAnswer
 calls-stay-sound t sound (one r) = stays-sound t sound r
 calls-stay-sound t sound (trades figures cells) = go (batchRefusal t figures cells)
   where
@@ -43,6 +47,9 @@ calls-stay-sound t sound (trades figures cells) = go (batchRefusal t figures cel
     go : (o : Option Test) → SoundTables (answer o t (batchAnswer s) .tables)
     go none = done-sound (s .done) t (s .tables) (done-from t (tradesOf figures)) sound
     go (some x) = sound
+calls-stay-sound t sound (replay text) =
+    let s : Sequence = untilRefused t (readingOf text .requests) in
+    done-sound (s .done) t (s .tables) (done-from t (readingOf text .requests)) sound
 
 -- ---- cell 0
 
@@ -82,9 +89,18 @@ unfolding batchReply
 booked-rows n none = refl
 booked-rows n (some x) = refl
 
--- Whatever the tables and the call, cell 0 grows by the rows that the answer names.
-pub calls-count-grows : (t : Tables) (c : Call) → countOf (handleCall t c .tables .records) ≡ countOf (t .records) +ℤ rowsAnswered (handleCall t c .reply)
-unfolding handleCall handleBatch answer batchAnswer refusedBy tradesOf
+-- Requests that were done as a part of a call: cell 0 grows by the rows that their answers name.
+done-grows : (done : List Done) (t end : Tables) → DoneFrom t done end → countOf (end .records) ≡ countOf (t .records) +ℤ rowsOfAll done
+unfolding rowsOfAll
+done-grows [] t end h = ap (λ (u : Tables). countOf (u .records)) (sym h) ∙ sym (+ℤ-idr (countOf (t .records)))
+done-grows (d ∷ rest) t end h =
+    done-grows rest (handle t (d .request) .tables) end (h .1)
+    ∙ ap (λ (c : ℤ). c +ℤ rowsOfAll rest) (count-grows t (d .request) ∙ ap (λ (r : Reply). countOf (t .records) +ℤ rowsAnswered r) (h .0 .1))
+    ∙ +ℤ-assoc (countOf (t .records)) (rowsAnswered (d .reply)) (rowsOfAll rest)
+
+-- Whatever the tables and the call, cell 0 grows by the rows that it booked.
+pub calls-count-grows : (t : Tables) (c : Call) → countOf (handleCall t c .tables .records) ≡ countOf (t .records) +ℤ rowsBooked t c
+unfolding handleCall handleBatch handleReplay answer batchAnswer replayAnswer refusedBy tradesOf rowsBooked
 calls-count-grows t (one r) = count-grows t r
 calls-count-grows t (trades figures cells) = go (batchRefusal t figures cells)
   where
@@ -94,3 +110,6 @@ calls-count-grows t (trades figures cells) = go (batchRefusal t figures cells)
     go : (o : Option Test) → countOf (answer o t (batchAnswer s) .tables .records) ≡ countOf (t .records) +ℤ rowsAnswered (answer o t (batchAnswer s) .reply)
     go none = trades-grow (tradeCount figures) 0 figures t ∙ ap (λ (c : ℤ). countOf (t .records) +ℤ c) (sym (booked-rows (length (s .done)) (s .stop)))
     go (some x) = sym (+ℤ-idr (countOf (t .records)))
+calls-count-grows t (replay text) =
+    let s : Sequence = untilRefused t (readingOf text .requests) in
+    done-grows (s .done) t (s .tables) (done-from t (readingOf text .requests))

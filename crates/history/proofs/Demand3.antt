@@ -1,5 +1,6 @@
--- Demand 3. From any tables, sound or not, hand in any list of requests, batches of trades among them. Take the accepted ones in any other order in which touching requests keep their order, and hand
--- those in from the same tables: each is accepted again with the same whole answer, what it writes to a lent output too, and every cell of all three tables is the same at the end, those past the last row too.
+-- Demand 3. From any tables, sound or not, hand in any list of requests, batches of trades and replays of texts among them; a batch that stopped, and a replay, stands as the requests that it booked.
+-- Take the accepted ones in any other order in which touching requests keep their order, and hand those in from the same tables: each is accepted again with the same whole answer, what it writes
+-- to a lent output too, and every cell of all three tables is the same at the end, those past the last row too.
 --
 -- The claim is about one list of any length. Refused requests may stand anywhere in the first list. Both runs are of `handle`, the rules of document 01: a program that always
 -- refuses, or does nothing, is shut out by the rules themselves (demand 2), and not by this theorem, which such a program would satisfy.
@@ -10,16 +11,15 @@ use mathlib.Core.Bool.{Bool, true, false, cond}
 use mathlib.Core.List.{List, [], _∷_, _++_, map}
 use mathlib.Core.Logic.{_⊎_, inl, inr}
 use mathlib.Core.Option.{Option, none, some}
-use lib.IntN.{ℤ}
-use Prim.Native.Nat.{ℕ}
 use Rattle.rules.specs.Keyed.{isSome}
 use Rattle.rules.specs.Refusal.{Test}
-use Rattle.rules.specs.Request.{Request}
 use Rattle.rules.specs.Tables.{Tables}
-use Rattle.rules.specs.Handle.{Answer, answer, handle}
+use Rattle.rules.specs.Handle.{answer, handle}
 use Rattle.rules.specs.Sequence.{Done, Sequence, untilRefused}
 use Rattle.rules.specs.Batch.{tradesOf, batchRefusal, batchAnswer, handleBatch}
-use Rattle.rules.specs.Call.{Call, one, trades, handleCall}
+use Rattle.rules.specs.Reader.{readingOf}
+use Rattle.rules.specs.Replay.{replayAnswer, handleReplay}
+use Rattle.rules.specs.Call.{Call, one, trades, replay, handleCall}
 use Rattle.rules.specs.Run.{afterReply, run}
 use Rattle.keys.proofs.Split.{split, cond-true, cond-false}
 use Rattle.history.specs.History.{callAccepted, Entry, callsOf, entryOf, asEntry, bookedBy, entriesOf, acceptedEntries, entriesTouch, Reordering}
@@ -35,9 +35,9 @@ as-entries [] t end h = h
 as-entries (d ∷ rest) t end h =
     ((h .0 .0, λ i. record { call = one (d .request); reply = h .0 .1 i; output = writes-nothing t (d .request) i }), as-entries rest (handle t (d .request) .tables) end (h .1))
 
--- What a call that is not accepted booked leads to the tables that it leaves.
+-- What a call that is not accepted as a whole booked leads to the tables that it leaves.
 booked-replays : (t : Tables) (c : Call) → callAccepted t c ≡ false → Replays Does next t (bookedBy t c) (handleCall t c .tables)
-unfolding callAccepted handleCall bookedBy handleBatch isSome answer batchAnswer
+unfolding callAccepted handleCall bookedBy handleBatch handleReplay isSome answer batchAnswer replayAnswer
 booked-replays t (one r) not-ok = sym (refused-tables t r not-ok)
 booked-replays t (trades figures cells) not-ok = go (batchRefusal t figures cells)
   where
@@ -47,6 +47,9 @@ booked-replays t (trades figures cells) not-ok = go (batchRefusal t figures cell
     go : (o : Option Test) → Replays Does next t (cond (isSome o) [] (map asEntry (s .done))) (answer o t (batchAnswer s) .tables)
     go none = as-entries (s .done) t (s .tables) (done-from t (tradesOf figures))
     go (some x) = refl
+booked-replays t (replay text) not-ok =
+    let s : Sequence = untilRefused t (readingOf text .requests) in
+    as-entries (s .done) t (s .tables) (done-from t (readingOf text .requests))
 
 -- A call, as it stands among the accepted ones, leads to the tables that it leaves.
 call-replays : (t : Tables) (c : Call) → Replays Does next t (entriesOf t c) (handleCall t c .tables)
@@ -58,7 +61,7 @@ call-replays t c = go (split (callAccepted t c))
     go (inr not-ok) = subst (λ (l : List Entry). Replays Does next t l (handleCall t c .tables)) (sym (cond-false (entryOf t c ∷ []) (bookedBy t c) not-ok)) (booked-replays t c not-ok)
 
 -- A history is a replay of its accepted entries: what was refused drops out.
-history-replays : (t : Tables) (calls : List Call) → Replays Does next t (acceptedEntries t calls) (run t calls .tables)
+pub history-replays : (t : Tables) (calls : List Call) → Replays Does next t (acceptedEntries t calls) (run t calls .tables)
 unfolding acceptedEntries run afterReply
 history-replays t [] = refl
 history-replays t (c ∷ rest) =

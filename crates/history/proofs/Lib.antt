@@ -26,3 +26,4 @@ pub mod OpenProcesses
 pub mod RecordsUnder
 pub mod StepMatched
 pub mod UnderGiveUp
+pub mod Empty

@@ -19,7 +19,7 @@ use Rattle.rules.specs.Layout.{decode}
 use Rattle.rules.specs.Handle.{Answer, answer, handle, planOf}
 use Rattle.rules.specs.Sequence.{Done, Sequence, untilRefused}
 use Rattle.rules.specs.Batch.{tradeAt, tradeCount, tradesOf, batchFigures, batchTests, batchRefusal, excessesOf, batchReply, batchAnswer, handleBatch}
-use Rattle.rules.specs.Call.{Call, one, trades, handleCall, requestsOf}
+use Rattle.rules.specs.Call.{Call, one, trades, replay, handleCall, requestsOf}
 use Rattle.rules.specs.declared.Reply.{Reply}
 use Rattle.keys.proofs.Split.{clash, and-left, and-right, and-intro}
 use Rattle.keys.proofs.Counts.{isSome-absent}
@@ -38,11 +38,12 @@ Does t e = (callAccepted t (e .call) ≡ true) × (entryOf t (e .call) ≡ e)
 abbrev pub next : Tables → Entry → Tables
 next t e = handleCall t (e .call) .tables
 
--- What the answer of a call that is accepted as a whole says of its requests' replies; no tables are named.
+-- What the answer of a call that is accepted as a whole says of its requests' replies; no tables are named. No replay is: it stands as the requests that it booked.
 abbrev Made : Call → Reply → List ℤ → List Done → Type 0
 Made (one r) reply output done = (done ≡ record { request = r; reply = reply } ∷ []) × (output ≡ [])
 Made (trades figures cells) reply output done =
     (batchFigures figures cells ≡ true) × (requestsDone done ≡ tradesOf figures) × (reply ≡ batchReply (length done) none) × (output ≡ excessesOf done)
+Made (replay text) reply output done = ⊥
 
 -- An entry, done from these tables to those by its requests.
 pub record InParts (t : Tables) (e : Entry) (end : Tables) : Type 0 where
@@ -91,14 +92,16 @@ call-parts t (trades figures cells) ok =
         ap (λ (a : Answer). a .output) is,
       );
     }
+call-parts t (replay text) ok = clash ok refl
 
-in-parts : (t : Tables) (e : Entry) → Does t e → InParts t e (next t e)
+pub in-parts : (t : Tables) (e : Entry) → Does t e → InParts t e (next t e)
 in-parts t e h = subst (λ (x : Entry). InParts t x (next t e)) (h .1) (call-parts t (e .call) (h .0))
 
-made-requests : (c : Call) (reply : Reply) (output : List ℤ) (done : List Done) → Made c reply output done → requestsDone done ≡ requestsOf c
+pub made-requests : (c : Call) (reply : Reply) (output : List ℤ) (done : List Done) → Made c reply output done → requestsDone done ≡ requestsOf c
 unfolding requestsOf
 made-requests (one r) reply output done m = ap requestsDone (m .0)
 made-requests (trades figures cells) reply output done m = m .1
+made-requests (replay text) reply output done m = absurd m
 
 -- ---- and the other way round
 
@@ -153,6 +156,7 @@ whole-call t end (trades figures cells) reply output done from made =
       },
       ap (λ (a : Answer). a .tables) is,
     )
+whole-call t end (replay text) reply output done from made = absurd made
 
 -- ---- the exchange
 

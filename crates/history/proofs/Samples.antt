@@ -1,4 +1,4 @@
--- The theorem is not hollow: a history of every kind and of batches, with refused requests and a batch that stops among them, has the accepted entries stated, another order of them is a reordering, and it goes through with
+-- The theorem is not hollow: a history of every kind, of batches and of replays, with refused requests, a batch that stops and lines that are refused or bad among them, has the accepted entries stated, another order of them is a reordering, and it goes through with
 -- the same answers to the same cells. And a pair that touches does not: exchanged, it answers otherwise. By computation. Assumes nothing.
 use mathlib.Core.Path.{_≡_, refl, sym, subst}
 use mathlib.Core.Bool.{true}
@@ -9,12 +9,12 @@ use Rattle.rules.specs.Tables.{booksOf}
 use Rattle.rules.specs.Touching.{touch}
 use Rattle.rules.specs.Call.{one}
 use Rattle.rules.specs.Run.{run}
-use Rattle.rules.specs.declared.Reply.the-variants.{Booked, ClosingError}
+use Rattle.rules.specs.declared.Reply.the-variants.{Booked, ClosingError, BadLine, LineRefused}
 use Rattle.rules.proofs.Computed.{Computed}
 use Rattle.history.specs.History.{Entry, isAccepted, callAccepted, bookedBy, entriesOf, acceptedEntries, entriesTouch, callsOf, Reordering}
 use Rattle.history.specs.ByPlaces.{eachTwo, mayStand, isOrder}
 use Rattle.history.specs.UnderGiveUp.{isOpenFor, openFor}
-use Rattle.history.specs.Sample.{start, history, accepted, places, past, another, finish, underWay, ended, buy, sell}
+use Rattle.history.specs.Sample.{start, upToRefused, upToBad, history, accepted, places, past, another, finish, underWay, ended, buy, sell}
 use Rattle.history.proofs.Demand3.{demand-3}
 use Rattle.history.proofs.ByPlaces.{by-places}
 
@@ -46,6 +46,11 @@ sample-cells-again = refl
 -- The theorem says it of this order without computing.
 pub sample-by-demand-3 : (acceptedEntries start (callsOf another) ≡ another) × (run start (callsOf another) .tables ≡ run start history .tables)
 sample-by-demand-3 = demand-3 start history another (subst (λ (l : List Entry). Reordering entriesTouch l another) (sym sample-accepted) sample-order)
+
+-- The third line is refused 4; in the other text the second is bad.
+pub replays-named : run start (upToRefused ∷ upToBad ∷ []) .replies ≡ LineRefused (pos 3) (pos 4) (pos 0) ∷ BadLine (pos 2) ∷ []
+unfolding ComputedHistory
+replays-named = refl
 
 -- The two touch, and exchanged the sell finds nothing to close.
 pub pair-touches : touch buy sell ≡ true

@@ -1,6 +1,6 @@
 -- K3, give-ups: "from tables in which it holds, empty ones to begin with, and after any list of requests of every kind: a record has status 3 exactly where a process that is pending
--- or claimed names it, and then just one does" (`Matched`). Whatever the tables, a request keeps it, refused or accepted, and so does every list of calls, batches among them, stopped or
--- not; tables without rows have it; and the sentence is read back from it, both ways. A refused request changes nothing; an accepted step finds sound tables (tests 1, 2 and 19); beside
+-- or claimed names it, and then just one does" (`Matched`). Whatever the tables, a request keeps it, refused or accepted, and so does every list of calls, batches, stopped or
+-- not, and replays among them; tables without rows have it; and the sentence is read back from it, both ways. A refused request changes nothing; an accepted step finds sound tables (tests 1, 2 and 19); beside
 -- any process table the other requests do what they do beside one without rows. Assumes nothing.
 use Prim.Native.Nat.{ℕ}
 use mathlib.Core.Path.{_≡_, refl, sym, _∙_, ap, subst}
@@ -9,7 +9,7 @@ use mathlib.Core.List.{List, [], _∷_}
 use mathlib.Core.Logic.{_⊎_, inl, inr}
 use mathlib.Core.Option.{Option, none, some}
 use native.Mathlib.Omega.{arith}
-use lib.IntN.{ℤ, pos, natAbs}
+use lib.IntN.{ℤ, pos}
 use lib.ListN.{getElem?}
 use Rattle.integers.proofs.Parts.{eqZ-true, true-eqZ}
 use Rattle.rules.specs.Figures.{underGiveUp}
@@ -19,12 +19,14 @@ use Rattle.rules.specs.Refusal.{Test}
 use Rattle.rules.specs.Request.{Request, trade, separate, transfer, merge, lineage, giveUp, isStep}
 use Rattle.rules.specs.Books.{Books}
 use Rattle.rules.specs.GiveUp.{giveUpEffects, giveUpPlan}
-use Rattle.rules.specs.Layout.{Layout, decode, countOf, rowsOf}
+use Rattle.rules.specs.Layout.{countOf}
 use Rattle.rules.specs.Tables.{Tables, tablesOf, soundProcesses, recordsLayout, processesLayout, booksOf}
 use Rattle.rules.specs.Handle.{Answer, answer, handle, planOf}
 use Rattle.rules.specs.Sequence.{Done, Sequence, untilRefused}
 use Rattle.rules.specs.Batch.{tradesOf, batchRefusal, batchAnswer, handleBatch}
-use Rattle.rules.specs.Call.{Call, one, trades, handleCall}
+use Rattle.rules.specs.Reader.{readingOf}
+use Rattle.rules.specs.Replay.{replayAnswer, handleReplay}
+use Rattle.rules.specs.Call.{Call, one, trades, replay, handleCall}
 use Rattle.rules.specs.Run.{afterReply, run}
 use Rattle.rules.specs.declared.Record.{Record}
 use Rattle.rules.specs.declared.ProcessRow.{ProcessRow}
@@ -39,6 +41,7 @@ use Rattle.history.proofs.Step.{sound-books, step-books}
 use Rattle.history.proofs.ProcessesApart.{apart-promised}
 use Rattle.history.proofs.TableExchange.{accepts-as, no-processes-sound}
 use Rattle.history.proofs.Sequences.{DoneFrom, done-from}
+use Rattle.history.proofs.Empty.{no-rows}
 use Rattle.history.proofs.OpenProcesses.{openFor-nil, counted, just-one}
 use Rattle.history.proofs.RecordsUnder.{underAt, under-found, under-absent, under-stays}
 use Rattle.history.proofs.StepMatched.{step-matched}
@@ -99,7 +102,7 @@ done-matched [] t end h m = subst (λ (u : Tables). Matched (booksOf u)) h m
 done-matched (d ∷ rest) t end h m = done-matched rest (handle t (d .request) .tables) end (h .1) (request-matched t (d .request) m)
 
 call-matched : (t : Tables) (c : Call) → Matched (booksOf t) → Matched (booksOf (handleCall t c .tables))
-unfolding handleCall handleBatch answer batchAnswer
+unfolding handleCall handleBatch handleReplay answer batchAnswer replayAnswer
 call-matched t (one r) m = request-matched t r m
 call-matched t (trades figures cells) m = go (batchRefusal t figures cells)
   where
@@ -109,6 +112,9 @@ call-matched t (trades figures cells) m = go (batchRefusal t figures cells)
     go : (o : Option Test) → Matched (booksOf (answer o t (batchAnswer s) .tables))
     go none = done-matched (s .done) t (s .tables) (done-from t (tradesOf figures)) m
     go (some x) = m
+call-matched t (replay text) m =
+    let s : Sequence = untilRefused t (readingOf text .requests) in
+    done-matched (s .done) t (s .tables) (done-from t (readingOf text .requests)) m
 
 -- "and after any list of requests of every kind"
 pub calls-matched : (t : Tables) (calls : List Call) → Matched (booksOf t) → Matched (booksOf (run t calls .tables))
@@ -117,10 +123,6 @@ calls-matched t [] m = m
 calls-matched t (c ∷ rest) m = calls-matched (handleCall t c .tables) rest (call-matched t c m)
 
 -- ---- empty tables
-
-no-rows : {Row : Type 0} (l : Layout Row) (cells : List ℤ) → countOf cells ≡ pos 0 → rowsOf l cells ≡ []
-unfolding rowsOf
-no-rows l cells h = ap (λ (n : ℤ). decode (l .get) (l .width) (natAbs n) (l .header) cells) h
 
 -- "empty ones to begin with"
 pub empty-matched : (t : Tables) → countOf (t .records) ≡ pos 0 → countOf (t .processes) ≡ pos 0 → Matched (booksOf t)

@@ -1,7 +1,7 @@
 -- Demand 3 speaks of the accepted requests of a history with their answers, and of another order of them in which touching requests keep their order.
 use Prim.Native.Nat.{ℕ, _<_}
 use mathlib.Core.Path.{_≡_}
-use mathlib.Core.Bool.{Bool, true, cond, not, _&&_}
+use mathlib.Core.Bool.{Bool, true, false, cond, not, _&&_}
 use mathlib.Core.List.{List, [], _∷_, _++_, map}
 use mathlib.Core.Option.{some}
 use lib.IntN.{ℤ}
@@ -12,7 +12,8 @@ use Rattle.rules.specs.Tables.{Tables}
 use Rattle.rules.specs.Handle.{refusalOf}
 use Rattle.rules.specs.Sequence.{Done, untilRefused}
 use Rattle.rules.specs.Batch.{tradesOf, batchRefusal}
-use Rattle.rules.specs.Call.{Call, one, trades, handleCall}
+use Rattle.rules.specs.Reader.{readingOf}
+use Rattle.rules.specs.Call.{Call, one, trades, replay, handleCall}
 use Rattle.rules.specs.Touching.{callsTouch}
 use Rattle.rules.specs.declared.Reply.{Reply}
 
@@ -20,10 +21,12 @@ use Rattle.rules.specs.declared.Reply.{Reply}
 unfoldable pub isAccepted : Tables → Request → Bool
 isAccepted t r = not (isSome (refusalOf t r))
 
--- "a batch is accepted only when all its trades are": it is not refused itself, and no trade stops it.
+-- "a batch is accepted only when all its trades are": it is not refused itself, and no trade stops it. "For demand 3 a replay is the requests it books" (K5): those stand in the list, and never
+-- the replay itself.
 unfoldable pub callAccepted : Tables → Call → Bool
 callAccepted t (one r) = isAccepted t r
 callAccepted t (trades figures cells) = not (isSome (batchRefusal t figures cells)) && not (isSome (untilRefused t (tradesOf figures) .stop))
+callAccepted t (replay text) = false
 
 -- An accepted call with its whole answer: the reply, and what is written to a lent output.
 pub record Entry : Type 0 where
@@ -42,10 +45,11 @@ entryOf t c = record { call = c; reply = handleCall t c .reply; output = handleC
 abbrev pub asEntry : Done → Entry
 asEntry d = record { call = one (d .request); reply = d .reply; output = [] }
 
--- What a call that is not accepted has booked: "a stopped one stands in the list as the trades it booked".
+-- What a call that is not accepted as a whole has booked: "a stopped one stands in the list as the trades it booked"; "a replay is the requests it books".
 unfoldable pub bookedBy : Tables → Call → List Entry
 bookedBy t (one r) = []
 bookedBy t (trades figures cells) = cond (isSome (batchRefusal t figures cells)) [] (map asEntry (untilRefused t (tradesOf figures) .done))
+bookedBy t (replay text) = map asEntry (untilRefused t (readingOf text .requests) .done)
 
 -- How a call stands in the list of the accepted ones: as itself, or as what it booked.
 unfoldable pub entriesOf : Tables → Call → List Entry

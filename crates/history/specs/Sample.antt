@@ -1,10 +1,12 @@
--- A history of every kind of request and of batches, with three refused requests and a batch that stops, another order of its accepted ones, and a touching pair that may not be exchanged.
+-- A history of every kind of request, of batches and of replays, with three refused requests, a batch that stops, a replay up to a refused line and one up to a bad line, another order of its
+-- accepted ones, and a touching pair that may not be exchanged.
 use Prim.Native.Nat.{ℕ}
 use mathlib.Core.List.{List, [], _∷_, _++_}
 use lib.IntN.{ℤ, pos, negℤ}
 use lib.ListN.{replicate}
 use Rattle.rules.specs.Request.{Request, trade, separate, transfer, merge, lineage, giveUp}
-use Rattle.rules.specs.Call.{Call, one, trades}
+use Rattle.rules.specs.Line.{lineOf}
+use Rattle.rules.specs.Call.{Call, one, trades, replay}
 use Rattle.rules.specs.Tables.{Tables, allTables}
 use Rattle.rules.specs.declared.Step.{Step}
 use Rattle.rules.specs.declared.Step.the-variants.{Open, Claim, Cancel, ApproveGiver, ApproveTaker}
@@ -18,7 +20,11 @@ abbrev pub blank : ℕ → List ℤ
 blank cells = pos 0 ∷ replicate cells (negℤ (pos 1))
 
 abbrev pub start : Tables
-start = allTables (blank 225) (blank 37) (blank 20)
+start = allTables (blank 290) (blank 47) (blank 20)
+
+-- Tables with as much room and other cells.
+abbrev pub otherCells : Tables
+otherCells = allTables (pos 0 ∷ replicate 294 (pos 8)) (pos 0 ∷ replicate 45 (pos 8)) (pos 0 ∷ replicate 26 (pos 8))
 
 -- Trades 1 and 2, the first separated; trade 3, transferred; the parts of 1 merged into 5.
 abbrev pub trade1 : Request
@@ -56,6 +62,23 @@ stopping =
     (pos 13 ∷ pos 42 ∷ pos 6 ∷ pos 2 ∷ pos 8 ∷ pos 2 ∷ pos 2 ∷ pos 20 ∷ pos 5 ∷ pos 2 ∷ pos 50 ∷ pos 9 ∷ pos 14 ∷ pos 42 ∷ pos 6 ∷ pos 2 ∷ pos 8 ∷ pos 2 ∷ [])
     3
 
+abbrev pub trade21 : Request
+trade21 = trade (pos 21) (pos 50) (pos 6) (pos 1) (pos 30) (pos 4)
+
+abbrev pub separate21 : Request
+separate21 = separate (pos 21) (pos 0) (pos 50) (pos 6) (pos 12 ∷ pos 18 ∷ [])
+
+abbrev pub trade22 : Request
+trade22 = trade (pos 22) (pos 51) (pos 6) (pos 2) (pos 9) (pos 3)
+
+-- Four lines: trade 21 and its separation, then trade 21 again, where it stops, and trade 22, which is not tried.
+abbrev pub upToRefused : Call
+upToRefused = replay (lineOf trade21 ++ (lineOf separate21 ++ (lineOf trade21 ++ lineOf trade22)))
+
+-- Three lines: trade 22, then an empty line, where it stops, and trade 23, which is not read.
+abbrev pub upToBad : Call
+upToBad = replay (lineOf trade22 ++ (10 ∷ lineOf (trade (pos 23) (pos 51) (pos 6) (pos 2) (pos 9) (pos 3))))
+
 -- Process 90 gives trade 2 up from account 20 to account 21.
 abbrev pub giveUp2 : Step → Request
 giveUp2 step = giveUp step (pos 90) (pos 2) (pos 0) (pos 20) (pos 21) (pos 5)
@@ -64,24 +87,25 @@ giveUp2 step = giveUp step (pos 90) (pos 2) (pos 0) (pos 20) (pos 21) (pos 5)
 abbrev pub history : List Call
 history =
     one trade1 ∷ one trade1 ∷ one trade2 ∷ one separate1 ∷ one (giveUp2 Open) ∷ batch ∷ one lineage2 ∷ one (lineage (pos 9) (pos 0)) ∷ one (giveUp2 ApproveTaker) ∷ one trade3
-    ∷ one (giveUp2 Claim) ∷ stopping ∷ one (giveUp2 ApproveGiver) ∷ one transfer3 ∷ one merge1 ∷ one (giveUp2 ApproveTaker) ∷ []
+    ∷ one (giveUp2 Claim) ∷ stopping ∷ upToRefused ∷ one (giveUp2 ApproveGiver) ∷ one transfer3 ∷ one merge1 ∷ upToBad ∷ one (giveUp2 ApproveTaker) ∷ []
 
 abbrev pub entry : Request → Reply → Entry
 entry request reply = record { call = one request; reply = reply; output = [] }
 
--- The batch that stopped stands as the trade that it booked.
+-- The batch that stopped stands as the trade that it booked, each replay as the requests that it booked.
 abbrev pub accepted : List Entry
 accepted =
     entry trade1 (Booked (pos 1) (pos 0)) ∷ entry trade2 (Booked (pos 1) (pos 0)) ∷ entry separate1 (Booked (pos 3) (pos 0))
     ∷ entry (giveUp2 Open) (Booked (pos 0) (pos 0))
     ∷ record { call = batch; reply = Booked (pos 2) (pos 0); output = pos 0 ∷ pos 5 ∷ [] }
     ∷ entry lineage2 (Lineage (pos 9) (pos 0)) ∷ entry trade3 (Booked (pos 1) (pos 0))
-    ∷ entry (giveUp2 Claim) (Booked (pos 0) (pos 0)) ∷ entry trade13 (Booked (pos 1) (pos 0)) ∷ entry (giveUp2 ApproveGiver) (Booked (pos 0) (pos 0))
-    ∷ entry transfer3 (Booked (pos 2) (pos 0)) ∷ entry merge1 (Booked (pos 3) (pos 0)) ∷ entry (giveUp2 ApproveTaker) (Booked (pos 2) (pos 0)) ∷ []
+    ∷ entry (giveUp2 Claim) (Booked (pos 0) (pos 0)) ∷ entry trade13 (Booked (pos 1) (pos 0))
+    ∷ entry trade21 (Booked (pos 1) (pos 0)) ∷ entry separate21 (Booked (pos 3) (pos 0)) ∷ entry (giveUp2 ApproveGiver) (Booked (pos 0) (pos 0))
+    ∷ entry transfer3 (Booked (pos 2) (pos 0)) ∷ entry merge1 (Booked (pos 3) (pos 0)) ∷ entry trade22 (Booked (pos 1) (pos 0)) ∷ entry (giveUp2 ApproveTaker) (Booked (pos 2) (pos 0)) ∷ []
 
--- Trade 3, the batch, trade 2, the opening, trade 1, the transfer, the lineage, the claim, the giver's approval, the taker's, trade 13, the separation, the merge.
+-- Trade 3, trade 22, the batch, trade 2, the opening, trade 21, trade 1, the transfer, the lineage, the claim, the giver's approval, the taker's, trade 13, the separations of 1 and of 21, the merge.
 abbrev pub places : List ℕ
-places = 6 ∷ 4 ∷ 1 ∷ 3 ∷ 0 ∷ 10 ∷ 5 ∷ 7 ∷ 9 ∷ 12 ∷ 8 ∷ 2 ∷ 11 ∷ []
+places = 6 ∷ 14 ∷ 4 ∷ 1 ∷ 3 ∷ 9 ∷ 0 ∷ 12 ∷ 5 ∷ 7 ∷ 11 ∷ 15 ∷ 8 ∷ 2 ∷ 10 ∷ 13 ∷ []
 
 -- An entry past the end, which no place needs.
 abbrev pub past : Entry
@@ -90,7 +114,7 @@ past = entry trade1 (Booked (pos 1) (pos 0))
 abbrev pub another : List Entry
 another = inOrder entriesTouch past accepted places
 
--- Both orders end in these cells.
+-- Both orders end in these rows, after which come the cells that were there.
 abbrev pub row : (id suffix parent kind status account series side quantity price long short into : ℤ) → List ℤ
 row id suffix parent kind status account series side quantity price long short into =
     id ∷ suffix ∷ parent ∷ kind ∷ status ∷ account ∷ series ∷ side ∷ quantity ∷ price ∷ long ∷ short ∷ into ∷ []
@@ -98,10 +122,10 @@ row id suffix parent kind status account series side quantity price long short i
 abbrev pub position : (account series long short cash : ℤ) → List ℤ
 position account series long short cash = account ∷ series ∷ long ∷ short ∷ cash ∷ []
 
-abbrev pub finish : Tables
-finish = record {
+abbrev pub rowsThen : (pastRecords pastPositions pastProcesses : List ℤ) → Tables
+rowsThen pastRecords pastPositions pastProcesses = record {
   records =
-      pos 16
+      pos 21
       ∷ row (pos 1) (pos 0) (pos 0) (pos 0) (pos 1) (pos 10) (pos 5) (pos 1) (pos 100) (pos 7) (pos 100) (pos 0) (pos 0)
       ++ row (pos 1) (pos 1) (pos 0) (pos 6) (pos 2) (pos 10) (pos 5) (pos 1) (negℤ (pos 100)) (pos 7) (pos 0) (pos 0) (pos 0)
       ++ row (pos 1) (pos 2) (pos 0) (pos 6) (pos 1) (pos 10) (pos 5) (pos 1) (pos 40) (pos 7) (pos 0) (pos 0) (pos 0)
@@ -118,9 +142,14 @@ finish = record {
       ++ row (pos 11) (pos 0) (pos 0) (pos 0) (pos 0) (pos 40) (pos 6) (pos 1) (pos 10) (pos 3) (pos 10) (pos 0) (pos 0)
       ++ row (pos 12) (pos 0) (pos 0) (pos 10) (pos 0) (pos 40) (pos 6) (pos 4) (pos 15) (pos 3) (negℤ (pos 10)) (pos 5) (pos 0)
       ++ row (pos 13) (pos 0) (pos 0) (pos 0) (pos 0) (pos 42) (pos 6) (pos 2) (pos 8) (pos 2) (pos 0) (pos 8) (pos 0)
-      ++ replicate 17 (negℤ (pos 1));
+      ++ row (pos 21) (pos 0) (pos 0) (pos 0) (pos 1) (pos 50) (pos 6) (pos 1) (pos 30) (pos 4) (pos 30) (pos 0) (pos 0)
+      ++ row (pos 21) (pos 1) (pos 0) (pos 6) (pos 2) (pos 50) (pos 6) (pos 1) (negℤ (pos 30)) (pos 4) (pos 0) (pos 0) (pos 0)
+      ++ row (pos 21) (pos 2) (pos 0) (pos 6) (pos 0) (pos 50) (pos 6) (pos 1) (pos 12) (pos 4) (pos 0) (pos 0) (pos 0)
+      ++ row (pos 21) (pos 3) (pos 0) (pos 6) (pos 0) (pos 50) (pos 6) (pos 1) (pos 18) (pos 4) (pos 0) (pos 0) (pos 0)
+      ++ row (pos 22) (pos 0) (pos 0) (pos 0) (pos 0) (pos 51) (pos 6) (pos 2) (pos 9) (pos 3) (pos 0) (pos 9) (pos 0)
+      ++ pastRecords;
   positions =
-      pos 7
+      pos 9
       ∷ position (pos 10) (pos 5) (pos 100) (pos 0) (pos 0)
       ++ position (pos 20) (pos 5) (pos 0) (pos 0) (pos 0)
       ++ position (pos 21) (pos 5) (pos 0) (pos 50) (pos 0)
@@ -128,9 +157,17 @@ finish = record {
       ++ position (pos 31) (pos 6) (pos 5) (pos 0) (pos 0)
       ++ position (pos 40) (pos 6) (pos 0) (pos 5) (pos 0)
       ++ position (pos 42) (pos 6) (pos 0) (pos 8) (pos 0)
-      ++ replicate 2 (negℤ (pos 1));
-  processes = pos 1 ∷ pos 90 ∷ pos 2 ∷ pos 0 ∷ pos 20 ∷ pos 21 ∷ pos 5 ∷ pos 1 ∷ pos 1 ∷ pos 0 ∷ replicate 11 (negℤ (pos 1));
+      ++ position (pos 50) (pos 6) (pos 30) (pos 0) (pos 0)
+      ++ position (pos 51) (pos 6) (pos 0) (pos 9) (pos 0)
+      ++ pastPositions;
+  processes = pos 1 ∷ pos 90 ∷ pos 2 ∷ pos 0 ∷ pos 20 ∷ pos 21 ∷ pos 5 ∷ pos 1 ∷ pos 1 ∷ pos 0 ∷ pastProcesses;
 }
+
+abbrev pub finish : Tables
+finish = rowsThen (replicate 17 (negℤ (pos 1))) (replicate 2 (negℤ (pos 1))) (replicate 11 (negℤ (pos 1)))
+
+abbrev pub finishElsewhere : Tables
+finishElsewhere = rowsThen (replicate 21 (pos 8)) [] (replicate 17 (pos 8))
 
 -- A give-up of trade 2 that is claimed, and one that is cancelled.
 abbrev pub underWay : List Call

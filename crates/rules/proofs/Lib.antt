@@ -1,3 +1,4 @@
 pub mod Computed
 pub mod SmallCases
 pub mod GiveUpCases
+pub mod JournalCases

@@ -20,7 +20,12 @@ pub mod Handle
 pub mod Left
 pub mod Sequence
 pub mod Batch
+pub mod Line
+pub mod Reader
+pub mod Replay
+pub mod Writing
 pub mod Call
 pub mod Touching
 pub mod Run
 pub mod SmallTables
+pub mod SmallTexts

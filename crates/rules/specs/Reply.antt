@@ -2,7 +2,7 @@
 use lib.IntN.{ℤ, pos}
 use Rattle.rules.specs.Refusal.{Test}
 use Rattle.rules.specs.declared.Reply.{Reply}
-use Rattle.rules.specs.declared.Reply.the-variants.{Booked, ClosingError, Lineage, Refused, Stopped}
+use Rattle.rules.specs.declared.Reply.the-variants.{Booked, ClosingError, Lineage, Refused, Stopped, Written, Replayed, BadLine, LineRefused}
 
 -- An answer as four numbers: which it is, in the order of "The answer is one of" and then of document 02, and what it carries, 0 where it carries less.
 pub record Code : Type 0 where
@@ -17,6 +17,10 @@ codeOf (ClosingError excess) = record { kind = pos 1; first = excess; second = p
 codeOf (Lineage price links) = record { kind = pos 2; first = price; second = links; third = pos 0 }
 codeOf (Refused number place) = record { kind = pos 3; first = number; second = place; third = pos 0 }
 codeOf (Stopped booked number place) = record { kind = pos 4; first = booked; second = number; third = place }
+codeOf (Written bytes) = record { kind = pos 5; first = bytes; second = pos 0; third = pos 0 }
+codeOf (Replayed lines) = record { kind = pos 6; first = lines; second = pos 0; third = pos 0 }
+codeOf (BadLine line) = record { kind = pos 7; first = line; second = pos 0; third = pos 0 }
+codeOf (LineRefused line number place) = record { kind = pos 8; first = line; second = number; third = place }
 
 -- "refused, with number and place"
 unfoldable pub refusedBy : Test → Reply

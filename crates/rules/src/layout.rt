@@ -21,3 +21,6 @@ pub const MOST_PROCESSES: usize = 1024;
 
 // The cell of a record that has its status.
 pub const STATUS_CELL: usize = 4;
+
+// The figures of a line of a journal: a merge names an id, an account, a series and 1,000 pairs (`mostFigures` in specs/Reader.antt).
+pub const MOST_FIGURES: usize = 2003;

@@ -79,6 +79,15 @@ pub enum Step {
     ApproveTaker,
 }
 
+// What stands before the figures of a line of a journal: the letter of the request's kind, and of a step of a give-up also the step's.
+pub enum Heading {
+    Trade,
+    Separation,
+    Transfer,
+    Merge,
+    GiveUp(Step),
+}
+
 // What a request changes in a position.
 pub struct Movement {
     pub long: i64,
@@ -107,4 +116,12 @@ pub enum Reply {
         number: i64,
         place: i64,
     },
+    // Lines of a journal written to a buffer: how many bytes.
+    Written(i64),
+    // A text replayed to its end: how many lines, each of them booked.
+    Replayed(i64),
+    // A text replayed up to a line, counted from 1, that is no line of a request.
+    BadLine(i64),
+    // A text replayed up to a line, counted from 1, whose request is refused: the line, then the refusal's number and place.
+    LineRefused(i64, i64, i64),
 }

@@ -91,6 +91,20 @@ pub fn reply(r: Reply) {
             printing::number(booked);
             two(number, place);
         }
+        Reply::Written(bytes) => {
+            printing::value(b"written: bytes ", bytes);
+        }
+        Reply::Replayed(lines) => {
+            printing::value(b"replayed: lines ", lines);
+        }
+        Reply::BadLine(line) => {
+            printing::value(b"bad line: line ", line);
+        }
+        Reply::LineRefused(line, number, place) => {
+            printing::text(b"line refused: line, number, place ");
+            printing::number(line);
+            two(number, place);
+        }
     }
 }
 

@@ -1,4 +1,5 @@
 -- A call hands back what the call behind it answered, in numbers.
+use Prim.Native.Nat.{ℕ}
 use mathlib.Core.Path.{_≡_, ap, _∙_}
 use mathlib.Core.List.{List}
 use lib.IntN.{ℤ}
@@ -6,8 +7,9 @@ use Rattle.rules.specs.Reply.{codeOf}
 use Rattle.rules.specs.Handle.{Answer, answered, answeredBy}
 use Rattle.rules.specs.Left.{Left, left}
 use Rattle.rules.specs.Tables.{allTables, tablesOf}
+use Rattle.rules.specs.Writing.{TextLeft, textLeft}
 use Rattle.rules.specs.declared.Reply.{Reply}
-use Rattle.velichundam.specs.HandedBack.{inNumbers, codeFrom, handedBack, handedBackAll, inNumbersWith, handedBackWith}
+use Rattle.velichundam.specs.HandedBack.{inNumbers, codeFrom, handedBack, handedBackAll, inNumbersWith, handedBackWith, inNumbersText, handedBackText}
 
 pub handed : {kind first second third : ℤ} {reply : Reply} {records positions : List ℤ} {a : Answer}
     → codeFrom kind first second third ≡ codeOf reply → answered reply records positions ≡ a
@@ -28,3 +30,8 @@ pub handed-with : {kind first second third : ℤ} {reply : Reply} {output record
     → handedBackWith kind first second third output records positions ≡ inNumbersWith l
 handed-with {output = output} {records = records} {positions = positions} code leaves =
     ap (λ k. record { code = k; output = output; tables = tablesOf records positions }) code ∙ ap inNumbersWith leaves
+
+-- Of a writing call: the bytes of the buffer.
+pub handed-text : {kind first second third : ℤ} {reply : Reply} {text : List ℕ} {l : TextLeft} → codeFrom kind first second third ≡ codeOf reply → textLeft reply text ≡ l →
+    handedBackText kind first second third text ≡ inNumbersText l
+handed-text {text = text} code leaves = ap (λ k. record { code = k; text = text }) code ∙ ap inNumbersText leaves

@@ -1,10 +1,12 @@
 -- What a host gets back from a call: the answer as four numbers, the cells of the lent tables, and those of an output where one is lent.
+use Prim.Native.Nat.{ℕ}
 use mathlib.Core.List.{List}
 use lib.IntN.{ℤ}
 use Rattle.rules.specs.Reply.{Code, codeOf}
 use Rattle.rules.specs.Tables.{Tables, allTables, tablesOf}
 use Rattle.rules.specs.Handle.{Answer}
 use Rattle.rules.specs.Left.{Left}
+use Rattle.rules.specs.Writing.{TextLeft}
 
 pub record HandedBack : Type 0 where
   pub code : Code
@@ -38,3 +40,14 @@ inNumbersWith l = record { code = codeOf (l .reply); output = l .output; tables 
 abbrev pub handedBackWith : (kind first second third : ℤ) → (output records positions : List ℤ) → HandedBackWith
 handedBackWith kind first second third output records positions =
     record { code = codeFrom kind first second third; output = output; tables = tablesOf records positions }
+
+-- A writing call: the answer, and every byte of the lent buffer.
+pub record HandedBackText : Type 0 where
+  pub code : Code
+  pub text : List ℕ
+
+abbrev pub inNumbersText : TextLeft → HandedBackText
+inNumbersText l = record { code = codeOf (l .reply); text = l .text }
+
+abbrev pub handedBackText : (kind first second third : ℤ) → List ℕ → HandedBackText
+handedBackText kind first second third text = record { code = codeFrom kind first second third; text = text }

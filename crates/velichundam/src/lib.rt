@@ -16,6 +16,8 @@ ghost use Rattle.rules.specs.Tables.{tablesOf, allTables};
 ghost use Rattle.rules.specs.declared.Step.the-variants.{Open, Claim, Cancel, Refuse, ApproveGiver, ApproveTaker};
 ghost use Rattle.velichundam.specs.HandedBack.{inNumbers, codeFrom, handedBack, handedBackAll, inNumbersWith, handedBackWith};
 
+pub mod text_calls; // the writing calls and the replay
+
 // An answer as C reads it: which it is, and what it carries.
 #[repr(C)]
 pub struct Coded {
@@ -60,6 +62,30 @@ fn code_of(r: Reply) -> Coded
         } => Coded {
             kind: 4,
             first: booked,
+            second: number,
+            third: place,
+        },
+        Reply::Written(bytes) => Coded {
+            kind: 5,
+            first: bytes,
+            second: 0,
+            third: 0,
+        },
+        Reply::Replayed(lines) => Coded {
+            kind: 6,
+            first: lines,
+            second: 0,
+            third: 0,
+        },
+        Reply::BadLine(line) => Coded {
+            kind: 7,
+            first: line,
+            second: 0,
+            third: 0,
+        },
+        Reply::LineRefused(line, number, place) => Coded {
+            kind: 8,
+            first: line,
             second: number,
             third: place,
         },

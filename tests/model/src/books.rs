@@ -53,7 +53,7 @@ pub type Records = BTreeMap<(i64, i64), Record>;
 pub type Positions = BTreeMap<(i64, i64), Position>;
 pub type Processes = BTreeMap<i64, Process>;
 
-#[derive(Clone, Debug)]
+#[derive(Clone, Debug, Default)]
 pub struct Books {
     pub records: Records,
     pub positions: Positions,

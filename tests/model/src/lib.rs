@@ -5,19 +5,24 @@
 mod batch;
 mod books;
 mod give_up;
+pub mod journal;
 mod requests;
 mod tables;
 
 pub use books::{Books, Position, Process, Record, Stage};
+pub use journal::Writing;
 pub use requests::{Answer, Reply, Request, Step};
 
 use requests::Refusal;
 
 /// Handles one request on the lent tables: the answer, and the cells of the tables afterwards.
 ///
-/// A lineage question lends no positions table, and only the steps of a give-up lend a process table; whatever is passed for a table that is not lent is
-/// neither read nor written.
+/// A lineage question lends no positions table, and only the steps of a give-up and a replay lend a process table; whatever is passed for a table that is not
+/// lent is neither read nor written.
 pub fn handle(records: &mut [i64], positions: &mut [i64], processes: &mut [i64], request: &Request) -> Answer {
+    if let Request::Replay { text } = request {
+        return journal::replay(records, positions, processes, text).into();
+    }
     match attempt(records, positions, processes, request) {
         Ok((answer, books)) => {
             if let Some(books) = books {
@@ -60,5 +65,7 @@ fn attempt(records: &[i64], positions: &[i64], processes: &[i64], request: &Requ
 mod batch_examples;
 #[cfg(test)]
 mod give_up_examples;
+#[cfg(test)]
+mod journal_examples;
 #[cfg(test)]
 mod worked_examples;

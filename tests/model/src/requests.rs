@@ -1,5 +1,5 @@
 //! Document 01, "Booking rules" and "Replies". Each request runs its tests in the order of the refusals' numbers and then books. A batch of trades
-//! (document 02, K1) is in `batch`, the steps of a give-up (K3) are in `give_up`.
+//! (document 02, K1) is in `batch`, the steps of a give-up (K3) are in `give_up`, lines of a journal (K5) in `journal`.
 
 use crate::books::{Books, Record, Records};
 use crate::tables::{is_sound_position, ACCOUNTS, IDS, PRICES, QUANTITIES, SERIES, SIDES, SUFFIXES};
@@ -15,6 +15,7 @@ pub enum Request {
     Lineage { id: i64, suffix: i64 },
     Trades { figures: Vec<i64>, cells: usize },
     GiveUp { step: Step, process: i64, id: i64, suffix: i64, giving: i64, taking: i64, series: i64 },
+    Replay { text: Vec<u8> },
 }
 
 /// A step of a give-up (document 02, K3).
@@ -29,9 +30,9 @@ pub enum Step {
 }
 
 impl Request {
-    /// "a lent process table, read by these steps only"
+    /// "a lent process table, read by these steps only", and so by a text's lines that are steps
     pub fn lends_processes(&self) -> bool {
-        matches!(self, Request::GiveUp { .. })
+        matches!(self, Request::GiveUp { .. } | Request::Replay { .. })
     }
 }
 
@@ -42,6 +43,10 @@ pub enum Reply {
     Lineage { price: i64, links: i64 },
     Refused { number: i64, place: i64 },
     Stopped { booked: i64, number: i64, place: i64 },
+    Written { bytes: i64 },
+    Replayed { lines: i64 },
+    BadLine { line: i64 },
+    LineRefused { line: i64, number: i64, place: i64 },
 }
 
 /// A reply, and what is written to the lent output, from its first cell on.
@@ -98,11 +103,12 @@ pub fn book(books: &mut Books, request: &Request) -> Result<Answer, Refusal> {
         Request::GiveUp { step, process, id, suffix, giving, taking, series } => {
             give_up::give_up(books, *step, *process, *id, *suffix, *giving, *taking, *series)?
         }
+        Request::Replay { .. } => unreachable!("the lines of a text are handed in one by one"),
     };
     Ok(reply.into())
 }
 
-pub fn trade(books: &mut Books, id: i64, account: i64, series: i64, side: i64, quantity: i64, price: i64) -> Result<Reply, Refusal> {
+fn trade(books: &mut Books, id: i64, account: i64, series: i64, side: i64, quantity: i64, price: i64) -> Result<Reply, Refusal> {
     let figures = IDS.contains(&id)
         && ACCOUNTS.contains(&account)
         && SERIES.contains(&series)

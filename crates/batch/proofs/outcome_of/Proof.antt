@@ -22,6 +22,18 @@ returns-4 c = ap₂ (λ n p. Refused n p) (toZ-ofZ (sfits-of (c .known-told4 .gi
 returns-5 : tie.Need-returns-5
 returns-5 c = sym (ap outcomeOf (c .before .reply5 .given .1))
 
+returns-6 : tie.Need-returns-6
+returns-6 c = sym (ap outcomeOf (c .before .reply6 .given .1))
+
+returns-7 : tie.Need-returns-7
+returns-7 c = sym (ap outcomeOf (c .before .reply7 .given .1))
+
+returns-8 : tie.Need-returns-8
+returns-8 c = sym (ap outcomeOf (c .before .reply8 .given .1))
+
+returns-9 : tie.Need-returns-9
+returns-9 c = sym (ap outcomeOf (c .before .reply9 .given .1))
+
 pub outcome-of-spec : {M : Type 1} → statement M
 outcome-of-spec =
     tie.close
@@ -31,8 +43,16 @@ outcome-of-spec =
     (λ c. search needs)
     (λ c. search needs)
     (λ c. search needs)
+    (λ c. search needs)
+    (λ c. search needs)
+    (λ c. search needs)
+    (λ c. search needs)
     returns
     returns-2
     returns-3
     returns-4
-    returns-5)
+    returns-5
+    returns-6
+    returns-7
+    returns-8
+    returns-9)

@@ -1,0 +1,2 @@
+pub mod ValidLines
+pub mod RequestsRead

@@ -1,0 +1,180 @@
+// Reruns a day (document 02, K5): replays the journal that its argument names into empty tables with room for 400 records, 100 positions and 100 processes, and prints all rows, records, positions and
+// processes in that order, cells parted by tabs. Where a line is bad or refused it prints that line's number alone, and says on the error output which it is. The replay is `book::replay`, proved; nothing can be
+// said of what is read and printed.
+use libc::STDERR_FILENO;
+use rules::Reply;
+use rules::layout;
+
+// Cells of the tables, and bytes of a text: one more than a text may have, so that a longer one is seen.
+const RECORDS: usize = layout::RECORDS_HEADER + 400 * layout::RECORD_WIDTH;
+
+const POSITIONS: usize = layout::POSITIONS_HEADER + 100 * layout::POSITION_WIDTH;
+
+const PROCESSES: usize = layout::PROCESSES_HEADER + 100 * layout::PROCESS_WIDTH;
+
+const TEXT: usize = 262_145;
+
+// How many bytes a file has, or that reading it failed.
+enum FileRead {
+    Bytes(usize),
+    Failed,
+}
+
+// Reads until the file ends or there is no room.
+fn read_file(fd: i32, text: &mut [u8]) -> FileRead {
+    let mut at = 0;
+    while at < text.len() {
+        let got = libc::read(fd, &mut text[at..]);
+        if got < 0 {
+            return FileRead::Failed;
+        }
+        let more = io::count(got, &text[at..]);
+        if more == 0 {
+            return FileRead::Bytes(at);
+        }
+        at += more;
+    }
+    FileRead::Bytes(at)
+}
+
+// A number that is not negative, as it is; 0 for one that is.
+fn natural(z: i64) -> usize {
+    if z < 0 {
+        return 0;
+    }
+    z as usize
+}
+
+fn say(bytes: &[u8]) {
+    io::write_all(STDERR_FILENO, bytes);
+}
+
+fn say_number(z: i64) {
+    io::print_decimal(STDERR_FILENO, natural(z) as u64);
+}
+
+// The cell at a place of its row: a tab before each but the first.
+fn print_cell(place: usize, z: i64) {
+    if 0 < place {
+        printing::text(b"\t");
+    }
+    printing::number(z);
+}
+
+fn print_cells(cells: &[i64]) {
+    let mut i = 0;
+    while i < cells.len() {
+        print_cell(i, cells[i]);
+        i += 1;
+    }
+}
+
+fn print_row(cells: &[i64]) {
+    print_cells(cells);
+    printing::text(b"\n");
+}
+
+// The rows that the count in cell 0 names, as far as there are cells.
+fn print_rows(table: &[i64], header: usize, width: usize) {
+    if table.len() <= header {
+        return;
+    }
+    let count = natural(table[0]);
+    let mut row = 0;
+    let mut at = header;
+    while row < count {
+        if table.len() - at < width {
+            return;
+        }
+        let end = at + width;
+        print_row(&table[at..end]);
+        at = end;
+        row += 1;
+    }
+}
+
+// The number of a line, alone.
+fn print_line(line: i64) {
+    printing::number(line);
+    printing::text(b"\n");
+}
+
+fn say_bad(line: i64) {
+    say(b"replay: line ");
+    say_number(line);
+    say(b" is bad: it is no line of a request\n");
+}
+
+fn say_refused(line: i64, number: i64, place: i64) {
+    say(b"replay: line ");
+    say_number(line);
+    say(b" is refused: number ");
+    say_number(number);
+    say(b", place ");
+    say_number(place);
+    say(b"\n");
+}
+
+fn replay(text: &[u8]) {
+    let mut records = [0i64; RECORDS];
+    let mut positions = [0i64; POSITIONS];
+    let mut processes = [0i64; PROCESSES];
+    match book::replay(&mut records, &mut positions, &mut processes, text) {
+        Reply::Replayed(_) => {
+            print_rows(&records, layout::RECORDS_HEADER, layout::RECORD_WIDTH);
+            print_rows(&positions, layout::POSITIONS_HEADER, layout::POSITION_WIDTH);
+            print_rows(&processes, layout::PROCESSES_HEADER, layout::PROCESS_WIDTH);
+        }
+        Reply::BadLine(line) => {
+            print_line(line);
+            say_bad(line);
+        }
+        Reply::LineRefused(line, number, place) => {
+            print_line(line);
+            say_refused(line, number, place);
+        }
+        _ => say(b"replay: no answer of a replay\n"),
+    }
+}
+
+// The first n bytes of what was read, unless all of the room was used.
+fn replay_read(text: &[u8], n: usize, path: &[u8]) {
+    if text.len() <= n {
+        say(b"replay: ");
+        say(path);
+        say(b" is longer than 262,144 bytes\n");
+        return;
+    }
+    replay(&text[..n]);
+}
+
+fn replay_file(fd: i32, path: &[u8]) {
+    let mut text = [0u8; TEXT];
+    let FileRead::Bytes(n) = read_file(fd, &mut text) else {
+        say(b"replay: can't read ");
+        os::fail(path);
+        return;
+    };
+    replay_read(&text, n, path);
+}
+
+fn main() {
+    if os::arg_count() != 2 {
+        say(b"usage: replay JOURNAL\n");
+        return;
+    }
+    let mut path = io::buffer();
+    let length = os::arg(1, &mut path);
+    if os::errno() != 0 {
+        os::fail(b"replay: can't take the journal's name");
+        return;
+    }
+    let fd = os::open_read(&path[..length]);
+    if fd < 0 {
+        say(b"replay: can't open ");
+        os::fail(&path[..length]);
+        return;
+    }
+    replay_file(fd, &path[..length]);
+    libc::close(fd);
+}

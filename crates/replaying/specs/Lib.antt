@@ -1,0 +1,2 @@
+pub mod LineReplayed
+pub mod Unsound

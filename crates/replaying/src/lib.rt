@@ -1,0 +1,10 @@
+// The replay of a text (document 02, K5): the requests of its lines, one by one, up to the first line that is bad or refused. Records and positions, and the process table where it is read, are tested once
+// and stay sound from line to line.
+pub mod each_line; // every line in turn
+
+// What became of a line: booked, with the place of the next; bad; or refused with a number and a place.
+pub enum Became {
+    Booked(usize),
+    Bad,
+    Refused(i64, i64),
+}

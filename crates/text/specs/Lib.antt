@@ -1,0 +1,4 @@
+pub mod Decimal
+pub mod Fields
+pub mod Scan
+pub mod Written

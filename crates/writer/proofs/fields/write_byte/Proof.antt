@@ -1,0 +1,22 @@
+-- `fields::write_byte` meets its contract. Assumes nothing.
+use mathlib.Core.Path.{refl}
+use borrow.Author.Needs.{needs}
+use native.Mathlib.Omega.{arith}
+use Rattle.text.proofs.WrittenLaws.{written-byte}
+use Rattle.writer.proofs.fields.write_byte.Statement.{statement}
+use Rattle.writer.proofs.fields.write_byte.Tie as tie
+
+slice-write-text : tie.Need-slice-write-text
+slice-write-text c = search needs
+
+add-result : tie.Need-add-result
+add-result c = search needs
+
+same-length : tie.Need-same-length
+same-length c = search needs
+
+returns : tie.Need-returns
+returns c = (refl, written-byte (c .args .b) (c .args .at) (c .args .text .now) (omega arith))
+
+pub write-byte-spec : {M : Type 1} → statement M
+write-byte-spec = tie.close (tie.spec slice-write-text add-result same-length returns)
