@@ -1,6 +1,6 @@
 /*
- * A host: lends its tables, books document 01's worked example P11, and prints the tables, a refusal, a list of trades that stops, and a give-up from its
- * opening to the booked rows. It keeps a journal of what is booked, and replays it into other tables.
+ * A host: lends its tables, books document 01's worked example P11, and prints the tables, a refusal, a list of trades that stops, the average entry of each
+ * position, and a give-up from its opening to the booked rows. It keeps a journal of what is booked, and replays it into other tables.
  *
  *     cc -std=c11 -Iinclude examples/host.c target/staticlib/libvelichundam.a -o host
  */
@@ -109,6 +109,21 @@ static void print_table(const char *title, const int64_t *table, size_t width)
     }
 }
 
+/* The average entry of each position from its last two cells, in price units cut off to a whole number. Nothing is summed over the records. */
+static void print_averages(void)
+{
+    printf("\n");
+    for (size_t row = 0; row < (size_t)positions[0]; row++) {
+        const int64_t *position = positions + VELICHUNDAM_POSITIONS_LEN(row);
+        const int64_t quantity = position[VELICHUNDAM_POSITION_QUANTITY], value = position[VELICHUNDAM_POSITION_VALUE];
+        printf("account %" PRId64 ", series %" PRId64 ": ", position[0], position[1]);
+        if (quantity != 0)
+            printf("%" PRId64 " at %" PRId64 "\n", quantity, value / quantity);
+        else
+            printf("nothing held net, margin %" PRId64 "\n", -value);
+    }
+}
+
 /* A morning's trades. The third has an id that is taken, so the first two are booked and the fourth is not tried. */
 static void book_a_morning(void)
 {
@@ -133,6 +148,7 @@ static void book_a_morning(void)
     printf("\n");
     print_table("records", records, VELICHUNDAM_RECORD_CELLS);
     print_table("positions", positions, VELICHUNDAM_POSITION_CELLS);
+    print_averages();
 }
 
 /* A step of a give-up, as the six calls have it. */

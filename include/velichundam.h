@@ -29,9 +29,10 @@
  *     +0 id      +1 suffix  +2 parent  +3 type     +4 status  +5 account  +6 series
  *     +7 side    +8 quantity           +9 price    +10 long booked        +11 short booked      +12 into
  *
- * Positions. Cell 0 is the row count. Row k has the 5 cells from 1 + 5 * k on:
+ * Positions. Cell 0 is the row count. Row k has the 7 cells from 1 + 7 * k on, the last two of them totals over the position's records (see AVERAGE
+ * ENTRY):
  *
- *     +0 account  +1 series  +2 long  +3 short  +4 cash
+ *     +0 account  +1 series  +2 long  +3 short  +4 cash  +5 quantity  +6 value
  *
  * Processes, of give-ups. Cell 0 is the row count. Row k has the 9 cells from 1 + 9 * k on:
  *
@@ -52,14 +53,41 @@
  *     quantity        1 to 1,000,000, in a request            side             1 to 4
  *     price           -1,000,000,000,000 to 1,000,000,000,000, in units of 0.0000001
  *     long, short     0 to 1,000,000,000,000, in a position   cash             magnitude at most 1,000,000,000,000,000
+ *     quantity, value of a position                           magnitude at most 4,000,000,000,000,000,000
  *     parts of a separation, sources of a merge               2 to 1,000
  *     trades in one call                                      1 to 1,000
  *
  * In a record the type is 0, 4, 6, 10, 20, 30 or 901; the status 0 to 3; the quantity is not 0, has magnitude at most 1,000,000 and is negative
- * exactly where the status is 2; the two booked cells have magnitude at most 1,000,000; into is 0 or an id; the parent is below the suffix, or
- * both are 0. In a process the approvals are 0 or 1 and the stage is 0, 6, 9, 10 or 12. A table that breaks one of these rules, or whose count is not
+ * exactly where the status is 2; the two booked cells have magnitude at most 1,000,000; into is 0 or an id; the parent is below the suffix, or both
+ * are 0. In a process the approvals are 0 or 1 and the stage is 0, 6, 9, 10 or 12. A table that breaks one of these rules, or whose count is not
  * between 0 and the room, is not sound: refusals 1, 2 and 19. (Account and series of a position row are not tested; only that the rows rise by them.
- * Nor is it tested that a process names a record under give-up, or two accounts that differ: a step of such a process is refused.)
+ * Of its quantity and value only the range is tested. Nor is it tested that a process names a record under give-up, or two accounts that differ: a
+ * step of such a process is refused.)
+ *
+ * AVERAGE ENTRY
+ *
+ * Two cells of a position keep sums over its records of status 0 or 3, those of its account and series:
+ *
+ *     quantity    signed quantities: buys plus, sells minus, to open or to close
+ *     value       signed quantities times the records' prices
+ *
+ * Here are account 2's parts of 50, 25 and 25, bought at 125.0, in the units that the cells have:
+ *
+ *     | account | series | long | short | cash | quantity |        value |
+ *     |       2 |      1 |  100 |     0 |    0 |      100 | 125000000000 |
+ *
+ * Each request adds to these two cells what it changes in the sums. A trade, a transfer and the step that completes a give-up move both; a merge adds
+ * its residual to the value; the other requests move neither. So on tables that began empty they are the sums at any time, and
+ *
+ *     average entry  =  value / quantity        in units of 0.0000001, where the quantity is not 0
+ *
+ * Where the records are all buys or all sells, that is the average of their prices by quantity. Where there are both, it is the price at which they
+ * come out even: at settlement price s the records' margin is quantity * s - value, which is 0 there. Where the quantity is 0, nothing is held net
+ * and there is no average entry: the margin is -value at every price, what the sells brought less what the buys cost. (value / quantity can't
+ * overflow; in C it is cut off towards zero. quantity * s may need more than 64 bits.)
+ *
+ * No call tests whether the two are true. On tables that were made otherwise they may be any numbers in their range, and they stay as untrue as they
+ * were: a host that fills in such a table sums over its records first.
  *
  * GIVE-UP AND TAKE-UP
  *
@@ -87,12 +115,12 @@
  *     approve    the giver's clearing member      once         once         -
  *     approve    the taker's clearing member      -            once         -
  *
- * The step after which the process is claimed and both have approved completes the give-up, whichever step it is. It books what a transfer books,
- * but for the types: an inverse row of type 20 in the giving account and an adjustable row of type 30 in the taking account, and both positions
- * move. If one of 12 to 16 applies, it changes nothing, and may be tried again. While the status is 3 the record can't be separated, transferred,
- * merged or opened on: refusal 17. After a cancellation or a refusal it can, and a new give-up takes a new process id. The host sees to it that a
- * step comes from the one who may make it: the book knows accounts, not persons. (A table that these calls did not make may hold a claimed process
- * with both approvals: it is sound, and no step ends it.)
+ * The step after which the process is claimed and both have approved completes the give-up, whichever step it is. It books what a transfer books, but
+ * for the types: an inverse row of type 20 in the giving account and an adjustable row of type 30 in the taking account, and both positions move,
+ * with their totals. If one of 12 to 16 applies, it changes nothing, and may be tried again. While the status is 3 the record can't be separated,
+ * transferred, merged or opened on: refusal 17. After a cancellation or a refusal it can, and a new give-up takes a new process id. The host sees to
+ * it that a step comes from the one who may make it: the book knows accounts, not persons. (A table that these calls did not make may hold a claimed
+ * process with both approvals: it is sound, and no step ends it.)
  *
  * THE JOURNAL
  *
@@ -134,8 +162,8 @@
  *
  *     lineage                                525,000 at the longest chain: 128 for each link, and 300
  *     merge                                    5,000
- *     trade, trades, separation, transfer      1,000
- *     the steps of a give-up                   2,000
+ *     trade, trades, separation                1,000
+ *     transfer, the steps of a give-up         2,000
  *     replay                                  22,000
  *     the calls that write                     1,000
  *
@@ -157,12 +185,16 @@ extern "C" {
 #define VELICHUNDAM_RECORDS_HEADER 1
 #define VELICHUNDAM_RECORD_CELLS 13
 #define VELICHUNDAM_POSITIONS_HEADER 1
-#define VELICHUNDAM_POSITION_CELLS 5
+#define VELICHUNDAM_POSITION_CELLS 7
 #define VELICHUNDAM_PROCESSES_HEADER 1
 #define VELICHUNDAM_PROCESS_CELLS 9
 #define VELICHUNDAM_MOST_RECORDS 4096
 #define VELICHUNDAM_MOST_POSITIONS 1024
 #define VELICHUNDAM_MOST_PROCESSES 1024
+
+/* The cells of a position that keep its totals. */
+#define VELICHUNDAM_POSITION_QUANTITY 5
+#define VELICHUNDAM_POSITION_VALUE 6
 
 /* Figures of a trade in a list, and the most trades that one call takes. */
 #define VELICHUNDAM_TRADE_FIGURES 6
@@ -301,7 +333,8 @@ enum {
     VELICHUNDAM_RECORDS_FULL = 14,
     /* The rows that are needed and absent don't fit into the positions table's room. */
     VELICHUNDAM_POSITIONS_FULL = 15,
-    /* Long, short or cash of a position would leave its range. */
+    /* Long, short, cash, quantity or value of a position would leave its range: as it would stand after the whole request, in a list of trades
+     * after each trade, in a replay after each line. */
     VELICHUNDAM_BEYOND_LIMIT = 16,
     /* Separation, transfer, merge, the opening of a give-up: the record's status is 3, it is under give-up. */
     VELICHUNDAM_BEING_GIVEN_UP = 17,
@@ -318,7 +351,8 @@ enum {
  * Books a trade under a new id: one record with suffix 0.
  *
  * Buy open adds the quantity to the position's long, sell open to its short. Buy close takes it off the open short, sell close off the open long;
- * what is not open is booked on the other side, the record's type is 10, and the answer is a closing error with that excess.
+ * what is not open is booked on the other side, the record's type is 10, and the answer is a closing error with that excess. The position's totals
+ * move by the whole signed quantity, opened and closed, and by that times the price.
  *
  * Answers booked (1 row), or a closing error. Refuses by 1, 2, 3, 4, 14, 15, 16.
  */
@@ -342,7 +376,7 @@ velichundam_reply velichundam_trades(int64_t *records, size_t records_len, int64
 
 /*
  * Separates a record into parts, which use up its whole quantity. The record becomes adjusted; an inverse row and a row for each part follow, with
- * the id's next suffixes. The position does not move.
+ * the id's next suffixes. The position does not move, nor do its totals.
  *
  * Answers booked (1 + parts_len rows). Refuses by 1, 2, 3, 5, 6, 7 or 17, 11, 13, 14.
  */
@@ -351,7 +385,7 @@ velichundam_reply velichundam_separate(int64_t *records, size_t records_len, int
 
 /*
  * Moves a record to open, and its quantity, to another account. The record becomes adjusted; an inverse row in the old account and a row in the new
- * one follow, with the id's next suffixes. Both positions move.
+ * one follow, with the id's next suffixes. Both positions move, with their totals.
  *
  * Answers booked (2 rows). Refuses by 1, 2, 3, 5, 6, 7 or 17, 8, 12, 13, 14, 15, 16.
  */
@@ -361,7 +395,7 @@ velichundam_reply velichundam_transfer(int64_t *records, size_t records_len, int
 /*
  * Merges records to open of one account, series and side into one under a new id, at their average price, a half going away from zero.
  * pairs holds id, suffix, id, suffix, ..: pairs_len is twice the number of sources. Each source becomes adjusted and gets an inverse row whose
- * cell into is the new id. What the rounding leaves, the residual, goes to the position's cash, in price units times quantity.
+ * cell into is the new id. What the rounding leaves, the residual, goes to the position's cash and to its value, in price units times quantity.
  * A record that an earlier release merged, a half going to the greater number, keeps its price and is handled like any other.
  *
  * Answers booked (a row for each source and one more, and the residual). Refuses by 1, 2, 3, 4, 5 to 10 and 17 with their place, 11, 13,

@@ -33,7 +33,7 @@ fn case(rows: usize, shuffled: bool) -> Case {
     }
     if rows > 0 {
         positions[0] = 480;
-        positions.extend((0..480).flat_map(|k| [1 + k / 12, 1 + k % 12, 1_000, 1_000, 0]));
+        positions.extend((0..480).flat_map(|k| [1 + k / 12, 1 + k % 12, 1_000, 1_000, 0, 0, 0]));
     }
     records.resize(records_len(MOST_RECORDS), -1);
     positions.resize(positions_len(MOST_POSITIONS), -1);

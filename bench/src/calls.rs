@@ -34,7 +34,7 @@ pub fn case(kind: usize, rows: usize) -> (Request, [Vec<i64>; 2]) {
     let mut positions = vec![position_count as i64];
     for k in 0..position_count {
         let (account, series) = position_key(k);
-        positions.extend([account, series, 1_000_000, 1_000_000, 0]);
+        positions.extend([account, series, 1_000_000, 1_000_000, 0, 0, 0]);
     }
     records.resize(records_len(rows + 16), -1);
     positions.resize(positions_len(position_count + 8), -1);

@@ -1,6 +1,7 @@
 //! The time of a request, for the proved book, for the same written by hand in Rust, and for SQLite:
 //! `cargo run --release -- [--samples N] [--batches N] [--days N] [--replays N]`. No time is asserted; that the books agree is.
 
+mod average;
 mod batch;
 mod calls;
 mod day;
@@ -26,6 +27,7 @@ fn main() {
     let samples = number(&words, "--samples", 1_000);
     print_calls(samples);
     print_give_ups(samples);
+    print_averages(samples);
     print_batches(number(&words, "--batches", 50));
     print_day(number(&words, "--days", 15));
     print_journals(number(&words, "--replays", 50));
@@ -52,6 +54,16 @@ fn print_give_ups(samples: usize) {
     for line in give_ups::measure(samples) {
         let ratio = line.ours.median / line.by_hand.median;
         println!("| {:<10} | {:>5} | {:>24} | {:>26} | {ratio:>14.2} |", line.step, line.rows, cell(line.ours), cell(line.by_hand));
+    }
+}
+
+fn print_averages(samples: usize) {
+    println!("\nThe average entry of one position, likewise: by a host from the position's two cells, and summed over the records instead.\n");
+    println!("|  rows |           from two cells |           over the records | over the records / from two cells |");
+    println!("|------:|-------------------------:|---------------------------:|----------------------------------:|");
+    for line in average::measure(samples) {
+        let ratio = line.over_records.median / line.from_cells.median;
+        println!("| {:>5} | {:>24} | {:>26} | {ratio:>33.0} |", line.rows, cell(line.from_cells), cell(line.over_records));
     }
 }
 

@@ -5,6 +5,7 @@
 
 use crate::request::{Coded, Request, REFUSED};
 use std::ffi::{c_char, c_int, c_void, CStr, CString};
+use velichundam::{POSITION_CELLS, RECORD_CELLS};
 
 extern "C" {
     fn dlopen(name: *const c_char, flags: c_int) -> *mut c_void;
@@ -84,6 +85,8 @@ const POSITIONS: &str = "CREATE TABLE positions (
     long INTEGER NOT NULL CHECK (long BETWEEN 0 AND 1000000000000),
     short INTEGER NOT NULL CHECK (short BETWEEN 0 AND 1000000000000),
     cash INTEGER NOT NULL CHECK (cash BETWEEN -1000000000000000 AND 1000000000000000),
+    quantity INTEGER NOT NULL CHECK (quantity BETWEEN -4000000000000000000 AND 4000000000000000000),
+    value INTEGER NOT NULL CHECK (value BETWEEN -4000000000000000000 AND 4000000000000000000),
     PRIMARY KEY (account, series)
 ) WITHOUT ROWID";
 
@@ -154,8 +157,11 @@ impl SqlBook {
         book.add = book.prepare("INSERT INTO records VALUES (?1, ?2, ?3, ?4, ?5, ?6, ?7, ?8, ?9, ?10, ?11, ?12, ?13)");
         book.adjust = book.prepare("UPDATE records SET status = 1 WHERE id = ?1 AND suffix = ?2");
         book.position = book.prepare("SELECT long, short, cash FROM positions WHERE account = ?1 AND series = ?2");
-        book.make_position = book.prepare("INSERT OR IGNORE INTO positions VALUES (?1, ?2, 0, 0, 0)");
-        book.move_position = book.prepare("UPDATE positions SET long = long + ?3, short = short + ?4, cash = cash + ?5 WHERE account = ?1 AND series = ?2");
+        book.make_position = book.prepare("INSERT OR IGNORE INTO positions VALUES (?1, ?2, 0, 0, 0, 0, 0)");
+        book.move_position = book.prepare(
+            "UPDATE positions SET long = long + ?3, short = short + ?4, cash = cash + ?5, quantity = quantity + ?6, value = value + ?7
+            WHERE account = ?1 AND series = ?2",
+        );
         book.all_records = book.prepare("SELECT * FROM records ORDER BY id, suffix");
         book.all_positions = book.prepare("SELECT * FROM positions ORDER BY account, series");
         book.clear_records = book.prepare("DELETE FROM records");
@@ -215,7 +221,7 @@ impl SqlBook {
 
     /// The count and the rows of both tables, as the lent tables have them.
     pub fn cells(&self) -> (Vec<i64>, Vec<i64>) {
-        (self.rows(self.all_records, 13), self.rows(self.all_positions, 5))
+        (self.rows(self.all_records, RECORD_CELLS), self.rows(self.all_positions, POSITION_CELLS))
     }
 
     pub fn clear(&mut self) {
@@ -283,10 +289,10 @@ impl SqlBook {
     pub fn load(&mut self, records: &[i64], positions: &[i64]) {
         self.clear();
         self.run(self.begin, &[]);
-        for row in records[1..].chunks_exact(13).take(records[0] as usize) {
+        for row in records[1..].chunks_exact(RECORD_CELLS).take(records[0] as usize) {
             assert!(self.run(self.add, row), "{}", self.message());
         }
-        for row in positions[1..].chunks_exact(5).take(positions[0] as usize) {
+        for row in positions[1..].chunks_exact(POSITION_CELLS).take(positions[0] as usize) {
             assert!(self.run(self.make_position, &row[..2]) && self.run(self.move_position, row), "{}", self.message());
         }
         self.run(self.commit, &[]);
@@ -308,12 +314,13 @@ impl SqlBook {
         refuse_if(!self.run(self.add, &cells), 13, 0)
     }
 
-    fn move_by(&self, account: i64, series: i64, long: i64, short: i64, cash: i64) -> Result<(), Stop> {
-        let key = [account, series];
-        let delta = [account, series, long, short, cash];
-        if self.run(self.move_position, &delta) && unsafe { (self.library.changes)(self.connection) } == 0 {
-            self.run(self.make_position, &key);
-            return refuse_if(!self.run(self.move_position, &delta), 16, 0);
+    /// Adds to long, short, cash, quantity and value of a position.
+    fn move_by(&self, account: i64, series: i64, [long, short, cash, quantity, value]: [i64; 5]) -> Result<(), Stop> {
+        let moved = [account, series, long, short, cash, quantity, value];
+        refuse_if(!self.run(self.move_position, &moved), 16, 0)?;
+        if unsafe { (self.library.changes)(self.connection) } == 0 {
+            self.run(self.make_position, &moved[..2]);
+            refuse_if(!self.run(self.move_position, &moved), 16, 0)?;
         }
         Ok(())
     }
@@ -339,7 +346,8 @@ impl SqlBook {
             _ => (-quantity.min(open_long), quantity - quantity.min(open_long), quantity - quantity.min(open_long)),
         };
         let kind = if excess > 0 { 10 } else { 0 };
-        self.move_by(account, series, long, short, 0)?;
+        let signed = if side % 2 == 1 { quantity } else { -quantity };
+        self.move_by(account, series, [long, short, 0, signed, signed * price])?;
         self.add_record(id, 0, [0, kind, 0, account, series, side, quantity, price, long, short, 0])?;
         Ok(if excess > 0 { Coded { kind: 1, first: excess, second: 0, third: 0 } } else { booked(1, 0) })
     }
@@ -381,8 +389,10 @@ impl SqlBook {
         self.run(self.adjust, &[id, suffix]);
         self.add_record(id, next, [suffix, 4, 2, from, series, side, -quantity, price, -long, -short, 0])?;
         self.add_record(id, next + 1, [suffix, 4, 0, to, series, side, quantity, price, long, short, 0])?;
-        self.move_by(from, series, -long, -short, 0)?;
-        self.move_by(to, series, long, short, 0)?;
+        let signed = long - short;
+        let moved = [long, short, 0, signed, signed * price];
+        self.move_by(from, series, moved.map(|figure| -figure))?;
+        self.move_by(to, series, moved)?;
         Ok(booked(2, 0))
     }
 
@@ -418,7 +428,7 @@ impl SqlBook {
             self.add_record(of, self.next_suffix(of), [suffix, 901, 2, account, series, side, -row[6], row[7], 0, 0, id])?;
         }
         self.add_record(id, 0, [0, 901, 0, account, series, side, quantity, average, 0, 0, 0])?;
-        self.move_by(account, series, 0, 0, residual)?;
+        self.move_by(account, series, [0, 0, residual, 0, residual])?;
         Ok(booked(sources.len() + 1, residual))
     }
 

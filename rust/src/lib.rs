@@ -13,9 +13,14 @@ pub const MOST_RECORDS: usize = 4_096;
 /// Cells before the first row of the positions table: cell 0 is the row count.
 pub const POSITIONS_HEADER: usize = 1;
 /// Cells of a position.
-pub const POSITION_CELLS: usize = 5;
+pub const POSITION_CELLS: usize = 7;
 /// The greatest room of a positions table; a longer slice is fine.
 pub const MOST_POSITIONS: usize = 1_024;
+/// The cell of a position that keeps the signed quantity of its records of status 0 or 3: buys plus, sells minus.
+pub const POSITION_QUANTITY: usize = 5;
+/// The cell of a position that keeps the signed quantity times price of its records of status 0 or 3. Divided by the quantity, where that is not 0, it is the
+/// average entry.
+pub const POSITION_VALUE: usize = 6;
 /// Cells before the first row of the process table: cell 0 is the row count.
 pub const PROCESSES_HEADER: usize = 1;
 /// Cells of a process.

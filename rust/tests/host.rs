@@ -1,9 +1,10 @@
-//! A host in Rust: document 01's P11, the answers that carry other values, a refusal that changes nothing, a list of trades, give-ups, a journal and its
-//! replay, and what is no answer at all.
+//! A host in Rust: document 01's P11, the answers that carry other values, a refusal that changes nothing, the average entry of a position, a list of trades,
+//! give-ups, a journal and its replay, and what is no answer at all.
 
 use velichundam::{c::Coded, give_up, lineage, merge, positions_len, processes_len, records_len, separate, trade, trades, transfer, Reply, Stage, Step};
 use velichundam::{merge_line, separation_line, GIVE_UP_LINE, TRADE_LINE, TRANSFER_LINE};
 use velichundam::{replay, write_give_up, write_merge, write_separation, write_trade, write_trades, write_transfer};
+use velichundam::{POSITION_QUANTITY, POSITION_VALUE};
 
 #[test]
 fn each_call_answers_by_its_enum() {
@@ -12,7 +13,7 @@ fn each_call_answers_by_its_enum() {
     assert_eq!(transfer(&mut records, &mut positions, 456789, 0, 1, 2, 1), Reply::Booked { rows: 2, residual: 0 });
     assert_eq!(separate(&mut records, &mut positions, 456789, 2, 2, 1, &[50, 25, 25]), Reply::Booked { rows: 4, residual: 0 });
     assert_eq!(lineage(&records, 456789, 6), Reply::Lineage { price: 1_250_000_000, links: 2 });
-    assert_eq!((records[0], positions[..11].to_vec()), (7, vec![2, 1, 1, 0, 0, 0, 2, 1, 100, 0, 0]));
+    assert_eq!((records[0], &positions[..15]), (7, &[2, 1, 1, 0, 0, 0, 0, 0, 2, 1, 100, 0, 0, 100, 125_000_000_000][..]));
 
     let before = (records.clone(), positions.clone());
     assert_eq!(merge(&mut records, &mut positions, 7, 2, 1, &[456789, 4, 456789, 4]), Reply::Refused { number: 9, place: 1 });
@@ -22,6 +23,29 @@ fn each_call_answers_by_its_enum() {
     assert_eq!(trade(&mut records, &mut positions, 8, 3, 1, 3, 5, 1), Reply::ClosingError { excess: 5 });
 }
 
+/// The average entry of the position in that row, in units of 0.0000001, a remainder cut off; none where nothing is held net.
+fn average_entry(positions: &[i64], row: usize) -> Option<i64> {
+    let cells = &positions[positions_len(row)..positions_len(row + 1)];
+    cells[POSITION_VALUE].checked_div(cells[POSITION_QUANTITY])
+}
+
+#[test]
+fn the_average_entry_is_read_from_two_cells() {
+    let (mut records, mut positions) = (vec![0; records_len(9)], vec![0; positions_len(1)]);
+    for (id, side, quantity, price, average) in
+        [(7, 1, 100, 5, Some(5)), (8, 1, 300, 9, Some(8)), (9, 2, 100, 20, Some(4)), (10, 4, 300, 5, None), (11, 3, 60, -2, Some(-7))]
+    {
+        assert!(!matches!(trade(&mut records, &mut positions, id, 1, 1, side, quantity, price), Reply::Refused { .. }));
+        assert_eq!(average_entry(&positions, 0), average, "after trade {id}");
+    }
+    // After the fourth nothing was held net, and the value was -300: bought for 3,200, sold for 3,500. What was bought then stands with that gain.
+    assert_eq!(positions, [1, 1, 1, 100, 40, 0, 60, -420]);
+    positions[1 + POSITION_VALUE] = 4_000_000_000_000_000_000;
+    assert_eq!(trade(&mut records, &mut positions, 12, 1, 1, 1, 1, 1), Reply::Refused { number: 16, place: 0 });
+    positions[1 + POSITION_VALUE] += 1;
+    assert_eq!(trade(&mut records, &mut positions, 12, 1, 1, 1, 1, 0), Reply::Refused { number: 2, place: 0 });
+}
+
 #[test]
 fn a_list_of_trades_is_booked_or_stops() {
     let (mut records, mut positions) = (vec![0; records_len(3)], vec![0; positions_len(2)]);
@@ -29,7 +53,7 @@ fn a_list_of_trades_is_booked_or_stops() {
     let mut excess = [-1; 4];
     assert_eq!(trades(&mut records, &mut positions, &list, &mut excess), Reply::Stopped { booked: 2, number: 4, place: 0 });
     assert_eq!((records[0], records[1], records[14], excess), (2, 10, 30, [0, 20, -1, -1]));
-    assert_eq!(positions[..6], [1, 1, 1, 0, 20, 0]);
+    assert_eq!(positions[..8], [1, 1, 1, 0, 20, 0, -20, -100]);
 
     let before = (records.clone(), positions.clone());
     assert_eq!(trades(&mut records, &mut positions, &list, &mut excess[..2]), Reply::Refused { number: 3, place: 0 });
@@ -84,7 +108,7 @@ fn a_give_up_is_booked_once_claimed_and_approved() {
     assert_eq!(book.state(0), (1, [1, 1], Some(Stage::Done)));
     let added = [[7, 1, 0, 20, 2, 1, 1, 1, -100, 5, -100, 0, 0], [7, 2, 0, 30, 0, 2, 1, 1, 100, 5, 100, 0, 0]];
     assert_eq!((book.records[0], &book.records[records_len(1)..records_len(3)]), (3, added.concat().as_slice()));
-    assert_eq!(book.positions[..11], [2, 1, 1, 0, 0, 0, 2, 1, 100, 0, 0]);
+    assert_eq!(book.positions[..15], [2, 1, 1, 0, 0, 0, 0, 0, 2, 1, 100, 0, 0, 100, 500]);
 }
 
 #[test]
@@ -155,7 +179,7 @@ fn a_replay_stops_at_a_line() {
     let mut book = Book::new();
     assert_eq!(book.replay(""), Reply::Replayed { lines: 0 });
     assert_eq!(book.replay("A\t7\t0\t1\t2\t1\nS\t7\t2\t2\t1\t60\t40\nM\t8\t2\t1\t7\t3\t7\t4\n"), Reply::LineRefused { line: 3, number: 7, place: 0 });
-    assert_eq!((book.records[0], book.positions[..11].to_vec()), (6, vec![2, 1, 1, 0, 0, 0, 2, 1, 100, 0, 0]));
+    assert_eq!((book.records[0], &book.positions[..15]), (6, &[2, 1, 1, 0, 0, 0, 0, 0, 2, 1, 100, 0, 0, 100, 500][..]));
     assert_eq!(book.replay("T\t9\t1\t1\t1\t1\t1\nT\t10\t1\t1\t1\t01\t1\n"), Reply::BadLine { line: 2 });
     assert_eq!(book.replay("T\t11\t1\t1\t1\t1\t1"), Reply::BadLine { line: 1 });
     assert_eq!(book.records[0], 7);

@@ -3,7 +3,7 @@
 
 use crate::checker::Checker;
 use crate::sweeps::{many, small};
-use crate::tables::{positions_len, records_len, Tables, MOST_POSITIONS, MOST_RECORDS};
+use crate::tables::{positions_len, records_len, Tables, MOST_POSITIONS, MOST_RECORDS, POSITION_CELLS};
 use model::{Reply, Request};
 
 type Trade = [i64; 6];
@@ -69,7 +69,7 @@ fn stops_at(checker: &mut Checker, count: usize, place: usize) {
     // The second trade makes a row. Series 5 has none, and no room for one.
     stops(checker, &with_room(count, (place > 1) as usize), &with(2, 5), place, 15);
     let mut full = with_room(count, 3);
-    full.positions[positions_len(1)..positions_len(2)].copy_from_slice(&[3, 1, 1_000_000_000_000, 1_000_000_000_000, 0]);
+    full.positions[positions_len(1)..positions_len(2)].copy_from_slice(&[3, 1, 1_000_000_000_000, 1_000_000_000_000, 0, 0, 0]);
     let mut trades = with(1, 3);
     trades[place][3] = 1 + place as i64 % 2;
     stops(checker, &full, &trades, place, 16);
@@ -95,7 +95,7 @@ fn limit_of_a_position(checker: &mut Checker) {
         for below in 1_999_998..=2_000_001 {
             let mut tables = with_room(9, 1);
             let open = 1_000_000_000_000 - below;
-            tables.positions[positions_len(1)..positions_len(2)].copy_from_slice(&[3, 1, open, open, 0]);
+            tables.positions[positions_len(1)..positions_len(2)].copy_from_slice(&[3, 1, open, open, 0, 0, 0]);
             let trade = |id: i64, side: i64, quantity: i64| [id, 3, 1, side, quantity, 0];
             let million = 1_000_000;
             checker.ask(&tables, &batch(&[trade(31, side, million), trade(30, side, million), trade(32, side, 1), trade(33, side, 1)], 4));
@@ -116,12 +116,12 @@ fn greatest_rooms(checker: &mut Checker) {
         }
     }
     let apart: Vec<Trade> = (0..6).map(|k| [9 - k, 1 + k % 3, 2 + 100 * k, 1 + k % 4, 1 + k, k]).collect();
-    for spare in [0, 4, 5, 50] {
+    for spare in [0, POSITION_CELLS - 1, POSITION_CELLS, 50] {
         for count in [1_017, 1_018, 1_019, 1_023, 1_024, 1_025] {
             let mut tables = many(5, 20, 4);
             tables.positions = vec![count];
             for k in 0..1_026 {
-                tables.positions.extend([1 + k / 400, 1 + 2 * (k % 400), 1_000, 5, k]);
+                tables.positions.extend([1 + k / 400, 1 + 2 * (k % 400), 1_000, 5, k, -k, 7 * k]);
             }
             tables.positions.truncate(positions_len(MOST_POSITIONS) + spare);
             checker.ask(&tables, &batch(&apart, 9));

@@ -8,6 +8,8 @@ use crate::lent::{note_call, Fence};
 use crate::situations;
 use crate::subject::{coded, lent_output, Coded, Outcome, Subject, Wrote};
 use crate::tables::{first_differences, Tables};
+use crate::totals::untruth;
+use crate::totals_situations;
 use model::{Answer, Reply, Request, Writing};
 
 pub struct Checker {
@@ -41,8 +43,24 @@ impl Checker {
         situations::note(&mut self.coverage, tables, &expected, request, &answer);
         give_up_situations::note(&mut self.coverage, tables, &expected, request, answer.reply);
         journal_situations::note(&mut self.coverage, tables, &expected, request, answer.reply);
+        totals_situations::note(&mut self.coverage, tables, &expected, request, &answer);
+        self.compare_totals(tables, &outcome.tables, request);
         *tables = expected;
         answer
+    }
+
+    /// What a call adds to the totals of the positions is what it changes in the sums over the records: "true ones stay true" (document 02, K7), and a foreign
+    /// table's are as untrue afterwards as they were. The model has no part in this.
+    fn compare_totals(&mut self, before: &Tables, after: &Tables, request: &Request) {
+        if before.records == after.records && before.positions == after.positions {
+            return;
+        }
+        let untrue = untruth(before);
+        if untrue != untruth(after) {
+            let (before, after) = (before.print(), after.print());
+            self.fail_later(&format!("the totals and the sums over the records\n{before}\n{}\n\n{after}", print_request(request)));
+        }
+        self.coverage.situation(if untrue.is_empty() { "totals: true afterwards as before" } else { "totals: as untrue afterwards as before" });
     }
 
     /// Counts a call, and says at which fence its slices lie.

@@ -2,6 +2,7 @@
 
 use crate::give_up_situations::GIVE_UP_SITUATIONS;
 use crate::journal_situations::JOURNAL_SITUATIONS;
+use crate::totals_situations::TOTALS_SITUATIONS;
 use model::{Reply, Request};
 use std::collections::{BTreeMap, BTreeSet};
 
@@ -79,7 +80,7 @@ fn column_name(column: usize) -> String {
 
 /// The answers that documents 01 and 02 allow each kind of request.
 ///
-/// A trade names no record and its only suffix is 0, so 5 to 13 can't apply. A separation needs no position, so 12, 15 and 16 can't. A transfer adds
+/// A trade names no record and its only suffix is 0, so 5 to 13 can't apply. A separation needs no position and moves no total, so 12, 15 and 16 can't. A transfer adds
 /// no id; its list of one record has no 9 to 11. A merge takes nothing out of a position, so 12 can't apply. Lineage has 1, 3 and 5 alone. A
 /// batch is refused before its first trade alone; its tables being sound, it stops by the other numbers of a trade. A record under give-up is refused 17
 /// wherever it would be adjusted or opened on. An opening books no row, and 23 is its own; a cancellation and a refusal end the process without a row; a claim
@@ -124,7 +125,7 @@ pub const POSSIBLE: [&[usize]; 14] = [
     &[3, 14, WRITTEN],
 ];
 
-/// Situations that a good run has met besides, those of give-ups and journals not among them.
+/// Situations that a good run has met besides, those of give-ups, journals and totals not among them.
 pub const SITUATIONS: [&str; 54] = [
     "trade: buy open",
     "trade: sell open",
@@ -182,6 +183,10 @@ pub const SITUATIONS: [&str; 54] = [
     "demand 3: trades of a stopped batch, in another order",
 ];
 
+fn all_situations() -> impl Iterator<Item = &'static str> {
+    SITUATIONS.into_iter().chain(GIVE_UP_SITUATIONS).chain(JOURNAL_SITUATIONS).chain(TOTALS_SITUATIONS)
+}
+
 pub struct Coverage {
     answers: [[u64; COLUMNS]; KINDS.len()],
     situations: BTreeMap<&'static str, u64>,
@@ -234,7 +239,7 @@ impl Coverage {
     }
 
     pub fn situation(&mut self, name: &'static str) {
-        debug_assert!(SITUATIONS.contains(&name) || GIVE_UP_SITUATIONS.contains(&name) || JOURNAL_SITUATIONS.contains(&name), "{name}");
+        debug_assert!(all_situations().any(|known| known == name), "{name}");
         *self.situations.entry(name).or_default() += 1;
     }
 
@@ -291,7 +296,7 @@ impl Coverage {
             }
         }
         text += "\nSituations met\n";
-        for name in SITUATIONS.into_iter().chain(GIVE_UP_SITUATIONS).chain(JOURNAL_SITUATIONS) {
+        for name in all_situations() {
             let count = self.situations.get(name).copied().unwrap_or(0);
             if count == 0 {
                 missing.push(name.to_string());

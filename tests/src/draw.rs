@@ -7,13 +7,16 @@ use crate::give_ups;
 use crate::journals;
 use crate::rng::Rng;
 use crate::tables::{Tables, POSITION_CELLS, PROCESS_CELLS, RECORD_CELLS};
+use crate::totals;
 use model::Request;
 use std::collections::{BTreeMap, BTreeSet};
 
-/// The ends of every range of document 01 with their neighbours, the codes of types and stages, and the ends of the machine's numbers.
-pub const ENDS: [i64; 40] = [
+/// The ends of every range of documents 01 and 02 with their neighbours, the codes of types and stages, and the ends of the machine's numbers.
+pub const ENDS: [i64; 44] = [
     i64::MIN,
     i64::MIN + 1,
+    -4_000_000_000_000_000_001,
+    -4_000_000_000_000_000_000,
     -1_000_000_000_000_001,
     -1_000_000_000_000_000,
     -1_000_000_000_001,
@@ -50,6 +53,8 @@ pub const ENDS: [i64; 40] = [
     1_000_000_000_001,
     1_000_000_000_000_000,
     1_000_000_000_000_001,
+    4_000_000_000_000_000_000,
+    4_000_000_000_000_000_001,
     i64::MAX - 1,
     i64::MAX,
 ];
@@ -69,7 +74,7 @@ pub enum Lean {
     LateSuffixes,
     /// Little room or none.
     Tight,
-    /// Positions near the ends of their ranges.
+    /// Positions with figures near the ends of their ranges.
     Extreme,
 }
 
@@ -195,30 +200,56 @@ fn draw_cash(rng: &mut Rng, lean: Lean) -> i64 {
     }
 }
 
-fn positions(rng: &mut Rng, lean: Lean) -> Vec<Vec<i64>> {
+/// A total that no record need account for: near an end of its range by at most so much, or anywhere in it.
+fn draw_total(rng: &mut Rng, lean: Lean, near: i64) -> i64 {
+    const MOST: i64 = 4_000_000_000_000_000_000;
+    match rng.below(if lean == Lean::Extreme { 6 } else { 24 }) {
+        0 => MOST,
+        1 => -MOST,
+        2 => MOST - rng.between(0, near),
+        3 => rng.between(0, near) - MOST,
+        4 => rng.between(-MOST, MOST),
+        _ => rng.between(-1_000_000, 1_000_000),
+    }
+}
+
+/// Long, short, cash and the totals of a position; the sums over its records are its totals, where they are given.
+fn draw_figures(rng: &mut Rng, lean: Lean, sums: Option<[i64; 2]>) -> [i64; 5] {
+    let [quantity, value] = sums.unwrap_or_else(|| [draw_total(rng, lean, 1_000_000), draw_total(rng, lean, 1_000_000_000_000_000_000)]);
+    [draw_held(rng, lean), draw_held(rng, lean), draw_cash(rng, lean), quantity, value]
+}
+
+/// Positions with totals that are true, in part or all of them, or foreign.
+fn positions(rng: &mut Rng, lean: Lean, records: &[Vec<i64>]) -> Vec<Vec<i64>> {
+    let sums = totals::sums(records.iter().map(Vec::as_slice));
+    let share_true = rng.pick(&[0, 0, 50, 100, 100]);
     let mut rows = BTreeMap::new();
     for account in ACCOUNTS {
         for series in SERIES {
+            let sum = sums.get(&(account, series)).copied().unwrap_or_default();
+            let sum = sum.map(|total| total.clamp(-4_000_000_000_000_000_000, 4_000_000_000_000_000_000) as i64);
             if rng.percent(60) {
-                rows.insert((account, series), (draw_held(rng, lean), draw_held(rng, lean), draw_cash(rng, lean)));
+                let sum = rng.percent(share_true).then_some(sum);
+                rows.insert((account, series), draw_figures(rng, lean, sum));
             }
         }
     }
     // Rows that no request can name are sound too.
     for key in [(i64::MIN, i64::MIN), (-3, 7), (0, 0), (1, 0), (1, -1), (2, 1_000_000), (10_000, 5), (i64::MAX, i64::MAX)] {
         if rng.percent(10) {
-            rows.insert(key, (draw_held(rng, lean), draw_held(rng, lean), draw_cash(rng, lean)));
+            rows.insert(key, draw_figures(rng, lean, None));
         }
     }
     if rng.percent(5) {
         rows.clear();
     }
-    rows.into_iter().map(|((account, series), (long, short, cash))| vec![account, series, long, short, cash]).collect()
+    rows.into_iter().map(|((account, series), figures)| [&[account, series][..], &figures].concat()).collect()
 }
 
 /// Sound tables with at most about so many records.
 pub fn sound_tables(rng: &mut Rng, lean: Lean, most: usize) -> Tables {
-    let (record_rows, position_rows) = (records(rng, lean, most), positions(rng, lean));
+    let record_rows = records(rng, lean, most);
+    let position_rows = positions(rng, lean, &record_rows);
     let process_rows = give_ups::processes(rng, &record_rows);
     Tables {
         records: table(rng, &record_rows, RECORD_CELLS, lean),

@@ -4,8 +4,9 @@ use crate::checker::Checker;
 use crate::give_up_sweeps::{set_record, tables, GIVEN, GIVEN_RECORD};
 use crate::give_ups::{named, CLAIMED, EACH, PENDING};
 use crate::sweeps::many;
-use crate::tables::{processes_len, records_len, Tables, MOST_PROCESSES, POSITION_CELLS};
+use crate::tables::{positions_len, processes_len, records_len, Tables, MOST_PROCESSES, POSITION_CELLS};
 use model::{Reply, Request, Step};
+use velichundam::POSITION_QUANTITY;
 
 pub fn run(checker: &mut Checker) {
     completing_refused(checker);
@@ -27,18 +28,19 @@ fn refused(number: i64) -> Reply {
 /// The steps that may complete, with the approvals and the stage before them.
 const COMPLETING: [([i64; 3], Step); 3] = [([1, 1, PENDING], Step::Claim), ([0, 1, CLAIMED], Step::ApproveGiver), ([1, 0, CLAIMED], Step::ApproveTaker)];
 
-/// What the step that completes finds: the record's side, what the giving account holds, the id's greatest suffix, the records that have room, the taking
-/// account's position, or that it has none, and the positions that have room.
+/// What the step that completes finds: the record's side, what the giving account holds and the quantity among its totals, the id's greatest suffix, the
+/// records that have room, the taking account's position, or that it has none, and the positions that have room.
 struct Limits {
     side: i64,
     held: i64,
+    quantity: i64,
     greatest: i64,
     records_room: usize,
     taken: Option<i64>,
     positions_room: usize,
 }
 
-const WIDE: Limits = Limits { side: 1, held: 15, greatest: 9, records_room: 4, taken: None, positions_room: 2 };
+const WIDE: Limits = Limits { side: 1, held: 15, quantity: 3, greatest: 9, records_room: 4, taken: None, positions_room: 2 };
 
 /// Process 5 gives record 7, suffix 0, of 15, up from account 1 to account 2, in series 1.
 const NAMES: [i64; 6] = [5, 7, 0, 1, 2, 1];
@@ -48,8 +50,9 @@ impl Limits {
         let records = [[7, 0, 0, 0, 3, 1, 1, self.side, 15, -4, 15, 0, 0], [7, self.greatest, 0, 6, 1, 1, 1, 3, 15, -4, 0, 0, 0]];
         let mut records = [vec![2], records.concat()].concat();
         records.resize(records_len(self.records_room) + 7, -71);
-        let position = |account: i64, figure: i64| if self.side == 1 { [account, 1, figure, 8, 2] } else { [account, 1, 8, figure, 2] };
+        let position = |account: i64, figure: i64| if self.side == 1 { [account, 1, figure, 8, 2, 3, 4] } else { [account, 1, 8, figure, 2, 3, 4] };
         let mut positions = [vec![1], position(1, self.held).to_vec()].concat();
+        positions[positions_len(0) + POSITION_QUANTITY] = self.quantity;
         if let Some(figure) = self.taken {
             positions[0] = 2;
             positions.extend(position(2, figure));
@@ -71,17 +74,22 @@ impl Limits {
     }
 }
 
-/// 12 to 16, alone and together. A position that is absent can't pass its limit, so 15 and 16 don't meet.
+/// 12 to 16, alone and together. A position that is absent can't pass its limit, so where 15 and 16 meet, 16 is by the giving account's totals.
 fn completing_refused(checker: &mut Checker) {
     for side in [1, 2] {
-        for faults in (0..32).filter(|faults| faults & 24 != 24) {
+        for faults in 0..32 {
             let has = |number: i64| faults & (1 << (number - 12)) != 0;
             let limits = Limits {
                 side,
                 held: if has(12) { 14 } else { 15 },
+                quantity: match (has(15) && has(16), side) {
+                    (false, _) => 3,
+                    (true, 1) => -3_999_999_999_999_999_986,
+                    (true, _) => 3_999_999_999_999_999_986,
+                },
                 greatest: if has(13) { 65_534 } else { 65_533 },
                 records_room: if has(14) { 3 } else { 4 },
-                taken: if has(16) { Some(999_999_999_986) } else { None },
+                taken: if has(16) && !has(15) { Some(999_999_999_986) } else { None },
                 positions_room: if has(15) { 1 } else { 2 },
             };
             let first = (12..=16).find(|number| has(*number));

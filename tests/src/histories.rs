@@ -9,6 +9,7 @@ use crate::journals::{self, journalled, DAMAGES};
 use crate::orders::{entries_of, reordered};
 use crate::rng::Rng;
 use crate::tables::{Tables, POSITION_CELLS, RECORD_CELLS};
+use crate::totals::untruth;
 use model::journal::{line_of, lines, lines_of};
 use model::{Answer, Reply, Request, Writing};
 
@@ -72,6 +73,7 @@ pub fn history(checker: &mut Checker, rng: &mut Rng) {
         }
     };
     let from_empty = start.records[0] == 0 && start.processes[0] == 0;
+    let true_totals = start.records[0] == 0 && start.positions[0] == 0;
     let mut tables = start.clone();
     let (mut entries, mut journal) = (Vec::new(), Vec::new());
     for _ in 0..4 + rng.below(44) {
@@ -81,6 +83,9 @@ pub fn history(checker: &mut Checker, rng: &mut Rng) {
         journal.extend(journalled(checker, rng, &request, &answer));
         if from_empty {
             held_by_one_process(checker, &tables);
+        }
+        if true_totals {
+            sums_over_the_records(checker, &tables);
         }
         if rng.percent(20) {
             one_by_one(checker, &before, &request, &answer, &tables);
@@ -157,6 +162,14 @@ fn held_by_one_process(checker: &mut Checker, tables: &Tables) {
     if held.len() > 1 {
         checker.coverage.situation("give-up: from empty tables on, two records or more are held");
     }
+}
+
+/// "from empty tables they equal the sums over the records", for every account and series, zeros where there is no row.
+pub fn sums_over_the_records(checker: &mut Checker, tables: &Tables) {
+    if !untruth(tables).is_empty() {
+        checker.fail_later(&format!("the totals of the positions are not the sums over the records\n{}", tables.print()));
+    }
+    checker.coverage.situation("totals: true after a call of a history from empty tables");
 }
 
 /// "Tables and answers equal those of the trades handed in one by one."

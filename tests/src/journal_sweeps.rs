@@ -6,7 +6,8 @@ use crate::draw::{figures, set_figure, ENDS};
 use crate::give_up_sweeps::{tables, GIVEN, OPENED};
 use crate::give_ups::{named, CLAIMED, EACH, PENDING};
 use crate::sweeps::many;
-use crate::tables::{positions_len, processes_len, records_len, Tables, MOST_POSITIONS, MOST_PROCESSES, MOST_RECORDS, RECORD_CELLS};
+use crate::tables::{positions_len, processes_len, records_len, Tables, MOST_POSITIONS, MOST_PROCESSES, MOST_RECORDS};
+use crate::tables::{POSITION_CELLS, PROCESS_CELLS, RECORD_CELLS};
 use model::journal::{line_of, lines};
 use model::{Reply, Request, Step};
 
@@ -175,7 +176,10 @@ fn day() -> (Tables, Vec<u8>) {
         named(Step::Cancel, &[9, 500_000, 0, 2, 1, 1]),
     ];
     let empty = |rows: usize, width: usize| [vec![0], vec![-5; rows * width + 2]].concat();
-    (Tables { records: empty(16, 13), positions: empty(4, 5), processes: empty(3, 9) }, requests.iter().flat_map(line).collect())
+    (
+        Tables { records: empty(16, RECORD_CELLS), positions: empty(4, POSITION_CELLS), processes: empty(3, PROCESS_CELLS) },
+        requests.iter().flat_map(line).collect(),
+    )
 }
 
 /// A line of the day that is bad or refused, at each place; and the day cut off at each byte.
@@ -303,12 +307,12 @@ fn greatest_rooms(checker: &mut Checker) {
         }
     }
     let apart: Vec<u8> = (0..6).flat_map(|k| trade(9 - k, 6 - k)).collect();
-    for spare in [0, 4, 5, 50] {
+    for spare in [0, POSITION_CELLS - 1, POSITION_CELLS, 50] {
         for count in [1_017, 1_018, 1_019, 1_024, 1_025] {
             let mut tables = many(5, 20, 4);
             tables.positions = vec![count];
             for k in 0..1_026 {
-                tables.positions.extend([1 + k / 400, 1 + 2 * (k % 400), 1_000, 5, k]);
+                tables.positions.extend([1 + k / 400, 1 + 2 * (k % 400), 1_000, 5, k, -k, 7 * k]);
             }
             tables.positions.truncate(positions_len(MOST_POSITIONS) + spare);
             replay(checker, &tables, apart.clone());

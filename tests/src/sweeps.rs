@@ -19,9 +19,9 @@ pub fn small() -> Tables {
     records.extend((0..RECORD_CELLS as i64 * 6 + 5).map(|k| -1_000 - k));
     let mut positions = vec![
         3, //
-        1, 1, 30, 4, -2, //
-        3, 1, 0, 0, 0, //
-        3, 2, 0, 8, 1,
+        1, 1, 30, 4, -2, 30, 3_060, //
+        3, 1, 0, 0, 0, 0, 0, //
+        3, 2, 0, 8, 1, -8, 56,
     ];
     positions.extend((0..POSITION_CELLS as i64 * 2 + 3).map(|k| -2_000 - k));
     Tables::without_processes(records, positions)
@@ -116,7 +116,7 @@ pub fn many(rows: usize, room: usize, quantity: i64) -> Tables {
         records.extend([10 + k, 0, 0, 0, 0, 1, 1, 1, quantity, 50 + k % 7, quantity, 0, 0]);
     }
     records.extend(vec![-9; (room - rows) * RECORD_CELLS + 6]);
-    Tables::without_processes(records, vec![1, 1, 1, 1_000_000, 0, 0, -9, -9, -9, -9, -9])
+    Tables::without_processes(records, vec![1, 1, 1, 1_000_000, 0, 0, 5, -6, -9, -9, -9, -9, -9, -9, -9])
 }
 
 /// Parts and pairs of every length around 2 and 1,000.
@@ -146,7 +146,7 @@ fn last_suffixes(checker: &mut Checker) {
             vec![4, greatest - 1, 0, 6, 0, 1, 1, 1, 6, 10, 0, 0, 0],
             vec![4, greatest, 0, 6, 0, 1, 1, 1, 6, 10, 0, 0, 0],
         ];
-        let mut tables = Tables::without_processes(records.concat(), vec![1, 1, 1, 99, 0, 0, 0, 0, 0, 0, 0]);
+        let mut tables = Tables::without_processes(records.concat(), vec![1, 1, 1, 99, 0, 0, 18, 180, 0, 0, 0, 0, 0, 0, 0]);
         tables.records.extend(vec![3; RECORD_CELLS * 9]);
         for count in 2..=6 {
             let mut parts = vec![1; count];
@@ -175,12 +175,12 @@ fn full_tables(checker: &mut Checker) {
             checker.ask(&tables, &Request::Lineage { id: 2_000, suffix: 0 });
         }
     }
-    for spare in [0, 4, 5, 6, 50] {
+    for spare in [0, POSITION_CELLS - 1, POSITION_CELLS, POSITION_CELLS + 1, 50] {
         for count in [1_022, 1_023, 1_024, 1_025] {
             let mut tables = many(5, 20, 4);
             tables.positions = vec![count];
             for k in 0..1_026 {
-                tables.positions.extend([1 + k / 400, 1 + 2 * (k % 400), 1_000, 5, k]);
+                tables.positions.extend([1 + k / 400, 1 + 2 * (k % 400), 1_000, 5, k, -k, 7 * k]);
             }
             tables.positions.truncate(positions_len(MOST_POSITIONS) + spare);
             for series in [1, 2, 800] {
@@ -199,9 +199,9 @@ fn full_tables(checker: &mut Checker) {
     let mut tables = many(5, 40, 4);
     tables.positions = vec![1_020];
     for k in 0..1_020 {
-        tables.positions.extend([3, 10 + k, 0, 0, 0]);
+        tables.positions.extend([3, 10 + k, 0, 0, 0, 0, 0]);
     }
-    tables.positions.extend(vec![77; 61]);
+    tables.positions.extend(vec![77; POSITION_CELLS * 12 + 1]);
     for k in 0..8 {
         checker.call(&mut tables, &Request::Trade { id: 1 + k, account: 4 - k % 2 * 2, series: 20 - k, side: 1 + k % 4, quantity: 5, price: 1 });
     }
@@ -216,7 +216,7 @@ fn every_place(checker: &mut Checker) {
             tables.records[1 + k * RECORD_CELLS] = 2 + 2 * k as i64;
         }
         tables.positions = vec![rows];
-        tables.positions.extend((0..rows).flat_map(|k| [1 + k / 9, 2 + 2 * (k % 9), 5, 5, k]));
+        tables.positions.extend((0..rows).flat_map(|k| [1 + k / 9, 2 + 2 * (k % 9), 5, 5, k, -k, 7 * k]));
         tables.positions.extend([-9; POSITION_CELLS]);
         tables
     };
@@ -268,7 +268,7 @@ fn deep_lineage(checker: &mut Checker) {
 /// Merges whose value is at the ends, and every remainder of small ones: averages above, below and at a half.
 fn ends_of_averages(checker: &mut Checker) {
     let merge = |checker: &mut Checker, side: i64, sources: &[(i64, i64)], cash: i64| {
-        let mut tables = Tables::without_processes(vec![sources.len() as i64], vec![1, 1, 1, 0, 0, cash, 4, 4, 4, 4, 4]);
+        let mut tables = Tables::without_processes(vec![sources.len() as i64], vec![1, 1, 1, 0, 0, cash, 3, -cash, 4, 4, 4, 4, 4, 4, 4]);
         for (k, (quantity, price)) in sources.iter().enumerate() {
             tables.records.extend([20 + k as i64, 0, 0, 0, 0, 1, 1, side, *quantity, *price, 0, 0, 0]);
         }

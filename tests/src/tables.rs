@@ -51,7 +51,7 @@ impl Tables {
     pub fn print(&self) -> String {
         let mut text = String::new();
         print_table(&mut text, "records", &self.records, RECORD_CELLS, "id suffix parent type status account series side quantity price long short into");
-        print_table(&mut text, "positions", &self.positions, POSITION_CELLS, "account series long short cash");
+        print_table(&mut text, "positions", &self.positions, POSITION_CELLS, "account series long short cash quantity value");
         print_table(&mut text, "processes", &self.processes, PROCESS_CELLS, "process id suffix giving taking series giver taker stage");
         text
     }

@@ -68,6 +68,13 @@ const LONG: usize = 10;
 const SHORT: usize = 11;
 const INTO: usize = 12;
 
+// The cells of a positions row after account and series.
+const OPEN_LONG: usize = 2;
+const OPEN_SHORT: usize = 3;
+const CASH: usize = 4;
+const TOTAL_QUANTITY: usize = 5;
+const TOTAL_VALUE: usize = 6;
+
 const ADJUSTABLE: i64 = 0;
 const ADJUSTED: i64 = 1;
 const INVERSE: i64 = 2;
@@ -90,6 +97,7 @@ const MOST_QUANTITY: i64 = 1_000_000;
 const MOST_PRICE: i64 = 1_000_000_000_000;
 const MOST_HELD: i64 = 1_000_000_000_000;
 const MOST_CASH: i64 = 1_000_000_000_000_000;
+const MOST_TOTAL: i64 = 4_000_000_000_000_000_000;
 
 fn is_id(z: i64) -> bool {
     (1..=999_999_999).contains(&z)
@@ -137,8 +145,12 @@ fn is_sound_record(row: &RecordRow) -> bool {
 }
 
 fn is_sound_position(row: &PositionRow) -> bool {
-    let [_, _, long, short, cash] = *row;
-    (0..=MOST_HELD).contains(&long) && (0..=MOST_HELD).contains(&short) && (-MOST_CASH..=MOST_CASH).contains(&cash)
+    let [_, _, long, short, cash, quantity, value] = *row;
+    (0..=MOST_HELD).contains(&long)
+        && (0..=MOST_HELD).contains(&short)
+        && (-MOST_CASH..=MOST_CASH).contains(&cash)
+        && (-MOST_TOTAL..=MOST_TOTAL).contains(&quantity)
+        && (-MOST_TOTAL..=MOST_TOTAL).contains(&value)
 }
 
 const RECORDS_ROOM: usize = 4_096;
@@ -177,6 +189,15 @@ fn status_refusal(row: &RecordRow) -> i64 {
 
 fn is_to_close(row: &RecordRow) -> bool {
     row[SIDE] > SELL_OPEN
+}
+
+/// A quantity with the sign of its side: buys plus, sells minus.
+fn signed(side: i64, quantity: i64) -> i64 {
+    if side == BUY_OPEN || side == BUY_CLOSE {
+        quantity
+    } else {
+        -quantity
+    }
 }
 
 /// Where the rows of an id end, and the suffix of the last one.
@@ -221,16 +242,19 @@ fn book_trade(records: &mut Records, positions: &mut Positions, trade: &Trade) -
         BUY_OPEN => (quantity, 0),
         SELL_OPEN => (0, quantity),
         BUY_CLOSE => {
-            let closed = quantity.min(position[3]);
+            let closed = quantity.min(position[OPEN_SHORT]);
             (quantity - closed, -closed)
         }
         _ => {
-            let closed = quantity.min(position[2]);
+            let closed = quantity.min(position[OPEN_LONG]);
             (-closed, quantity - closed)
         }
     };
-    position[2] += long;
-    position[3] += short;
+    position[OPEN_LONG] += long;
+    position[OPEN_SHORT] += short;
+    let signed = signed(side, quantity);
+    position[TOTAL_QUANTITY] += signed;
+    position[TOTAL_VALUE] += signed * price;
     refuse_if(!is_sound_position(&position), 16)?;
 
     let excess = if side < BUY_CLOSE { 0 } else { long.max(short) };
@@ -340,7 +364,7 @@ fn change_account(records: &mut Records, positions: &mut Positions, at: usize, m
     let (id, suffix, from, series) = (row[ID], row[SUFFIX], row[ACCOUNT], row[SERIES]);
     let quantity = row[QUANTITY];
     // The moved cell of a position row: its long for a buy, its short for a sell.
-    let cell = if row[SIDE] == BUY_OPEN { 2 } else { 3 };
+    let cell = if row[SIDE] == BUY_OPEN { OPEN_LONG } else { OPEN_SHORT };
     let old = positions.find(from, series);
     let mut giver = positions.row_or_zeros(old, from, series);
     refuse_if(giver[cell] < quantity, 12)?;
@@ -350,12 +374,18 @@ fn change_account(records: &mut Records, positions: &mut Positions, at: usize, m
     let new = positions.find(to, series);
     refuse_if(new.is_err() && positions.is_full(1), 15)?;
     let mut taker = positions.row_or_zeros(new, to, series);
+    let signed = signed(row[SIDE], quantity);
+    let value = signed * row[PRICE];
     giver[cell] -= quantity;
+    giver[TOTAL_QUANTITY] -= signed;
+    giver[TOTAL_VALUE] -= value;
     taker[cell] += quantity;
-    refuse_if(!is_sound_position(&taker), 16)?;
+    taker[TOTAL_QUANTITY] += signed;
+    taker[TOTAL_VALUE] += value;
+    refuse_if(!is_sound_position(&giver) || !is_sound_position(&taker), 16)?;
 
     records.rows_mut()[at][STATUS] = ADJUSTED;
-    (row[LONG], row[SHORT]) = if cell == 2 { (quantity, 0) } else { (0, quantity) };
+    (row[LONG], row[SHORT]) = if cell == OPEN_LONG { (quantity, 0) } else { (0, quantity) };
     row[SUFFIX] = greatest + 1;
     row[PARENT] = suffix;
     row[INTO] = 0;
@@ -432,7 +462,8 @@ fn book_merge(records: &mut Records, positions: &mut Positions, names: &[i64; 3]
     let over = quantity * average - value;
     let residual = if side == BUY_OPEN { over } else { -over };
     let mut position = positions.row_or_zeros(held, account, series);
-    position[4] += residual;
+    position[CASH] += residual;
+    position[TOTAL_VALUE] += residual;
     refuse_if(!is_sound_position(&position), 16)?;
 
     for pair in sources {

@@ -1,10 +1,10 @@
 //! A lent table: cell 0 is the row count, the rows follow, sorted by their first two cells, or the processes by their first alone.
 
 pub type RecordRow = [i64; 13];
-pub type PositionRow = [i64; 5];
+pub type PositionRow = [i64; 7];
 pub type ProcessRow = [i64; 9];
 pub type Records<'a> = Table<'a, 13>;
-pub type Positions<'a> = Table<'a, 5>;
+pub type Positions<'a> = Table<'a, 7>;
 pub type Processes<'a> = Table<'a, 9>;
 
 /// Whether a row's key is below another's, by two cells.

@@ -1,6 +1,6 @@
 -- The tables' layouts are lawful. A row's cells one by one: those read from a place on are the part of the list that begins there.
 -- Assumes nothing.
-use Prim.Native.Nat.{ℕ, zero, suc, _+_, _≤_, _<_}
+use Prim.Native.Nat.{ℕ, zero, suc, _+_, _-_, _≤_, _<_}
 use native.Mathlib.Omega.{arith}
 use mathlib.Core.Path.{_≡_, refl, sym, ap, _∙_}
 use mathlib.Core.List.{List, [], _∷_, _++_}
@@ -38,13 +38,13 @@ cells-at k at xs h =
     ∙ ap (λ (j : ℕ). getD xs at (pos 0) ∷ take k (drop j xs)) e
     ∙ ap (take (suc k)) (sym (drop-cons xs at (pos 0) here))
 
-pub length-recordCells : (r : Record) → length (recordCells r) ≡ 13
+pub length-recordCells : (r : Record) → length (recordCells r) ≡ recordsLayout .width
 unfolding recordCells
 length-recordCells r = refl
 
-pub recordCells-recordAt : (xs : List ℤ) (at : ℕ) → at + 13 ≤ length xs → recordCells (recordAt xs at) ≡ take 13 (drop at xs)
+pub recordCells-recordAt : (xs : List ℤ) (at : ℕ) → at + recordsLayout .width ≤ length xs → recordCells (recordAt xs at) ≡ take (recordsLayout .width) (drop at xs)
 unfolding recordCells
-recordCells-recordAt xs at h = cells-at 12 at xs h
+recordCells-recordAt xs at h = cells-at (recordsLayout .width - 1) at xs h
 
 pub recordAt-recordCells : (p q : List ℤ) (r : Record) → recordAt (p ++ (recordCells r ++ q)) (length p) ≡ r
 unfolding recordCells
@@ -59,13 +59,13 @@ records-lawful = record {
   get-put = recordAt-recordCells;
 }
 
-pub length-positionCells : (r : Position) → length (positionCells r) ≡ 5
+pub length-positionCells : (r : Position) → length (positionCells r) ≡ positionsLayout .width
 unfolding positionCells
 length-positionCells r = refl
 
-pub positionCells-positionAt : (xs : List ℤ) (at : ℕ) → at + 5 ≤ length xs → positionCells (positionAt xs at) ≡ take 5 (drop at xs)
+pub positionCells-positionAt : (xs : List ℤ) (at : ℕ) → at + positionsLayout .width ≤ length xs → positionCells (positionAt xs at) ≡ take (positionsLayout .width) (drop at xs)
 unfolding positionCells
-positionCells-positionAt xs at h = cells-at 4 at xs h
+positionCells-positionAt xs at h = cells-at (positionsLayout .width - 1) at xs h
 
 pub positionAt-positionCells : (p q : List ℤ) (r : Position) → positionAt (p ++ (positionCells r ++ q)) (length p) ≡ r
 unfolding positionCells
@@ -80,13 +80,13 @@ positions-lawful = record {
   get-put = positionAt-positionCells;
 }
 
-pub length-processCells : (r : ProcessRow) → length (processCells r) ≡ 9
+pub length-processCells : (r : ProcessRow) → length (processCells r) ≡ processesLayout .width
 unfolding processCells
 length-processCells r = refl
 
-pub processCells-processAt : (xs : List ℤ) (at : ℕ) → at + 9 ≤ length xs → processCells (processAt xs at) ≡ take 9 (drop at xs)
+pub processCells-processAt : (xs : List ℤ) (at : ℕ) → at + processesLayout .width ≤ length xs → processCells (processAt xs at) ≡ take (processesLayout .width) (drop at xs)
 unfolding processCells
-processCells-processAt xs at h = cells-at 8 at xs h
+processCells-processAt xs at h = cells-at (processesLayout .width - 1) at xs h
 
 pub processAt-processCells : (p q : List ℤ) (r : ProcessRow) → processAt (p ++ (processCells r ++ q)) (length p) ≡ r
 unfolding processCells

@@ -17,9 +17,11 @@ use rules::codes::TAKE_UP;
 use rules::codes::TRANSFER;
 use rules::codes::UNDER_GIVE_UP;
 ghost use mathlib.Core.Path.{_≡_};
+ghost use mathlib.Core.Bool.{true};
 ghost use Rattle.integers.specs.Order.{inRange};
-ghost use Rattle.rules.specs.Figures.{validId, validSuffix, validAccount, validSeries, validQuantity, validPrice, validSide, isBuy, isToClose};
-ghost use Rattle.rules.specs.Rows.{validKind, validStatus, validSignedQuantity, validBooked, validInto, validParent};
+ghost use Rattle.rules.specs.Figures as Figures;
+ghost use Rattle.rules.specs.Figures.{magnitudeAtMost, mostQuantity, validId, validSuffix, validAccount, validSeries, validQuantity, validPrice, validSide, isBuy, isToClose};
+ghost use Rattle.rules.specs.Rows.{validKind, validStatus, validSignedQuantity, validBooked, validTotal, validInto, validParent};
 ghost use Rattle.rules.specs.ProcessRows.{validApproval, validStage};
 
 pub fn in_range(low: i64, high: i64, z: i64) -> bool
@@ -82,6 +84,17 @@ pub fn is_buy(side: i64) -> bool
     side == 3
 }
 
+// An amount with the sign of its side: buys plus, sells minus.
+pub fn signed(side: i64, amount: i64) -> i64
+    requires { ⌜ magnitudeAtMost mostQuantity amount ≡ true ⌝ }
+    ensures { λ r. ⌜ r ≡ Figures.signed side amount ⌝ }
+{
+    if is_buy(side) {
+        return amount;
+    }
+    -amount
+}
+
 pub fn is_to_close(side: i64) -> bool
     ensures { λ r. ⌜ r ≡ isToClose side ⌝ }
 {
@@ -135,6 +148,12 @@ pub fn valid_booked(z: i64) -> bool
     ensures { λ r. ⌜ r ≡ validBooked z ⌝ }
 {
     in_range(-1_000_000, 1_000_000, z)
+}
+
+pub fn valid_total(z: i64) -> bool
+    ensures { λ r. ⌜ r ≡ validTotal z ⌝ }
+{
+    in_range(-4_000_000_000_000_000_000, 4_000_000_000_000_000_000, z)
 }
 
 pub fn valid_into(z: i64) -> bool

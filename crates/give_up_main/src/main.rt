@@ -153,7 +153,7 @@ fn cancelled(records: &mut [i64], positions: &mut [i64], processes: &mut [i64]) 
 // Room for three records, two positions and two processes; a cell that holds no row is -1.
 fn run_booked() {
     let mut records = [-1; 40];
-    let mut positions = [-1; 11];
+    let mut positions = [-1; 15];
     let mut processes = [-1; 19];
     records[0] = 0;
     positions[0] = 0;
@@ -163,7 +163,7 @@ fn run_booked() {
 
 fn run_refused() {
     let mut records = [-1; 40];
-    let mut positions = [-1; 11];
+    let mut positions = [-1; 15];
     let mut processes = [-1; 19];
     records[0] = 0;
     positions[0] = 0;
@@ -173,7 +173,7 @@ fn run_refused() {
 
 fn run_cancelled() {
     let mut records = [-1; 40];
-    let mut positions = [-1; 11];
+    let mut positions = [-1; 15];
     let mut processes = [-1; 19];
     records[0] = 0;
     positions[0] = 0;

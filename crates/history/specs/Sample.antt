@@ -20,11 +20,11 @@ abbrev pub blank : ℕ → List ℤ
 blank cells = pos 0 ∷ replicate cells (negℤ (pos 1))
 
 abbrev pub start : Tables
-start = allTables (blank 290) (blank 47) (blank 20)
+start = allTables (blank 290) (blank 65) (blank 20)
 
 -- Tables with as much room and other cells.
 abbrev pub otherCells : Tables
-otherCells = allTables (pos 0 ∷ replicate 294 (pos 8)) (pos 0 ∷ replicate 45 (pos 8)) (pos 0 ∷ replicate 26 (pos 8))
+otherCells = allTables (pos 0 ∷ replicate 294 (pos 8)) (pos 0 ∷ replicate 63 (pos 8)) (pos 0 ∷ replicate 26 (pos 8))
 
 -- Trades 1 and 2, the first separated; trade 3, transferred; the parts of 1 merged into 5.
 abbrev pub trade1 : Request
@@ -119,8 +119,8 @@ abbrev pub row : (id suffix parent kind status account series side quantity pric
 row id suffix parent kind status account series side quantity price long short into =
     id ∷ suffix ∷ parent ∷ kind ∷ status ∷ account ∷ series ∷ side ∷ quantity ∷ price ∷ long ∷ short ∷ into ∷ []
 
-abbrev pub position : (account series long short cash : ℤ) → List ℤ
-position account series long short cash = account ∷ series ∷ long ∷ short ∷ cash ∷ []
+abbrev pub position : (account series long short cash quantity value : ℤ) → List ℤ
+position account series long short cash quantity value = account ∷ series ∷ long ∷ short ∷ cash ∷ quantity ∷ value ∷ []
 
 abbrev pub rowsThen : (pastRecords pastPositions pastProcesses : List ℤ) → Tables
 rowsThen pastRecords pastPositions pastProcesses = record {
@@ -150,15 +150,15 @@ rowsThen pastRecords pastPositions pastProcesses = record {
       ++ pastRecords;
   positions =
       pos 9
-      ∷ position (pos 10) (pos 5) (pos 100) (pos 0) (pos 0)
-      ++ position (pos 20) (pos 5) (pos 0) (pos 0) (pos 0)
-      ++ position (pos 21) (pos 5) (pos 0) (pos 50) (pos 0)
-      ++ position (pos 30) (pos 6) (pos 0) (pos 0) (pos 0)
-      ++ position (pos 31) (pos 6) (pos 5) (pos 0) (pos 0)
-      ++ position (pos 40) (pos 6) (pos 0) (pos 5) (pos 0)
-      ++ position (pos 42) (pos 6) (pos 0) (pos 8) (pos 0)
-      ++ position (pos 50) (pos 6) (pos 30) (pos 0) (pos 0)
-      ++ position (pos 51) (pos 6) (pos 0) (pos 9) (pos 0)
+      ∷ position (pos 10) (pos 5) (pos 100) (pos 0) (pos 0) (pos 100) (pos 700)
+      ++ position (pos 20) (pos 5) (pos 0) (pos 0) (pos 0) (pos 0) (pos 0)
+      ++ position (pos 21) (pos 5) (pos 0) (pos 50) (pos 0) (negℤ (pos 50)) (negℤ (pos 450))
+      ++ position (pos 30) (pos 6) (pos 0) (pos 0) (pos 0) (pos 0) (pos 0)
+      ++ position (pos 31) (pos 6) (pos 5) (pos 0) (pos 0) (pos 5) (negℤ (pos 20))
+      ++ position (pos 40) (pos 6) (pos 0) (pos 5) (pos 0) (negℤ (pos 5)) (negℤ (pos 15))
+      ++ position (pos 42) (pos 6) (pos 0) (pos 8) (pos 0) (negℤ (pos 8)) (negℤ (pos 16))
+      ++ position (pos 50) (pos 6) (pos 30) (pos 0) (pos 0) (pos 30) (pos 120)
+      ++ position (pos 51) (pos 6) (pos 0) (pos 9) (pos 0) (negℤ (pos 9)) (negℤ (pos 27))
       ++ pastPositions;
   processes = pos 1 ∷ pos 90 ∷ pos 2 ∷ pos 0 ∷ pos 20 ∷ pos 21 ∷ pos 5 ∷ pos 1 ∷ pos 1 ∷ pos 0 ∷ pastProcesses;
 }

@@ -1,3 +1,4 @@
 pub mod OneSide
+pub mod BySums
 pub mod MergeMargin
 pub mod MirroredMerge

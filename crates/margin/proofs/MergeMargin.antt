@@ -11,7 +11,7 @@ use Rattle.integers.specs.Average.{residualOf}
 use Rattle.integers.proofs.AverageLaws.{margin-kept-buy, margin-kept-sell}
 use Rattle.rules.specs.Figures.{isBuy}
 use Rattle.rules.specs.Keyed.{find, upsert, upsertAll}
-use Rattle.rules.specs.Rows.{recordKey, inCash, moved, newRecord, adjustedRecord}
+use Rattle.rules.specs.Rows.{recordKey, byResidual, moved, newRecord, adjustedRecord}
 use Rattle.rules.specs.Refusal.{anyOf}
 use Rattle.rules.specs.Request.{merge}
 use Rattle.rules.specs.Books.{Books, viewOf}
@@ -75,6 +75,6 @@ merge-keeps-margin b id account series pairs accepted =
       residual = mergeResidual rs;
       stands = found-last (map adjustedRecord rs) (mergeInverses id [] sources) (b .records) (mergedRecord id rs);
       answered = refl;
-      grown = ap (λ (p : Position). p .cash) (read-put account series (moved old (inCash (mergeResidual rs))) (b .positions) (read-key account series (b .positions)));
+      grown = ap (λ (p : Position). p .cash) (read-put account series (moved old (byResidual (mergeResidual rs))) (b .positions) (read-key account series (b .positions)));
       kept = λ s. same-margin s id rs (merge-passed b id account series pairs accepted .sources-on-one-side);
     }

@@ -7,12 +7,13 @@ use native.Mathlib.Omega.{arith}
 use borrow.Author.Tests.{not-false}
 use lib.IntN.{ℤ, pos, negℤ, _+ℤ_, _-ℤ_, _*ℤ_, zero-*ℤ}
 use Rattle.integers.proofs.Ring.{diff, zdiff}
-use Rattle.rules.specs.Figures.{isBuy}
+use Rattle.rules.specs.Figures.{isBuy, signed}
 use Rattle.rules.specs.Refusal.{anyOf}
 use Rattle.rules.specs.Merge.{sideDiffers, sumOfQuantities, sumOfValues}
+use Rattle.rules.specs.Totals.{signedQuantity}
 use Rattle.rules.specs.declared.Record.{Record}
 use Rattle.soundness.proofs.Accepted.{anyOf-head, anyOf-tail}
-use Rattle.margin.specs.Margin.{signedQuantity, marginOf, marginOfAll}
+use Rattle.margin.specs.Margin.{marginOf, marginOfAll}
 
 beq-true : (a b : Bool) → Bool·beq a b ≡ true → a ≡ b
 beq-true true true h = refl
@@ -26,14 +27,14 @@ unfolding sideDiffers
 one-side first r h = beq-true (isBuy (r .side)) (isBuy (first .side)) (not-false (Bool·beq (isBuy (r .side)) (isBuy (first .side))) h)
 
 pub margin-of-buy : (s : ℤ) (r : Record) → isBuy (r .side) ≡ true → marginOf s r ≡ r .quantity *ℤ (s -ℤ r .price)
-unfolding marginOf signedQuantity
+unfolding marginOf signedQuantity signed
 margin-of-buy s r e = ap (λ (t : Bool). cond t (r .quantity) (negℤ (r .quantity)) *ℤ (s -ℤ r .price)) e
 
 pub margin-of-sell : (s : ℤ) (r : Record) → isBuy (r .side) ≡ false → marginOf s r ≡ negℤ (r .quantity) *ℤ (s -ℤ r .price)
-unfolding marginOf signedQuantity
+unfolding marginOf signedQuantity signed
 margin-of-sell s r e = ap (λ (t : Bool). cond t (r .quantity) (negℤ (r .quantity)) *ℤ (s -ℤ r .price)) e
 
-one-more : (q s p qs vs : ℤ) → q *ℤ (s -ℤ p) +ℤ (qs *ℤ s -ℤ vs) ≡ (q +ℤ qs) *ℤ s -ℤ (q *ℤ p +ℤ vs)
+pub one-more : (q s p qs vs : ℤ) → q *ℤ (s -ℤ p) +ℤ (qs *ℤ s -ℤ vs) ≡ (q +ℤ qs) *ℤ s -ℤ (q *ℤ p +ℤ vs)
 one-more q s p qs vs = rw (diff q, diff s, diff p, diff qs, diff vs) (simp zdiff (omega arith))
 
 one-more-sell : (q s p qs vs : ℤ) → negℤ q *ℤ (s -ℤ p) +ℤ negℤ (qs *ℤ s -ℤ vs) ≡ negℤ ((q +ℤ qs) *ℤ s -ℤ (q *ℤ p +ℤ vs))

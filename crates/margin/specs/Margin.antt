@@ -1,21 +1,17 @@
 -- Document 01: "Margin of a record at settlement price s, any whole number, is its signed quantity (buy plus, sell minus) times s less its price."
 -- And what it means that a merge keeps it.
 use mathlib.Core.Path.{_≡_}
-use mathlib.Core.Bool.{cond}
 use mathlib.Core.List.{List, [], _∷_}
 use mathlib.Core.Option.{some}
-use lib.IntN.{ℤ, pos, negℤ, _+ℤ_, _-ℤ_, _*ℤ_}
-use Rattle.rules.specs.Figures.{isBuy}
+use lib.IntN.{ℤ, pos, _+ℤ_, _-ℤ_, _*ℤ_}
 use Rattle.rules.specs.Keyed.{find}
 use Rattle.rules.specs.Rows.{keyOf, recordKey}
 use Rattle.rules.specs.Books.{Books, viewOf}
 use Rattle.rules.specs.Merge.{pairsOf, sourcesOf, recordsOf}
+use Rattle.rules.specs.Totals.{signedQuantity}
 use Rattle.rules.specs.declared.Record.{Record}
 use Rattle.rules.specs.declared.Reply.{Reply}
 use Rattle.rules.specs.declared.Reply.the-variants.{Booked}
-
-unfoldable pub signedQuantity : Record → ℤ
-signedQuantity r = cond (isBuy (r .side)) (r .quantity) (negℤ (r .quantity))
 
 unfoldable pub marginOf : ℤ → Record → ℤ
 marginOf s r = signedQuantity r *ℤ (s -ℤ r .price)

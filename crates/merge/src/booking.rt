@@ -2,7 +2,6 @@
 use super::sources;
 use lookup::Sought;
 use requests::Held;
-use rules::Movement;
 use rules::Record;
 use rules::Reply;
 use rules::codes::ADJUSTED;
@@ -122,11 +121,7 @@ pub fn book(
     let price = integers::average(value, quantity);
     let residual = integers::residual(figures::is_buy(first.side), value, quantity);
     let merged = merged_row(first, id, quantity, price);
-    let m = Movement {
-        long: 0,
-        short: 0,
-        cash: residual,
-    };
+    let m = requests::by_residual(residual);
     let found = held.found;
     let left = requests::moved(held.position, m);
     adjust_sources(&mut *records, pairs, rows);

@@ -6,7 +6,6 @@ use lookup::Sought;
 use merge_sources::Place;
 use merge_sources::pairs;
 use requests::Held;
-use rules::Movement;
 use rules::Reply;
 use rules::codes::MOST_QUANTITY;
 use tables::records;
@@ -174,11 +173,7 @@ fn verdict_on_sums(
     }
     let value = sources::sum_of_values(records, pairs, rows);
     let residual = integers::residual(buy, value, quantity);
-    let m = Movement {
-        long: 0,
-        short: 0,
-        cash: residual,
-    };
+    let m = requests::by_residual(residual);
     if !scan::soundness::sound_position(requests::moved(held.position, m)) {
         return Verdict::Refused(16, 0);
     }

@@ -10,7 +10,7 @@ use lib.ListN.{length, length-append}
 use lib.Signed.{ltZ}
 use Rattle.rules.specs.Figures.{mostQuantity}
 use Rattle.rules.specs.Keyed.{greatest, isSome}
-use Rattle.rules.specs.Rows.{recordKey, inCash, moved, soundPosition}
+use Rattle.rules.specs.Rows.{recordKey, byResidual, moved, soundPosition}
 use Rattle.rules.specs.NamedRecord.{isElsewhere}
 use Rattle.rules.specs.Refusal.{test, testEach, anyOf, allOf}
 use Rattle.rules.specs.Request.{merge}
@@ -33,7 +33,7 @@ use Rattle.merge_sources.proofs.Inverses.{inverse-count, suffixes-above
 
 -- The position that a merge leaves.
 abbrev pub mergePosition : List ℤ → ℤ → ℤ → List Record → Position
-mergePosition ps account series rs = moved (positionRead ps account series) (inCash (mergeResidual rs))
+mergePosition ps account series rs = moved (positionRead ps account series) (byResidual (mergeResidual rs))
 
 module _ (rs ps : List ℤ) (id account series : ℤ) (pairs : List ℤ) where
   abbrev theRecords : List Record

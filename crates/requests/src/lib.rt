@@ -17,7 +17,7 @@ ghost use Prim.Native.Nat.{_+_, _≤_};
 ghost use lib.Dec.{ltb};
 ghost use lib.IntN.{pos};
 ghost use lib.ListN.{length};
-ghost use Rattle.rules.specs.Figures.{magnitudeAtMost};
+ghost use Rattle.rules.specs.Figures.{magnitudeAtMost, validPrice};
 ghost use Rattle.rules.specs.NamedRecord.{isElsewhere, statusRefusal};
 ghost use Rattle.rules.specs.Keyed.{upsertAll};
 ghost use Rattle.rules.specs.Rows as Rows;
@@ -115,6 +115,37 @@ pub fn moved(p: Position, m: Movement) -> Position
         long: p.long + m.long,
         short: p.short + m.short,
         cash: p.cash + m.cash,
+        quantity: p.quantity + m.quantity,
+        value: p.value + m.value,
+    }
+}
+
+// A quantity that comes to a position on this side at this price, or leaves it where the amount is negative, with what is booked to long and short.
+pub fn in_booked(side: i64, amount: i64, price: i64, long: i64, short: i64) -> Movement
+    requires { ⌜ (magnitudeAtMost 1000000 amount ≡ true) × (validPrice price ≡ true) ⌝ }
+    ensures { λ r. ⌜ r ≡ Rows.inBooked side amount price long short ⌝ }
+{
+    let quantity = figures::signed(side, amount);
+    let value = quantity * price;
+    Movement {
+        long,
+        short,
+        cash: 0,
+        quantity,
+        value,
+    }
+}
+
+// A merge's residual, in cash and in the value.
+pub fn by_residual(residual: i64) -> Movement
+    ensures { λ r. ⌜ r ≡ Rows.byResidual residual ⌝ }
+{
+    Movement {
+        long: 0,
+        short: 0,
+        cash: residual,
+        quantity: 0,
+        value: residual,
     }
 }
 

@@ -1,6 +1,6 @@
 -- Document 01, "Figures and their ranges", and the codes that the tables use.
 use Prim.Native.Nat.{ℕ}
-use mathlib.Core.Bool.{Bool, _&&_, _||_}
+use mathlib.Core.Bool.{Bool, cond, _&&_, _||_}
 use lib.Dec.{leb}
 use lib.IntN.{ℤ, pos, negℤ}
 use Rattle.integers.specs.Order.{eqZ, inRange}
@@ -45,6 +45,10 @@ validSide z = inRange (pos 1) (pos 4) z
 
 unfoldable pub isBuy : ℤ → Bool
 isBuy side = eqZ side (pos 1) || eqZ side (pos 3)
+
+-- Document 02, K7: "buys plus, sells minus"
+unfoldable pub signed : ℤ → ℤ → ℤ
+signed side amount = cond (isBuy side) amount (negℤ amount)
 
 unfoldable pub isToClose : ℤ → Bool
 isToClose side = eqZ side (pos 3) || eqZ side (pos 4)

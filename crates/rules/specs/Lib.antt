@@ -8,6 +8,7 @@ pub mod Reply
 pub mod Request
 pub mod Books
 pub mod Plan
+pub mod Totals
 pub mod Trade
 pub mod Separation
 pub mod Transfer

@@ -11,7 +11,7 @@ use Rattle.integers.specs.Order.{eqZ}
 use Rattle.integers.specs.Average.{averageOf, residualOf}
 use Rattle.rules.specs.Figures.{validId, validSuffix, validAccount, validSeries, validCount, isBuy, isToClose, mostQuantity, mergeKind}
 use Rattle.rules.specs.Keyed.{Key, same, isSome}
-use Rattle.rules.specs.Rows.{keyOf, adjustedRecord, inverseRecord, newRecord, inCash, moved}
+use Rattle.rules.specs.Rows.{keyOf, adjustedRecord, inverseRecord, newRecord, byResidual, moved}
 use Rattle.rules.specs.Refusal.{Test, test, testEach, anyOf, allOf, firstPlace}
 use Rattle.rules.specs.Books.{View}
 use Rattle.rules.specs.Plan.{Plan, booking}
@@ -134,7 +134,7 @@ mergePlan id account series pairs newId sources p =
     (record {
       changed = map adjustedRecord rs;
       added = mergeInverses id [] sources ++ (mergedRecord id rs ∷ []);
-      positions = moved p (inCash residual) ∷ [];
+      positions = moved p (byResidual residual) ∷ [];
       process = none;
       reply = Booked (pos (length sources) +ℤ pos 1) residual;
     })

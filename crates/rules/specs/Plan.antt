@@ -46,7 +46,7 @@ processRoomTest b (some p) = test 23 (ltb (b .processesRoom) (length (b .process
 -- 13: "an id would need a suffix above 65,535"
 -- 14: "row count plus the request's new rows exceeds the records room"
 -- 15: "row count plus the needed absent rows exceeds the positions room"
--- 16: "long, short or cash would leave its range"
+-- 16: "long, short or cash would leave its range"; document 02, K7, of the totals: "tested after the whole request"; "beyond is 16"
 unfoldable pub bookingTests : Books → Effects → List Test
 bookingTests b e =
     test 13 (anyOf (map suffixIsAbove (e .added)))

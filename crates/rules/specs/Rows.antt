@@ -1,10 +1,10 @@
 -- The rows of records and positions: their keys, their ranges ("Sound records", "Sound positions"), and how rules make one row from another.
 use mathlib.Core.Bool.{Bool, not, _&&_, _||_, Bool·beq}
 use mathlib.Core.Option.{Option, none, some}
-use lib.IntN.{ℤ, pos, negℤ, _+ℤ_}
+use lib.IntN.{ℤ, pos, negℤ, _+ℤ_, _*ℤ_}
 use lib.Signed.{ltZ}
 use Rattle.integers.specs.Order.{eqZ, inRange}
-use Rattle.rules.specs.Figures.{magnitudeAtMost, validId, validSuffix, validAccount, validSeries, validPrice, validSide, mostQuantity, adjustable, adjusted, inverse, underGiveUp, originalKind, transferKind, separationKind, closingErrorKind, giveUpKind, takeUpKind, mergeKind}
+use Rattle.rules.specs.Figures.{magnitudeAtMost, validId, validSuffix, validAccount, validSeries, validPrice, validSide, signed, mostQuantity, adjustable, adjusted, inverse, underGiveUp, originalKind, transferKind, separationKind, closingErrorKind, giveUpKind, takeUpKind, mergeKind}
 use Rattle.rules.specs.Keyed.{Key}
 use Rattle.rules.specs.declared.Record.{Record}
 use Rattle.rules.specs.declared.Position.{Position}
@@ -62,24 +62,42 @@ soundRecord r =
     && validInto (r .into)
     && validParent (r .parent) (r .suffix)
 
--- "long and short lie in 0 to 1,000,000,000,000, cash has magnitude at most 1,000,000,000,000,000". Account and series are not in the sentence.
+-- Document 02, K7, of both totals: "Each magnitude stays within 4,000,000,000,000,000,000"
+unfoldable pub validTotal : ℤ → Bool
+validTotal z = magnitudeAtMost 4000000000000000000 z
+
+-- "long and short lie in 0 to 1,000,000,000,000, cash has magnitude at most 1,000,000,000,000,000"; of the totals "Soundness asks only that range". Account and series are in neither sentence.
 unfoldable pub soundPosition : Position → Bool
-soundPosition p = inRange (pos 0) (pos 1000000000000) (p .long) && inRange (pos 0) (pos 1000000000000) (p .short) && magnitudeAtMost 1000000000000000 (p .cash)
+soundPosition p =
+    inRange (pos 0) (pos 1000000000000) (p .long)
+    && inRange (pos 0) (pos 1000000000000) (p .short)
+    && magnitudeAtMost 1000000000000000 (p .cash)
+    && validTotal (p .quantity)
+    && validTotal (p .value)
 
 -- "an absent row reads as zeros": the position of that key.
 unfoldable pub zeroPosition : ℤ → ℤ → Position
-zeroPosition account series = record { account = account; series = series; long = pos 0; short = pos 0; cash = pos 0 }
+zeroPosition account series = record { account = account; series = series; long = pos 0; short = pos 0; cash = pos 0; quantity = pos 0; value = pos 0 }
 
 unfoldable pub orZeros : ℤ → ℤ → Option Position → Position
 orZeros account series none = zeroPosition account series
 orZeros account series (some p) = p
 
--- What is booked to long and short, and what is booked to cash alone.
-abbrev pub inBooked : ℤ → ℤ → Movement
-inBooked long short = record { long = long; short = short; cash = pos 0 }
+-- A quantity that comes to the position on this side at this price, or leaves it where the amount is negative, with what is booked to long and short. Document 02, K7: the totals are
+-- "the signed quantity and signed quantity times price".
+abbrev pub inBooked : (side amount price long short : ℤ) → Movement
+inBooked side amount price long short = record {
+  long = long;
+  short = short;
+  cash = pos 0;
+  quantity = signed side amount;
+  value = signed side amount *ℤ price;
+}
 
-abbrev pub inCash : ℤ → Movement
-inCash residual = record { long = pos 0; short = pos 0; cash = residual }
+-- A merge's residual is booked to cash. Document 02, K7, "Every request adds to the stored figures what it changes in these sums": Q times the average takes the place of V, and the residual is the
+-- difference, signed as the side is.
+abbrev pub byResidual : ℤ → Movement
+byResidual residual = record { long = pos 0; short = pos 0; cash = residual; quantity = pos 0; value = residual }
 
 -- A position with its figures changed by signed amounts.
 unfoldable pub moved : Position → Movement → Position
@@ -89,6 +107,8 @@ moved p m = record {
   long = p .long +ℤ m .long;
   short = p .short +ℤ m .short;
   cash = p .cash +ℤ m .cash;
+  quantity = p .quantity +ℤ m .quantity;
+  value = p .value +ℤ m .value;
 }
 
 -- A record in another status, and nothing else changed.

@@ -44,7 +44,7 @@ positionsAfter t requests = rowsOf positionsLayout ((runOf t requests) .tables .
 -- The replies to two trades of 1, the first at a price and the second at 0, to their merge, and to the lineage of the merged record, which gives its price.
 abbrev pub halfMerged : (side price : ℤ) → List Reply
 halfMerged side price =
-    (runOf (empty 65 5)
+    (runOf (empty 65 7)
     (trade (pos 7) (pos 1) (pos 1) side (pos 1) price
     ∷ trade (pos 8) (pos 1) (pos 1) side (pos 1) (pos 0)
     ∷ merge (pos 9) (pos 1) (pos 1) (pos 7 ∷ pos 0 ∷ pos 8 ∷ pos 0 ∷ [])

@@ -41,7 +41,7 @@ recordCells r =
 abbrev pub statusCell : ℕ
 statusCell = 4
 
--- "each row has 5 cells: account, series, long, short, cash"
+-- "each row has 5 cells: account, series, long, short, cash"; document 02, K7: "Give each position row two cells more: the signed quantity and signed quantity times price"
 abbrev pub positionAt : List ℤ → ℕ → Position
 positionAt cells at = record {
   account = getD cells at (pos 0);
@@ -49,10 +49,12 @@ positionAt cells at = record {
   long = getD cells (at + 2) (pos 0);
   short = getD cells (at + 3) (pos 0);
   cash = getD cells (at + 4) (pos 0);
+  quantity = getD cells (at + 5) (pos 0);
+  value = getD cells (at + 6) (pos 0);
 }
 
 unfoldable pub positionCells : Position → List ℤ
-positionCells p = p .account ∷ p .series ∷ p .long ∷ p .short ∷ p .cash ∷ []
+positionCells p = p .account ∷ p .series ∷ p .long ∷ p .short ∷ p .cash ∷ p .quantity ∷ p .value ∷ []
 
 -- Document 02, K3: "A row's nine cells: process id, id, suffix, giving and taking account, series, the two clearing approvals, and a stage"; "the giver's approval is the seventh cell"
 abbrev pub processAt : List ℤ → ℕ → ProcessRow
@@ -77,7 +79,7 @@ abbrev pub recordsLayout : Layout Record
 recordsLayout = record { header = 1; width = 13; most = 4096; get = recordAt; put = recordCells }
 
 abbrev pub positionsLayout : Layout Position
-positionsLayout = record { header = 1; width = 5; most = 1024; get = positionAt; put = positionCells }
+positionsLayout = record { header = 1; width = 7; most = 1024; get = positionAt; put = positionCells }
 
 -- "cell 0 the count, room at most 1,024"
 abbrev pub processesLayout : Layout ProcessRow

@@ -60,7 +60,7 @@ tradePlan id account series side quantity price greatest p =
     (record {
       changed = [];
       added = newRecord id (tradeKind error) account series side quantity price long short ∷ [];
-      positions = moved p (inBooked long short) ∷ [];
+      positions = moved p (inBooked side quantity price long short) ∷ [];
       process = none;
       reply = tradeReply error (quantity -ℤ c);
     })

@@ -28,8 +28,8 @@ inLong side amount = cond (isBuy side) amount (pos 0)
 unfoldable pub inShort : ℤ → ℤ → ℤ
 inShort side amount = cond (isBuy side) (pos 0) amount
 
-abbrev pub inSide : ℤ → ℤ → Movement
-inSide side amount = inBooked (inLong side amount) (inShort side amount)
+abbrev pub inSide : (side amount price : ℤ) → Movement
+inSide side amount price = inBooked side amount price (inLong side amount) (inShort side amount)
 
 -- 12: "old account's long (buy) or short (sell) below q"
 unfoldable pub holdsTooLittle : Record → Position → Bool
@@ -47,8 +47,8 @@ transferEffects inverseKind newKind r next to old new =
           ∷ adjustableRecord r (next +ℤ pos 1) newKind to q (inLong (r .side) q) (inShort (r .side) q)
           ∷ [];
       positions =
-          moved old (inSide (r .side) (negℤ q))
-          ∷ moved new (inSide (r .side) q)
+          moved old (inSide (r .side) (negℤ q) (r .price))
+          ∷ moved new (inSide (r .side) q (r .price))
           ∷ [];
       process = none;
       reply = Booked (pos 2) (pos 0);

@@ -9,7 +9,7 @@ pub const MOST_RECORDS: usize = 4096;
 
 pub const POSITIONS_HEADER: usize = 1;
 
-pub const POSITION_WIDTH: usize = 5;
+pub const POSITION_WIDTH: usize = 7;
 
 pub const MOST_POSITIONS: usize = 1024;
 

@@ -30,6 +30,9 @@ pub struct Position {
     pub long: i64,
     pub short: i64,
     pub cash: i64,
+    // The signed quantity of its records of status 0 or 3, and that times the price (document 02, K7).
+    pub quantity: i64,
+    pub value: i64,
 }
 
 // A row of the process table: one give-up. Its key is the process id, then the id of the transaction that it names.
@@ -93,6 +96,8 @@ pub struct Movement {
     pub long: i64,
     pub short: i64,
     pub cash: i64,
+    pub quantity: i64,
+    pub value: i64,
 }
 
 // The answer to a request.

@@ -41,6 +41,8 @@ pub fn position_at(cells: &[i64], at: usize) -> Position
         long: cells[at + 2],
         short: cells[at + 3],
         cash: cells[at + 4],
+        quantity: cells[at + 5],
+        value: cells[at + 6],
     }
 }
 
@@ -84,7 +86,15 @@ pub fn record_cells(r: Record) -> [i64; RECORD_WIDTH]
 pub fn position_cells(p: Position) -> [i64; POSITION_WIDTH]
     ensures { λ c. ⌜ c ≡ positionCells p ⌝ }
 {
-    [p.account, p.series, p.long, p.short, p.cash]
+    [
+        p.account,
+        p.series,
+        p.long,
+        p.short,
+        p.cash,
+        p.quantity,
+        p.value,
+    ]
 }
 
 pub fn process_cells(r: ProcessRow) -> [i64; PROCESS_WIDTH]

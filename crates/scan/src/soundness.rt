@@ -100,7 +100,13 @@ pub fn sound_position(p: Position) -> bool
     if !figures::in_range(0, 1_000_000_000_000, p.short) {
         return false;
     }
-    figures::in_range(-1_000_000_000_000_000, 1_000_000_000_000_000, p.cash)
+    if !figures::in_range(-1_000_000_000_000_000, 1_000_000_000_000_000, p.cash) {
+        return false;
+    }
+    if !figures::valid_total(p.quantity) {
+        return false;
+    }
+    figures::valid_total(p.value)
 }
 
 pub fn sound_process(r: ProcessRow) -> bool

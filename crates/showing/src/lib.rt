@@ -1,6 +1,9 @@
 // Prints requests, answers and tables, for the programs that run worked figures through the calls. No promise: the kit's io says nothing of what was written.
 use libc::STDOUT_FILENO;
 use rules::Reply;
+use rules::layout::POSITION_WIDTH;
+use rules::layout::PROCESS_WIDTH;
+use rules::layout::RECORD_WIDTH;
 ghost use mathlib.Core.Path.{_≡_};
 ghost use Prim.Native.Nat.{ℕ, _<_, _≤_};
 ghost use lib.IntN.{pos};
@@ -20,7 +23,9 @@ pub fn legend() {
 pub fn tables_legend() {
     printing::text(b"records: count | id | suffix | parent | type | status | account | series");
     printing::line(b" | side code | quantity | price | long booked | short booked | into |");
-    printing::line(b"positions: count | account | series | long | short | cash |");
+    printing::line(
+        b"positions: count | account | series | long | short | cash | quantity | value |",
+    );
 }
 
 pub fn processes_legend() {
@@ -189,12 +194,12 @@ fn table(cells: &[i64], width: usize) {
 
 pub fn tables(records: &[i64], positions: &[i64]) {
     printing::text(b"records: ");
-    table(records, 13);
+    table(records, RECORD_WIDTH);
     printing::text(b"positions: ");
-    table(positions, 5);
+    table(positions, POSITION_WIDTH);
 }
 
 pub fn processes(cells: &[i64]) {
     printing::text(b"processes: ");
-    table(cells, 9);
+    table(cells, PROCESS_WIDTH);
 }

@@ -1,4 +1,5 @@
 pub mod Accepted
+pub mod SoundPosition
 pub mod ReadPosition
 pub mod SoundRecord
 pub mod FigureRanges

@@ -16,7 +16,7 @@ use Rattle.integers.proofs.Linear.{zarith, +-lin}
 use Rattle.integers.proofs.AverageLaws.{average-bound}
 use Rattle.rules.specs.Figures.{validId, validAccount, validSeries, validCount, mostQuantity, mergeKind}
 use Rattle.rules.specs.Keyed.{Key, isSome, find, greatest}
-use Rattle.rules.specs.Rows.{recordKey, positionKey, newRecord, inCash, moved, soundRecord, validInto}
+use Rattle.rules.specs.Rows.{recordKey, positionKey, newRecord, byResidual, moved, soundRecord, validInto}
 use Rattle.rules.specs.Refusal.{allOf, anyOf}
 use Rattle.rules.specs.Request.{merge}
 use Rattle.rules.specs.Books.{Books, viewOf}
@@ -106,7 +106,7 @@ merge-facts b sound id account series pairs accepted =
       added-distinct = distinct-last inverses merged (inverses-differ b id [] ks n) (inverses-apart b id id (p .id-is-new) [] ks n);
       added-sound = allOf-append soundRecord inverses (merged ∷ []) (inverses-sound b id (into-valid id i) [] ks n (anyOf-first suffixIsAbove inverses (merged ∷ []) a))
           (allOf-intro (soundRecord merged) [] (merged-sound b id ks n (sources-several id account series pairs (p .figures)) i (p .sum-small)) allOf-nil);
-      positions-distinct = distinct-intro positionKey (moved (readAt account series (b .positions)) (inCash (mergeResidual (recordsAt b ks)))) [] allOf-nil (distinct-nil positionKey);
+      positions-distinct = distinct-intro positionKey (moved (readAt account series (b .positions)) (byResidual (mergeResidual (recordsAt b ks)))) [] allOf-nil (distinct-nil positionKey);
       process-kept = tt;
       answered = ap pos (omega (arith, inverses-count b id [] ks, length-append inverses (merged ∷ [])));
     }

@@ -8,7 +8,7 @@ use lib.IntN.{ℤ}
 use Rattle.integers.specs.Order.{inRange}
 use Rattle.rules.specs.Figures.{magnitudeAtMost}
 use Rattle.rules.specs.Keyed.{Key, find, upsert, upsertAll}
-use Rattle.rules.specs.Rows.{keyOf, positionKey, orZeros, zeroPosition, soundPosition}
+use Rattle.rules.specs.Rows.{keyOf, positionKey, orZeros, zeroPosition, validTotal, soundPosition}
 use Rattle.rules.specs.Refusal.{allOf}
 use Rattle.rules.specs.declared.Position.{Position}
 use Rattle.keys.proofs.Split.{Found, absent, present, found}
@@ -28,7 +28,7 @@ read-key account series t = go (found (find positionKey (keyOf account series) t
     go (present x f) = ap (λ (o : Option Position). positionKey (orZeros account series o)) f ∙ find-key positionKey (keyOf account series) t x f
 
 pub read-sound : (account series : ℤ) (t : List Position) → allOf (map soundPosition t) ≡ true → soundPosition (readAt account series t) ≡ true
-unfolding orZeros zeroPosition soundPosition inRange magnitudeAtMost
+unfolding orZeros zeroPosition soundPosition inRange magnitudeAtMost validTotal
 read-sound account series t h = go (found (find positionKey (keyOf account series) t))
   where
     go : Found (find positionKey (keyOf account series) t) → soundPosition (readAt account series t) ≡ true

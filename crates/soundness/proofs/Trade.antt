@@ -10,7 +10,6 @@ use lib.IntN.{ℤ, pos, negℤ, _-ℤ_}
 use lib.Signed.{leZ, _≤ℤ_}
 use Rattle.integers.specs.Order.{eqZ}
 use Rattle.integers.proofs.Linear.{zarith, neg-lin, minus-lin}
-use Rattle.integers.proofs.Order.{inRange-true}
 use Rattle.rules.specs.Figures.{validId, validAccount, validSeries, validSide, validQuantity, validPrice, isBuy, isToClose, mostQuantity}
 use Rattle.rules.specs.Keyed.{greatest}
 use Rattle.rules.specs.Rows.{recordKey, positionKey, newRecord, inBooked, moved, soundRecord, soundPosition, validKind, validBooked}
@@ -28,6 +27,7 @@ use Rattle.keys.proofs.Counts.{isSome-absent, distinct-nil, distinct-intro, lac
 use Rattle.soundness.specs.SoundBooks.{SoundBooks, planOn, Accepts}
 use Rattle.soundness.specs.RowsAnswered.{rowsAnswered}
 use Rattle.soundness.proofs.Accepted.{own-passed, both}
+use Rattle.soundness.proofs.SoundPosition.{figures-positive}
 use Rattle.soundness.proofs.ReadPosition.{readAt, read-sound}
 use Rattle.soundness.proofs.FigureRanges.{quantity-range, in-booked}
 use Rattle.soundness.proofs.SoundRows.{new-sound}
@@ -66,13 +66,10 @@ trade-passed b id account series side quantity price accepted =
 
 -- ---- what it books
 
--- The figures of a sound position are not negative.
+-- What is open against a trade is not negative.
 open-positive : (side : ℤ) (p : Position) → soundPosition p ≡ true → pos 0 ≤ℤ openAgainst side p
-unfolding openAgainst soundPosition
-open-positive side p h =
-    let f1 = both _ _ h in
-    let f2 = both _ _ (f1 .0) in
-    go (inRange-true (pos 0) (pos 1000000000000) (p .long) (f2 .0) .0) (inRange-true (pos 0) (pos 1000000000000) (p .short) (f2 .1) .0) (split (isBuy side))
+unfolding openAgainst
+open-positive side p h = go (figures-positive p h .0) (figures-positive p h .1) (split (isBuy side))
   where
     go : pos 0 ≤ℤ p .long → pos 0 ≤ℤ p .short → (isBuy side ≡ true) ⊎ (isBuy side ≡ false) → pos 0 ≤ℤ cond (isBuy side) (p .short) (p .long)
     go l s (inl e) = rw e s
@@ -152,7 +149,7 @@ trade-facts b sound id account series side quantity price accepted =
           (new-sound id (tradeKind error) account series side quantity price long short (p .id-valid) (kind-valid error) (p .account-valid) (p .series-valid) (p .side-valid)
           (q .0) (q .1) (p .price-valid) (long-booked side quantity c (closed .0) (closed .1) (q .1)) (short-booked side quantity c (closed .0) (closed .1) (q .1)))
           allOf-nil;
-      positions-distinct = distinct-intro positionKey (moved old (inBooked long short)) [] allOf-nil (distinct-nil positionKey);
+      positions-distinct = distinct-intro positionKey (moved old (inBooked side quantity price long short)) [] allOf-nil (distinct-nil positionKey);
       process-kept = tt;
       answered = one-row error (quantity -ℤ c);
     }

@@ -128,8 +128,8 @@ transfer-effects-facts b id suffix from to series inverseKind newKind n inverse-
           newKind to q (inLong (r .side) q) (inShort (r .side) q) new-valid to-valid low high (long-booked (r .side) q back) (short-booked (r .side) q back))
           allOf-nil);
       positions-distinct = positions-differ
-          (moved (readAt from series (b .positions)) (inSide (r .side) (negℤ q)))
-          (moved (readAt to series (b .positions)) (inSide (r .side) q))
+          (moved (readAt from series (b .positions)) (inSide (r .side) (negℤ q) (r .price)))
+          (moved (readAt to series (b .positions)) (inSide (r .side) q (r .price)))
           from to series accounts-differ (read-key from series (b .positions)) (read-key to series (b .positions));
       process-kept = tt;
       answered = refl;

@@ -61,6 +61,8 @@ pub fn read_position(cells: &[i64], found: Found, account: i64, series: i64) -> 
             long: 0,
             short: 0,
             cash: 0,
+            quantity: 0,
+            value: 0,
         },
     }
 }

@@ -99,6 +99,8 @@ pub fn position(
     long: i64,
     short: i64,
     cash: i64,
+    quantity: i64,
+    value: i64,
 ) -> bool {
     let p = Position {
         account,
@@ -106,6 +108,8 @@ pub fn position(
         long,
         short,
         cash,
+        quantity,
+        value,
     };
     if !scanned::positions_sound(cells) {
         return false;

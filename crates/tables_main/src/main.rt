@@ -85,15 +85,16 @@ fn full_room() {
     printing::value(b"past the room: ", cells[53_249]);
 }
 
-// Positions: made where absent, written anew where present.
+// Positions: made where absent, written anew where present; a total out of range is refused.
 fn few_positions() {
     printing::line(b"positions, room for two");
-    let mut cells = [-1; 13];
+    let mut cells = [-1; 17];
     cells[0] = 0;
-    add::tell(add::position(&mut cells, 2, 1, 100, 0, 0));
-    add::tell(add::position(&mut cells, 1, 1, 0, 7, -3));
-    add::tell(add::position(&mut cells, 2, 1, 90, 5, 2));
-    add::tell(add::position(&mut cells, 3, 1, 0, 0, 0));
+    add::tell(add::position(&mut cells, 2, 1, 100, 0, 0, 100, 500));
+    add::tell(add::position(&mut cells, 1, 1, 0, 7, -3, -7, 4_000_000_000_000_000_000));
+    add::tell(add::position(&mut cells, 2, 1, 90, 5, 2, 4_000_000_000_000_000_001, 0));
+    add::tell(add::position(&mut cells, 2, 1, 90, 5, 2, 85, -600));
+    add::tell(add::position(&mut cells, 3, 1, 0, 0, 0, 0, 0));
     printing::cells(&cells);
 }
 

@@ -1,6 +1,6 @@
 -- What a trade closes and books, by its side, in the shape in which the code returns it; the ranges of what it opens and undoes; and the position that it leaves.
 -- By the definitions. Assumes nothing.
-use mathlib.Core.Path.{_≡_, refl}
+use mathlib.Core.Path.{_≡_}
 use mathlib.Core.Bool.{Bool, true, false, _&&_}
 use mathlib.Core.List.{List}
 use lib.IntN.{ℤ, pos, negℤ, _-ℤ_}
@@ -30,6 +30,12 @@ unfolding tradeFigures
 figures-quantity id account series side quantity price h =
     let first : Bool = validId id && validAccount account && validSeries series && validSide side in
     and-right first (validQuantity quantity) (and-left (first && validQuantity quantity) (validPrice price) h)
+
+-- Figures that pass test 3 have a price in range.
+pub figures-price : (id account series side quantity price : ℤ) → tradeFigures id account series side quantity price ≡ true → validPrice price ≡ true
+unfolding tradeFigures
+figures-price id account series side quantity price h =
+    and-right (validId id && validAccount account && validSeries series && validSide side && validQuantity quantity) (validPrice price) h
 
 -- ---- what is closed
 
@@ -71,12 +77,14 @@ module _ (side quantity : ℤ) (p : Position) where
   negated : (pos 0 -ℤ c) ≡ negℤ c
   negated = omega (zarith, minus-lin (pos 0) c, neg-lin c)
 
-  module _ (error : Bool) (told : error ≡ isClosingError side quantity c) where
-    pub booking-buy : isBuy side ≡ true → _≡_ {A = Booking} (record { closed = c; movement = inBooked (quantity -ℤ c) (pos 0 -ℤ c); error = error }) (bookingOf side quantity p)
+  module _ (price : ℤ) (error : Bool) (told : error ≡ isClosingError side quantity c) where
+    pub booking-buy : isBuy side ≡ true →
+        _≡_ {A = Booking} (record { closed = c; movement = inBooked side quantity price (quantity -ℤ c) (pos 0 -ℤ c); error = error }) (bookingOf side quantity price p)
     unfolding bookingOf longBooked shortBooked
     booking-buy h = rw (h, told, negated)
 
-    pub booking-sell : isBuy side ≡ false → _≡_ {A = Booking} (record { closed = c; movement = inBooked (pos 0 -ℤ c) (quantity -ℤ c); error = error }) (bookingOf side quantity p)
+    pub booking-sell : isBuy side ≡ false →
+        _≡_ {A = Booking} (record { closed = c; movement = inBooked side quantity price (pos 0 -ℤ c) (quantity -ℤ c); error = error }) (bookingOf side quantity price p)
     unfolding bookingOf longBooked shortBooked
     booking-sell h = rw (h, told, negated)
 
@@ -95,19 +103,19 @@ module _ (side quantity : ℤ) (p : Position) where
         let most : quantity ≤ℤ pos mostQuantity = quantity-range quantity valid .1 in
         omega (zarith, minus-lin (pos 0) c)
 
-    pub booking-moves : (b : Booking) → b ≡ bookingOf side quantity p → MovedReady p (b .movement)
+    pub booking-moves : (price : ℤ) → validPrice price ≡ true → (b : Booking) → b ≡ bookingOf side quantity price p → MovedReady p (b .movement)
     unfolding bookingOf
-    booking-moves b e = rw e (trade-moves side quantity p sound valid)
+    booking-moves price price-valid b e = rw e (trade-moves side quantity p sound valid price price-valid)
 
 -- ---- of the position that is read
 
-module _ (ps : List ℤ) (account series side quantity : ℤ) where
-  module _ (p : Position) (b : Booking) (e : p ≡ positionRead ps account series) (f : b ≡ bookingOf side quantity p) where
+module _ (ps : List ℤ) (account series side quantity price : ℤ) where
+  module _ (p : Position) (b : Booking) (e : p ≡ positionRead ps account series) (f : b ≡ bookingOf side quantity price p) where
     pub closed-is : b .closed ≡ tradeClosed ps account series side quantity
     unfolding bookingOf
     closed-is = rw (f, e)
 
-    pub movement-is : b .movement ≡ tradeMovement ps account series side quantity
+    pub movement-is : b .movement ≡ tradeMovement ps account series side quantity price
     unfolding bookingOf
     movement-is = rw (f, e)
 
@@ -115,15 +123,15 @@ module _ (ps : List ℤ) (account series side quantity : ℤ) where
     unfolding bookingOf
     error-is = rw (f, e)
 
-    pub moved-is : moved p (b .movement) ≡ tradePosition ps account series side quantity
+    pub moved-is : moved p (b .movement) ≡ tradePosition ps account series side quantity price
     unfolding bookingOf
     moved-is = rw (f, e)
 
-  pub after-is : (p : Position) → p ≡ positionRead ps account series → positionAfter side quantity p ≡ tradePosition ps account series side quantity
+  pub after-is : (p : Position) → p ≡ positionRead ps account series → positionAfter side quantity price p ≡ tradePosition ps account series side quantity price
   unfolding positionAfter bookingOf
   after-is p e = rw e
 
   -- The position that is left has the account and series that were named.
-  pub left-key : positionKey (tradePosition ps account series side quantity) ≡ keyOf account series
+  pub left-key : positionKey (tradePosition ps account series side quantity price) ≡ keyOf account series
   unfolding moved
   left-key = read-key account series (rowsOf positionsLayout ps)

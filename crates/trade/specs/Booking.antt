@@ -5,14 +5,14 @@ use Rattle.rules.specs.Trade.{closedBy, longBooked, shortBooked, isClosingError
 use Rattle.rules.specs.declared.Position.{Position}
 use Rattle.trade.specs.declared.Booking.{Booking}
 
-unfoldable pub bookingOf : ℤ → ℤ → Position → Booking
-bookingOf side quantity p =
+unfoldable pub bookingOf : (side quantity price : ℤ) → Position → Booking
+bookingOf side quantity price p =
     let c : ℤ = closedBy side quantity p in
     record {
       closed = c;
-      movement = inBooked (longBooked side quantity c) (shortBooked side quantity c);
+      movement = inBooked side quantity price (longBooked side quantity c) (shortBooked side quantity c);
       error = isClosingError side quantity c;
     }
 
-unfoldable pub positionAfter : ℤ → ℤ → Position → Position
-positionAfter side quantity p = moved p (bookingOf side quantity p .movement)
+unfoldable pub positionAfter : (side quantity price : ℤ) → Position → Position
+positionAfter side quantity price p = moved p (bookingOf side quantity price p .movement)

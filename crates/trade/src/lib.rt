@@ -14,7 +14,7 @@ ghost use mathlib.Core.Path.{_≡_};
 ghost use mathlib.Core.Bool.{true};
 ghost use mathlib.Core.Option.{none};
 ghost use lib.IntN.{pos};
-ghost use Rattle.rules.specs.Figures.{validQuantity};
+ghost use Rattle.rules.specs.Figures.{validQuantity, validPrice};
 ghost use Rattle.rules.specs.Keyed.{greatest};
 ghost use Rattle.rules.specs.Rows.{keyOf, recordKey, soundPosition};
 ghost use Rattle.rules.specs.Layout.{rowsOf};
@@ -79,9 +79,9 @@ fn closed_by(side: i64, quantity: i64, p: Position) -> i64
     if quantity <= open { quantity } else { open }
 }
 
-fn booking_of(side: i64, quantity: i64, p: Position) -> Booking
-    requires { ⌜ (validQuantity quantity ≡ true) × (soundPosition p ≡ true) ⌝ }
-    ensures { λ r. ⌜ r ≡ bookingOf side quantity p ⌝ }
+fn booking_of(side: i64, quantity: i64, price: i64, p: Position) -> Booking
+    requires { ⌜ (validQuantity quantity ≡ true) × (soundPosition p ≡ true) × (validPrice price ≡ true) ⌝ }
+    ensures { λ r. ⌜ r ≡ bookingOf side quantity price p ⌝ }
 {
     let closed = closed_by(side, quantity, p);
     let opened = quantity - closed;
@@ -91,34 +91,28 @@ fn booking_of(side: i64, quantity: i64, p: Position) -> Booking
         error = closed < quantity;
     }
     if figures::is_buy(side) {
+        let movement = requests::in_booked(side, quantity, price, opened, undone);
         Booking {
             closed,
-            movement: Movement {
-                long: opened,
-                short: undone,
-                cash: 0,
-            },
+            movement,
             error,
         }
     } else {
+        let movement = requests::in_booked(side, quantity, price, undone, opened);
         Booking {
             closed,
-            movement: Movement {
-                long: undone,
-                short: opened,
-                cash: 0,
-            },
+            movement,
             error,
         }
     }
 }
 
 // The position as the trade will leave it.
-fn position_after(side: i64, quantity: i64, p: Position) -> Position
-    requires { ⌜ (validQuantity quantity ≡ true) × (soundPosition p ≡ true) ⌝ }
-    ensures { λ r. ⌜ r ≡ positionAfter side quantity p ⌝ }
+fn position_after(side: i64, quantity: i64, price: i64, p: Position) -> Position
+    requires { ⌜ (validQuantity quantity ≡ true) × (soundPosition p ≡ true) × (validPrice price ≡ true) ⌝ }
+    ensures { λ r. ⌜ r ≡ positionAfter side quantity price p ⌝ }
 {
-    let b = booking_of(side, quantity, p);
+    let b = booking_of(side, quantity, price, p);
     requests::moved(p, b.movement)
 }
 
@@ -145,7 +139,7 @@ fn verdict(
     if requests::lacks_positions_room(positions, absent) {
         return Verdict::Refused(15, 0);
     }
-    let left = position_after(side, quantity, held.position);
+    let left = position_after(side, quantity, price, held.position);
     if !scan::soundness::sound_position(left) {
         return Verdict::Refused(16, 0);
     }
@@ -170,7 +164,7 @@ fn book(
 {
     let found = held.found;
     let p = held.position;
-    let b = booking_of(side, quantity, p);
+    let b = booking_of(side, quantity, price, p);
     let m = b.movement;
     let mut kind = ORIGINAL;
     if b.error {

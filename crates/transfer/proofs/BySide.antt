@@ -5,19 +5,26 @@ use mathlib.Core.Bool.{true, false}
 use lib.IntN.{ℤ, pos}
 use lib.Signed.{ltZ}
 use Rattle.rules.specs.Figures.{isBuy}
-use Rattle.rules.specs.Rows.{inBooked}
-use Rattle.rules.specs.Transfer.{inLong, inShort, inSide, holdsTooLittle}
+use Rattle.rules.specs.Transfer.{inLong, inShort, holdsTooLittle}
 use Rattle.rules.specs.declared.Record.{Record}
 use Rattle.rules.specs.declared.Position.{Position}
 
 module _ (side amount : ℤ) where
-  pub in-buy : isBuy side ≡ true → inBooked amount (pos 0) ≡ inSide side amount
-  unfolding inLong inShort
-  in-buy e = rw e
+  pub long-bought : isBuy side ≡ true → amount ≡ inLong side amount
+  unfolding inLong
+  long-bought e = rw e
 
-  pub in-sell : isBuy side ≡ false → inBooked (pos 0) amount ≡ inSide side amount
-  unfolding inLong inShort
-  in-sell e = rw e
+  pub long-sold : isBuy side ≡ false → pos 0 ≡ inLong side amount
+  unfolding inLong
+  long-sold e = rw e
+
+  pub short-bought : isBuy side ≡ true → pos 0 ≡ inShort side amount
+  unfolding inShort
+  short-bought e = rw e
+
+  pub short-sold : isBuy side ≡ false → amount ≡ inShort side amount
+  unfolding inShort
+  short-sold e = rw e
 
 module _ (r : Record) (p : Position) where
   pub holds-buy : isBuy (r .side) ≡ true → ltZ (p .long) (r .quantity) ≡ holdsTooLittle r p

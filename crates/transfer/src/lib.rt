@@ -2,7 +2,6 @@
 use lookup::Sought;
 use requests::Held;
 use requests::Named;
-use rules::Movement;
 use rules::Position;
 use rules::Record;
 use rules::Reply;
@@ -15,7 +14,7 @@ use verdict::Verdict;
 ghost use mathlib.Core.Path.{_≡_};
 ghost use mathlib.Core.Bool.{true};
 ghost use lib.IntN.{pos, negℤ};
-ghost use Rattle.rules.specs.Figures.{magnitudeAtMost};
+ghost use Rattle.rules.specs.Figures.{magnitudeAtMost, validPrice};
 ghost use Rattle.rules.specs.Rows.{soundPosition, moved, inverseRecord, adjustableRecord};
 ghost use Rattle.rules.specs.Request as Request;
 ghost use Rattle.rules.specs.Tables.{soundRecords, soundPositions};
@@ -51,22 +50,16 @@ pub fn figures_valid(id: i64, suffix: i64, from: i64, to: i64, series: i64) -> b
 }
 
 // An amount in the long of a buy, in the short of a sell.
-fn in_side(side: i64, amount: i64) -> Movement
-    ensures { λ r. ⌜ r ≡ inSide side amount ⌝ }
+fn in_long(side: i64, amount: i64) -> i64
+    ensures { λ r. ⌜ r ≡ inLong side amount ⌝ }
 {
-    if figures::is_buy(side) {
-        Movement {
-            long: amount,
-            short: 0,
-            cash: 0,
-        }
-    } else {
-        Movement {
-            long: 0,
-            short: amount,
-            cash: 0,
-        }
-    }
+    if figures::is_buy(side) { amount } else { 0 }
+}
+
+fn in_short(side: i64, amount: i64) -> i64
+    ensures { λ r. ⌜ r ≡ inShort side amount ⌝ }
+{
+    if figures::is_buy(side) { 0 } else { amount }
 }
 
 // 12: the old account's long (buy) or short (sell) is below the quantity.
@@ -79,27 +72,29 @@ fn holds_too_little(r: Record, p: Position) -> bool
     p.short < r.quantity
 }
 
-// A position with an amount more in the side's figure.
-fn shifted(p: Position, side: i64, amount: i64) -> Position
-    requires { ⌜ (soundPosition p ≡ true) × (magnitudeAtMost 1000000 amount ≡ true) ⌝ }
-    ensures { λ r. ⌜ r ≡ moved p (inSide side amount) ⌝ }
+// A position with an amount more in the side's figure, and in the totals.
+fn shifted(p: Position, side: i64, amount: i64, price: i64) -> Position
+    requires { ⌜ (soundPosition p ≡ true) × (magnitudeAtMost 1000000 amount ≡ true) × (validPrice price ≡ true) ⌝ }
+    ensures { λ r. ⌜ r ≡ moved p (inSide side amount price) ⌝ }
 {
-    requests::moved(p, in_side(side, amount))
+    let long = in_long(side, amount);
+    let short = in_short(side, amount);
+    requests::moved(p, requests::in_booked(side, amount, price, long, short))
 }
 
 // The old account's position without the record's quantity, and the new account's with it.
 fn taken_from(p: Position, r: Record) -> Position
-    requires { ⌜ (soundPosition p ≡ true) × (magnitudeAtMost 1000000 (r .quantity) ≡ true) ⌝ }
-    ensures { λ s. ⌜ s ≡ moved p (inSide (r .side) (negℤ (r .quantity))) ⌝ }
+    requires { ⌜ (soundPosition p ≡ true) × (magnitudeAtMost 1000000 (r .quantity) ≡ true) × (validPrice (r .price) ≡ true) ⌝ }
+    ensures { λ s. ⌜ s ≡ moved p (inSide (r .side) (negℤ (r .quantity)) (r .price)) ⌝ }
 {
-    shifted(p, r.side, -r.quantity)
+    shifted(p, r.side, -r.quantity, r.price)
 }
 
 fn given_to(p: Position, r: Record) -> Position
-    requires { ⌜ (soundPosition p ≡ true) × (magnitudeAtMost 1000000 (r .quantity) ≡ true) ⌝ }
-    ensures { λ s. ⌜ s ≡ moved p (inSide (r .side) (r .quantity)) ⌝ }
+    requires { ⌜ (soundPosition p ≡ true) × (magnitudeAtMost 1000000 (r .quantity) ≡ true) × (validPrice (r .price) ≡ true) ⌝ }
+    ensures { λ s. ⌜ s ≡ moved p (inSide (r .side) (r .quantity) (r .price)) ⌝ }
 {
-    shifted(p, r.side, r.quantity)
+    shifted(p, r.side, r.quantity, r.price)
 }
 
 // The inverse row in the old account, and the row that arrives in the new one, each of a type.
@@ -107,15 +102,18 @@ pub fn inverse_row(r: Record, next: i64, kind: i64) -> Record
     requires { ⌜ magnitudeAtMost 1000000 (r .quantity) ≡ true ⌝ }
     ensures { λ s. ⌜ s ≡ inverseRecord r next kind (inLong (r .side) (negℤ (r .quantity))) (inShort (r .side) (negℤ (r .quantity))) (pos 0) ⌝ }
 {
-    let m = in_side(r.side, -r.quantity);
-    requests::inverse_record(r, next, kind, m.long, m.short, 0)
+    let left = -r.quantity;
+    let long = in_long(r.side, left);
+    let short = in_short(r.side, left);
+    requests::inverse_record(r, next, kind, long, short, 0)
 }
 
 pub fn arrived_row(r: Record, suffix: i64, to: i64, kind: i64) -> Record
     ensures { λ s. ⌜ s ≡ adjustableRecord r suffix kind to (r .quantity) (inLong (r .side) (r .quantity)) (inShort (r .side) (r .quantity)) ⌝ }
 {
-    let m = in_side(r.side, r.quantity);
-    requests::adjustable_record(r, suffix, kind, to, r.quantity, m.long, m.short)
+    let long = in_long(r.side, r.quantity);
+    let short = in_short(r.side, r.quantity);
+    requests::adjustable_record(r, suffix, kind, to, r.quantity, long, short)
 }
 
 // Tests 6 to 8, of the record that was found; then those of the positions.

@@ -39,10 +39,10 @@ movingRows inverseKind newKind r next to = adjustedRecord r ∷ movingInverse in
 
 -- The positions that it leaves: the old account's and the new one's.
 abbrev pub movingOld : List ℤ → Record → ℤ → ℤ → Position
-movingOld ps r from series = moved (positionRead ps from series) (inSide (r .side) (negℤ (r .quantity)))
+movingOld ps r from series = moved (positionRead ps from series) (inSide (r .side) (negℤ (r .quantity)) (r .price))
 
 abbrev pub movingNew : List ℤ → Record → ℤ → ℤ → Position
-movingNew ps r to series = moved (positionRead ps to series) (inSide (r .side) (r .quantity))
+movingNew ps r to series = moved (positionRead ps to series) (inSide (r .side) (r .quantity) (r .price))
 
 module _ (rs ps : List ℤ) (id from to series : ℤ) (r : Record) where
   abbrev next : ℤ

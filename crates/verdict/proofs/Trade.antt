@@ -39,11 +39,11 @@ module _ (ps : List ℤ) (account series side quantity : ℤ) where
   abbrev pub tradeError : Bool
   tradeError = isClosingError side quantity tradeClosed
 
-  abbrev pub tradeMovement : Movement
-  tradeMovement = inBooked tradeLong tradeShort
+  abbrev pub tradeMovement : ℤ → Movement
+  tradeMovement price = inBooked side quantity price tradeLong tradeShort
 
-  abbrev pub tradePosition : Position
-  tradePosition = moved (positionRead ps account series) tradeMovement
+  abbrev pub tradePosition : ℤ → Position
+  tradePosition price = moved (positionRead ps account series) (tradeMovement price)
 
   abbrev pub tradeRow : ℤ → ℤ → Record
   tradeRow id price = newRecord id (tradeKind tradeError) account series side quantity price tradeLong tradeShort
@@ -57,7 +57,7 @@ module _ (rs ps : List ℤ) (id account series side quantity price : ℤ) where
       ∷ row 4 (isSome (greatest recordKey id (rowsOf recordsLayout rs)))
       ∷ row 14 (ltb (roomOf recordsLayout rs) (length (rowsOf recordsLayout rs) + 1))
       ∷ row 15 (ltb (roomOf positionsLayout ps) (length (rowsOf positionsLayout ps) + absentPosition ps account series))
-      ∷ row 16 (not (soundPosition (tradePosition ps account series side quantity)))
+      ∷ row 16 (not (soundPosition (tradePosition ps account series side quantity price)))
       ∷ []
 
   -- The verdict is that of the tests from number n on.
@@ -74,7 +74,7 @@ module _ (rs ps : List ℤ) (id account series side quantity price : ℤ) where
   recordsAfter = write recordsLayout rs (upsert recordKey (tradeRow ps account series side quantity id price) (rowsOf recordsLayout rs))
 
   abbrev positionsAfter : List ℤ
-  positionsAfter = write positionsLayout ps (upsert positionKey (tradePosition ps account series side quantity) (rowsOf positionsLayout ps))
+  positionsAfter = write positionsLayout ps (upsert positionKey (tradePosition ps account series side quantity price) (rowsOf positionsLayout ps))
 
   pub trade-booked : acceptedOn rs ps (trade id account series side quantity price)
       ≡ answered (tradeReply (tradeError ps account series side quantity) (quantity -ℤ tradeClosed ps account series side quantity)) recordsAfter positionsAfter

@@ -4,7 +4,7 @@ use mathlib.Core.Path.{_≡_, sym, _∙_, ap}
 use mathlib.Core.Bool.{Bool, true, false}
 use mathlib.Core.List.{List, [], _∷_}
 use lib.IntN.{ℤ, pos, _-ℤ_}
-use Rattle.rules.specs.Figures.{validQuantity, originalKind, closingErrorKind}
+use Rattle.rules.specs.Figures.{validQuantity, validPrice, originalKind, closingErrorKind}
 use Rattle.rules.specs.Rows.{recordKey, positionKey, newRecord}
 use Rattle.rules.specs.Request.{trade}
 use Rattle.rules.specs.Books.{viewOf}
@@ -35,10 +35,14 @@ module _ (rs ps : List ℤ) (id account series side quantity price : ℤ)
   trade-quantity =
       trade-passed (booksOf (tablesOf rs ps)) id account series side quantity price (accepted-accepts rs ps (trade id account series side quantity price) accepted) .quantity-valid
 
-  pub trade-moved : MovedReady (positionRead ps account series) (tradeMovement ps account series side quantity)
-  trade-moved = trade-moves side quantity (positionRead ps account series) (position-read-sound ps positions-sound account series) trade-quantity
+  pub trade-price : validPrice price ≡ true
+  trade-price =
+      trade-passed (booksOf (tablesOf rs ps)) id account series side quantity price (accepted-accepts rs ps (trade id account series side quantity price) accepted) .price-valid
 
-  pub trade-ready : Ready rs ps [] (tradeRow ps account series side quantity id price ∷ []) (tradePosition ps account series side quantity ∷ [])
+  pub trade-moved : MovedReady (positionRead ps account series) (tradeMovement ps account series side quantity price)
+  trade-moved = trade-moves side quantity (positionRead ps account series) (position-read-sound ps positions-sound account series) trade-quantity price trade-price
+
+  pub trade-ready : Ready rs ps [] (tradeRow ps account series side quantity id price ∷ []) (tradePosition ps account series side quantity price ∷ [])
   unfolding planOf tradePlan viewOf booksOf
   trade-ready =
       let a : Accepts (booksOf (tablesOf rs ps)) (trade id account series side quantity price) = accepted-accepts rs ps (trade id account series side quantity price) accepted in
@@ -46,19 +50,19 @@ module _ (rs ps : List ℤ) (id account series side quantity price : ℤ)
 
   pub trade-insert : InsertReady rs (tradeRow ps account series side quantity id price)
   trade-insert =
-      insert-ready rs ps [] [] [] (tradeRow ps account series side quantity id price) (tradePosition ps account series side quantity ∷ []) trade-ready records-sound
+      insert-ready rs ps [] [] [] (tradeRow ps account series side quantity id price) (tradePosition ps account series side quantity price ∷ []) trade-ready records-sound
       rs (put-none recordsLayout recordKey records-lawful rs (records-known rs records-sound .count-sound)) records-sound
 
-  pub trade-put : PutReady ps (tradePosition ps account series side quantity)
+  pub trade-put : PutReady ps (tradePosition ps account series side quantity price)
   trade-put =
-      put-ready rs ps [] (tradeRow ps account series side quantity id price ∷ []) [] [] (tradePosition ps account series side quantity) trade-ready positions-sound
+      put-ready rs ps [] (tradeRow ps account series side quantity id price ∷ []) [] [] (tradePosition ps account series side quantity price) trade-ready positions-sound
       ps (put-none positionsLayout positionKey positions-lawful ps (positions-known ps positions-sound .count-sound)) positions-sound
 
 -- ---- what it comes to
 
 module _ (rs ps : List ℤ) (id account series side quantity price : ℤ) (rs₁ ps₁ : List ℤ)
     (e : rs₁ ≡ putOne recordsLayout recordKey rs (tradeRow ps account series side quantity id price))
-    (f : ps₁ ≡ putOne positionsLayout positionKey ps (tradePosition ps account series side quantity)) where
+    (f : ps₁ ≡ putOne positionsLayout positionKey ps (tradePosition ps account series side quantity price)) where
   pub trade-returns-error : tradeError ps account series side quantity ≡ true
       → answered (ClosingError (quantity -ℤ tradeClosed ps account series side quantity)) rs₁ ps₁ ≡ acceptedOn rs ps (trade id account series side quantity price)
   trade-returns-error b =

@@ -25,7 +25,7 @@ sixOf id acc ser side qty price = id ∷ acc ∷ ser ∷ side ∷ qty ∷ price 
 
 -- Long 100, short 120, as in P1.
 abbrev pub start : Tables
-start = tablesOf (table 0 [] 39) (table 1 (position (pos 1) (pos 1) (pos 100) (pos 120) (pos 0) ∷ []) 5)
+start = tablesOf (table 0 [] 39) (table 1 (position (pos 1) (pos 1) (pos 100) (pos 120) (pos 0) (pos 0) (pos 0) ∷ []) 7)
 
 -- P1's buy close 150 with excess 30, then a sell open.
 abbrev pub firstTwo : List (List ℤ)
@@ -38,7 +38,7 @@ finish = tablesOf
     ∷ row (pos 8) (pos 0) (pos 0) (pos 0) (pos 0) (pos 2) (pos 1) (pos 2) (pos 10) (pos 6) (pos 0) (pos 10) (pos 0)
     ∷ [])
     13)
-    (table 2 (position (pos 1) (pos 1) (pos 130) (pos 0) (pos 0) ∷ position (pos 2) (pos 1) (pos 0) (pos 10) (pos 0) ∷ []) 0)
+    (table 2 (position (pos 1) (pos 1) (pos 130) (pos 0) (pos 0) (pos 150) (pos 750) ∷ position (pos 2) (pos 1) (pos 0) (pos 10) (pos 0) (minus 10) (minus 60) ∷ []) 0)
 
 -- All booked.
 abbrev pub booked : Batch

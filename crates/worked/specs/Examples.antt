@@ -4,7 +4,7 @@
 use Prim.Native.Nat.{ℕ}
 use mathlib.Core.List.{List, [], _∷_, _++_, map}
 use lib.ListN.{replicate}
-use lib.IntN.{ℤ, pos, negℤ, _+ℤ_}
+use lib.IntN.{ℤ, pos, negℤ, _+ℤ_, _-ℤ_, _*ℤ_}
 use Rattle.rules.specs.Request.{Request, trade, separate, transfer, merge}
 use Rattle.rules.specs.Tables.{Tables, tablesOf}
 use Rattle.rules.specs.Call.{one}
@@ -28,13 +28,13 @@ stated e = record { replies = e .replies; tables = e .finish }
 abbrev pub minus : ℕ → ℤ
 minus n = negℤ (pos n)
 
--- A records row of 13 cells and a positions row of 5, for a row count, and for cells that hold no row.
+-- A records row of 13 cells and a positions row of 7, for a row count, and for cells that hold no row.
 abbrev pub row : (id suf par type st acc ser side qty price long short into : ℤ) → List ℤ
 row id suf par type st acc ser side qty price long short into =
     id ∷ suf ∷ par ∷ type ∷ st ∷ acc ∷ ser ∷ side ∷ qty ∷ price ∷ long ∷ short ∷ into ∷ []
 
-abbrev pub position : (acc ser long short cash : ℤ) → List ℤ
-position acc ser long short cash = acc ∷ ser ∷ long ∷ short ∷ cash ∷ []
+abbrev pub position : (acc ser long short cash qty value : ℤ) → List ℤ
+position acc ser long short cash qty value = acc ∷ ser ∷ long ∷ short ∷ cash ∷ qty ∷ value ∷ []
 
 abbrev pub joined : List (List ℤ) → List ℤ
 joined [] = []
@@ -47,57 +47,60 @@ table count rows unused = pos count ∷ joined rows ++ replicate unused (minus 1
 -- Long 100, short 120, buy close 150: books +30 and -120, type 10, excess 30.
 abbrev pub P1 : Example
 P1 = record {
-  start = tablesOf (table 0 [] 26) (table 1 (position (pos 1) (pos 1) (pos 100) (pos 120) (pos 0) ∷ []) 5);
+  start = tablesOf (table 0 [] 26) (table 1 (position (pos 1) (pos 1) (pos 100) (pos 120) (pos 0) (pos 0) (pos 0) ∷ []) 7);
   requests = trade (pos 7) (pos 1) (pos 1) (pos 3) (pos 150) (pos 5) ∷ [];
   replies = ClosingError (pos 30) ∷ [];
   finish = tablesOf
       (table 1 (row (pos 7) (pos 0) (pos 0) (pos 10) (pos 0) (pos 1) (pos 1) (pos 3) (pos 150) (pos 5) (pos 30) (minus 120) (pos 0) ∷ []) 13)
-      (table 1 (position (pos 1) (pos 1) (pos 130) (pos 0) (pos 0) ∷ []) 5);
+      (table 1 (position (pos 1) (pos 1) (pos 130) (pos 0) (pos 0) (pos 150) (pos 750) ∷ []) 7);
 }
 
 -- No short open, buy close 100: long +100, type 10, excess 100.
 abbrev pub P2 : Example
 P2 = record {
-  start = tablesOf (table 0 [] 26) (table 0 [] 10);
+  start = tablesOf (table 0 [] 26) (table 0 [] 14);
   requests = trade (pos 7) (pos 1) (pos 1) (pos 3) (pos 100) (pos 5) ∷ [];
   replies = ClosingError (pos 100) ∷ [];
   finish = tablesOf
       (table 1 (row (pos 7) (pos 0) (pos 0) (pos 10) (pos 0) (pos 1) (pos 1) (pos 3) (pos 100) (pos 5) (pos 100) (pos 0) (pos 0) ∷ []) 13)
-      (table 1 (position (pos 1) (pos 1) (pos 100) (pos 0) (pos 0) ∷ []) 5);
+      (table 1 (position (pos 1) (pos 1) (pos 100) (pos 0) (pos 0) (pos 100) (pos 500) ∷ []) 7);
 }
 
 -- Short 120, buy close 120: type 0, no excess.
 abbrev pub P3 : Example
 P3 = record {
-  start = tablesOf (table 0 [] 26) (table 1 (position (pos 1) (pos 1) (pos 0) (pos 120) (pos 0) ∷ []) 5);
+  start = tablesOf (table 0 [] 26) (table 1 (position (pos 1) (pos 1) (pos 0) (pos 120) (pos 0) (pos 0) (pos 0) ∷ []) 7);
   requests = trade (pos 7) (pos 1) (pos 1) (pos 3) (pos 120) (pos 5) ∷ [];
   replies = Booked (pos 1) (pos 0) ∷ [];
   finish = tablesOf
       (table 1 (row (pos 7) (pos 0) (pos 0) (pos 0) (pos 0) (pos 1) (pos 1) (pos 3) (pos 120) (pos 5) (pos 0) (minus 120) (pos 0) ∷ []) 13)
-      (table 1 (position (pos 1) (pos 1) (pos 0) (pos 0) (pos 0) ∷ []) 5);
+      (table 1 (position (pos 1) (pos 1) (pos 0) (pos 0) (pos 0) (pos 120) (pos 600) ∷ []) 7);
 }
 
--- Two trades to open, 1 and 2, of a side, merged into 3: `long` and `short` are what each trade books, `average` and `residual` what the paper gives.
+-- Two trades to open, 1 and 2, of a side, merged into 3: `long` and `short` are what each trade books, `average` and `residual` what the paper gives. The merged record alone is left to hold: the totals
+-- are its signed quantity, and that times its price (document 02, K7).
 abbrev pub mergeOfTwo : (side q1 p1 q2 p2 long1 short1 long2 short2 average residual : ℤ) → Example
-mergeOfTwo side q1 p1 q2 p2 long1 short1 long2 short2 average residual = record {
-  start = tablesOf (table 0 [] 78) (table 0 [] 5);
-  requests =
-      trade (pos 1) (pos 4) (pos 9) side q1 p1
-      ∷ trade (pos 2) (pos 4) (pos 9) side q2 p2
-      ∷ merge (pos 3) (pos 4) (pos 9) (pos 1 ∷ pos 0 ∷ pos 2 ∷ pos 0 ∷ [])
-      ∷ [];
-  replies = Booked (pos 1) (pos 0) ∷ Booked (pos 1) (pos 0) ∷ Booked (pos 3) residual ∷ [];
-  finish = tablesOf
-      (table 5
-      (row (pos 1) (pos 0) (pos 0) (pos 0) (pos 1) (pos 4) (pos 9) side q1 p1 long1 short1 (pos 0)
-      ∷ row (pos 1) (pos 1) (pos 0) (pos 901) (pos 2) (pos 4) (pos 9) side (negℤ q1) p1 (pos 0) (pos 0) (pos 3)
-      ∷ row (pos 2) (pos 0) (pos 0) (pos 0) (pos 1) (pos 4) (pos 9) side q2 p2 long2 short2 (pos 0)
-      ∷ row (pos 2) (pos 1) (pos 0) (pos 901) (pos 2) (pos 4) (pos 9) side (negℤ q2) p2 (pos 0) (pos 0) (pos 3)
-      ∷ row (pos 3) (pos 0) (pos 0) (pos 901) (pos 0) (pos 4) (pos 9) side (q1 +ℤ q2) average (pos 0) (pos 0) (pos 0)
-      ∷ [])
-      13)
-      (table 1 (position (pos 4) (pos 9) (long1 +ℤ long2) (short1 +ℤ short2) residual ∷ []) 0);
-}
+mergeOfTwo side q1 p1 q2 p2 long1 short1 long2 short2 average residual =
+    let held : ℤ = (long1 +ℤ long2) -ℤ (short1 +ℤ short2) in
+    record {
+      start = tablesOf (table 0 [] 78) (table 0 [] 7);
+      requests =
+          trade (pos 1) (pos 4) (pos 9) side q1 p1
+          ∷ trade (pos 2) (pos 4) (pos 9) side q2 p2
+          ∷ merge (pos 3) (pos 4) (pos 9) (pos 1 ∷ pos 0 ∷ pos 2 ∷ pos 0 ∷ [])
+          ∷ [];
+      replies = Booked (pos 1) (pos 0) ∷ Booked (pos 1) (pos 0) ∷ Booked (pos 3) residual ∷ [];
+      finish = tablesOf
+          (table 5
+          (row (pos 1) (pos 0) (pos 0) (pos 0) (pos 1) (pos 4) (pos 9) side q1 p1 long1 short1 (pos 0)
+          ∷ row (pos 1) (pos 1) (pos 0) (pos 901) (pos 2) (pos 4) (pos 9) side (negℤ q1) p1 (pos 0) (pos 0) (pos 3)
+          ∷ row (pos 2) (pos 0) (pos 0) (pos 0) (pos 1) (pos 4) (pos 9) side q2 p2 long2 short2 (pos 0)
+          ∷ row (pos 2) (pos 1) (pos 0) (pos 901) (pos 2) (pos 4) (pos 9) side (negℤ q2) p2 (pos 0) (pos 0) (pos 3)
+          ∷ row (pos 3) (pos 0) (pos 0) (pos 901) (pos 0) (pos 4) (pos 9) side (q1 +ℤ q2) average (pos 0) (pos 0) (pos 0)
+          ∷ [])
+          13)
+          (table 1 (position (pos 4) (pos 9) (long1 +ℤ long2) (short1 +ℤ short2) residual held (held *ℤ average) ∷ []) 0);
+    }
 
 -- Buys 2 at 10,000,000 and 1 at 10,000,001: average 10,000,000, residual -1.
 abbrev pub P4 : Example
@@ -117,10 +120,10 @@ P6 = mergeOfTwo (pos 1) (pos 1) (minus 1) (pos 1) (pos 0) (pos 1) (pos 0) (pos 1
 -- One trade of a quantity, and one more request.
 abbrev pub tradeThen : ℤ → Request → Reply → List ℤ → Example
 tradeThen quantity request reply records = record {
-  start = tablesOf (table 0 [] 65) (table 0 [] 5);
+  start = tablesOf (table 0 [] 65) (table 0 [] 7);
   requests = trade (pos 8) (pos 1) (pos 1) (pos 1) quantity (pos 5) ∷ request ∷ [];
   replies = Booked (pos 1) (pos 0) ∷ reply ∷ [];
-  finish = tablesOf records (table 1 (position (pos 1) (pos 1) quantity (pos 0) (pos 0) ∷ []) 0);
+  finish = tablesOf records (table 1 (position (pos 1) (pos 1) quantity (pos 0) (pos 0) quantity (quantity *ℤ pos 5) ∷ []) 0);
 }
 
 -- The records table with that trade alone.
@@ -157,10 +160,10 @@ P10 =
     tradeThen (pos 100) (merge (pos 9) (pos 1) (pos 1) (pos 8 ∷ pos 0 ∷ pos 8 ∷ pos 0 ∷ []))
     (Refused (pos 9) (pos 1)) (tradeAlone (pos 100))
 
--- Trade 456789, buy open 100 at 1,250,000,000, account 1, series 1; transfer suffix 0 to account 2; separate suffix 2 into 50, 25, 25.
+-- Trade 456789, buy open 100 at 1,250,000,000, account 1, series 1; transfer suffix 0 to account 2; separate suffix 2 into 50, 25, 25. Document 02, K7: "P11's rows then end 0, 0 and 100, 125,000,000,000."
 abbrev pub P11 : Example
 P11 = record {
-  start = tablesOf (table 0 [] 104) (table 0 [] 15);
+  start = tablesOf (table 0 [] 104) (table 0 [] 21);
   requests =
       trade (pos 456789) (pos 1) (pos 1) (pos 1) (pos 100) (pos 1250000000)
       ∷ transfer (pos 456789) (pos 0) (pos 1) (pos 2) (pos 1)
@@ -178,7 +181,7 @@ P11 = record {
       ∷ row (pos 456789) (pos 6) (pos 2) (pos 6) (pos 0) (pos 2) (pos 1) (pos 1) (pos 25) (pos 1250000000) (pos 0) (pos 0) (pos 0)
       ∷ [])
       13)
-      (table 2 (position (pos 1) (pos 1) (pos 0) (pos 0) (pos 0) ∷ position (pos 2) (pos 1) (pos 100) (pos 0) (pos 0) ∷ []) 5);
+      (table 2 (position (pos 1) (pos 1) (pos 0) (pos 0) (pos 0) (pos 0) (pos 0) ∷ position (pos 2) (pos 1) (pos 100) (pos 0) (pos 0) (pos 100) (pos 125000000000) ∷ []) 7);
 }
 
 -- The table.

@@ -1,7 +1,6 @@
 -- Give-ups (document 02, K3) as a table, like that of document 01's figures: one from its opening to the booked rows, one that the taker refuses, one that is cancelled, and steps that are
 -- refused on the way. Trade 456789 of P11, given up from account 1 to account 2 by process 77.
-use Prim.Native.Nat.{ℕ}
-use mathlib.Core.List.{List, [], _∷_, _++_, map}
+use mathlib.Core.List.{List, [], _∷_}
 use lib.IntN.{ℤ, pos}
 use Rattle.rules.specs.Request.{Request, trade, separate, giveUp}
 use Rattle.rules.specs.Tables.{Tables, allTables}
@@ -25,7 +24,7 @@ step s = giveUp s (pos 77) (pos 456789) (pos 0) (pos 1) (pos 2) (pos 1)
 
 -- Room for three records, two positions and two processes.
 abbrev pub start : Tables
-start = allTables (table 0 [] 39) (table 0 [] 10) (table 0 [] 18)
+start = allTables (table 0 [] 39) (table 0 [] 14) (table 0 [] 18)
 
 -- The trade's row in a status, and the process row with its approvals and stage.
 abbrev pub tradeRow : ℤ → List ℤ
@@ -46,7 +45,7 @@ afterOpening requests replies finish = record {
 -- Ended without booking: the record is adjustable again.
 abbrev pub ended : ℤ → Tables
 ended stage =
-    allTables (table 1 (tradeRow (pos 0) ∷ []) 26) (table 1 (position (pos 1) (pos 1) (pos 100) (pos 0) (pos 0) ∷ []) 5) (table 1 (processRow (pos 0) (pos 0) stage ∷ []) 9)
+    allTables (table 1 (tradeRow (pos 0) ∷ []) 26) (table 1 (position (pos 1) (pos 1) (pos 100) (pos 0) (pos 0) (pos 100) (pos 125000000000) ∷ []) 7) (table 1 (processRow (pos 0) (pos 0) stage ∷ []) 9)
 
 -- The giver's clearing member approves while it is pending, the taker claims, and the taker's clearing member approves: before the claim that is refused 18. Meanwhile the record
 -- can't be separated (17).
@@ -62,7 +61,7 @@ booked =
     ∷ row (pos 456789) (pos 2) (pos 0) (pos 30) (pos 0) (pos 2) (pos 1) (pos 1) (pos 100) (pos 1250000000) (pos 100) (pos 0) (pos 0)
     ∷ [])
     0)
-    (table 2 (position (pos 1) (pos 1) (pos 0) (pos 0) (pos 0) ∷ position (pos 2) (pos 1) (pos 100) (pos 0) (pos 0) ∷ []) 0)
+    (table 2 (position (pos 1) (pos 1) (pos 0) (pos 0) (pos 0) (pos 0) (pos 0) ∷ position (pos 2) (pos 1) (pos 100) (pos 0) (pos 0) (pos 100) (pos 125000000000) ∷ []) 0)
     (table 1 (processRow (pos 1) (pos 1) (pos 0) ∷ []) 9))
 
 -- The taker refuses; a claim afterwards is out of turn.

@@ -9,14 +9,14 @@ use Rattle.worked.specs.Examples.{Example, minus, mergeOfTwo, row, posit
 -- Quantity 1,000,000 is accepted.
 abbrev pub mostAccepted : Example
 mostAccepted = record {
-  start = tablesOf (table 0 [] 13) (table 0 [] 5);
+  start = tablesOf (table 0 [] 13) (table 0 [] 7);
   requests = trade (pos 7) (pos 1) (pos 1) (pos 2) (pos 1000000) (minus 1000000000000) ∷ [];
   replies = Booked (pos 1) (pos 0) ∷ [];
   finish = tablesOf
       (table 1
       (row (pos 7) (pos 0) (pos 0) (pos 0) (pos 0) (pos 1) (pos 1) (pos 2) (pos 1000000) (minus 1000000000000) (pos 0) (pos 1000000) (pos 0) ∷ [])
       0)
-      (table 1 (position (pos 1) (pos 1) (pos 0) (pos 1000000) (pos 0) ∷ []) 0);
+      (table 1 (position (pos 1) (pos 1) (pos 0) (pos 1000000) (pos 0) (minus 1000000) (pos 1000000000000000000) ∷ []) 0);
 }
 
 -- A request that is refused and leaves the tables as they are.
@@ -30,7 +30,7 @@ refusedOn records positions request number place = record {
 
 -- 1,000,001 is refused 3.
 abbrev pub moreRefused : Example
-moreRefused = refusedOn (table 0 [] 13) (table 0 [] 5) (trade (pos 7) (pos 1) (pos 1) (pos 1) (pos 1000001) (pos 5)) (pos 3) (pos 0)
+moreRefused = refusedOn (table 0 [] 13) (table 0 [] 7) (trade (pos 7) (pos 1) (pos 1) (pos 1) (pos 1000001) (pos 5)) (pos 3) (pos 0)
 
 -- An empty slice: 1.
 abbrev pub emptySlice : Example
@@ -67,7 +67,7 @@ mergedBefore = record {
       ∷ row (pos 3) (pos 0) (pos 0) (pos 901) (pos 0) (pos 4) (pos 9) (pos 1) (pos 2) (pos 0) (pos 0) (pos 0) (pos 0)
       ∷ [])
       78)
-      (table 1 (position (pos 4) (pos 9) (pos 2) (pos 0) (pos 1) ∷ []) 5);
+      (table 1 (position (pos 4) (pos 9) (pos 2) (pos 0) (pos 1) (pos 2) (pos 0) ∷ []) 7);
   requests =
       transfer (pos 3) (pos 0) (pos 4) (pos 5) (pos 9)
       ∷ trade (pos 4) (pos 5) (pos 9) (pos 1) (pos 2) (minus 1)
@@ -90,14 +90,14 @@ mergedBefore = record {
       ∷ row (pos 6) (pos 0) (pos 0) (pos 901) (pos 0) (pos 5) (pos 9) (pos 1) (pos 4) (minus 1) (pos 0) (pos 0) (pos 0)
       ∷ [])
       0)
-      (table 2 (position (pos 4) (pos 9) (pos 0) (pos 0) (pos 1) ∷ position (pos 5) (pos 9) (pos 4) (pos 0) (minus 2) ∷ []) 0);
+      (table 2 (position (pos 4) (pos 9) (pos 0) (pos 0) (pos 1) (pos 0) (pos 0) ∷ position (pos 5) (pos 9) (pos 4) (pos 0) (minus 2) (pos 4) (minus 4) ∷ []) 0);
 }
 
 -- "two sources share an id": 5/2 and 5/3 are the parts of 5/0, and their inverses take the next two suffixes, 4 and 5. The lineage of the
 -- second part has one link; that of a suffix which the id does not have is refused 5.
 abbrev pub sharedId : Example
 sharedId = record {
-  start = tablesOf (table 0 [] 91) (table 0 [] 5);
+  start = tablesOf (table 0 [] 91) (table 0 [] 7);
   requests =
       trade (pos 5) (pos 1) (pos 1) (pos 1) (pos 4) (minus 1)
       ∷ separate (pos 5) (pos 0) (pos 1) (pos 1) (pos 3 ∷ pos 1 ∷ [])
@@ -117,7 +117,7 @@ sharedId = record {
       ∷ row (pos 6) (pos 0) (pos 0) (pos 901) (pos 0) (pos 1) (pos 1) (pos 1) (pos 4) (minus 1) (pos 0) (pos 0) (pos 0)
       ∷ [])
       0)
-      (table 1 (position (pos 1) (pos 1) (pos 4) (pos 0) (pos 0) ∷ []) 0);
+      (table 1 (position (pos 1) (pos 1) (pos 4) (pos 0) (pos 0) (pos 4) (minus 4) ∷ []) 0);
 }
 
 abbrev pub others : List Example

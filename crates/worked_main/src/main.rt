@@ -14,7 +14,7 @@ fn closing(name: &[u8], positions: &mut [i64], quantity: i64) {
 // Two trades to open, of a side, and their merge.
 fn merging(name: &[u8], side: i64, q1: i64, p1: i64, q2: i64, p2: i64) {
     let mut records = [-1; 79];
-    let mut positions = [-1; 6];
+    let mut positions = [-1; 8];
     records[0] = 0;
     positions[0] = 0;
     showing::start(name, &records, &positions);
@@ -26,7 +26,7 @@ fn merging(name: &[u8], side: i64, q1: i64, p1: i64, q2: i64, p2: i64) {
 // A trade, then its separation.
 fn separating(name: &[u8], quantity: i64, parts: &[i64]) {
     let mut records = [-1; 66];
-    let mut positions = [-1; 6];
+    let mut positions = [-1; 8];
     records[0] = 0;
     positions[0] = 0;
     showing::start(name, &records, &positions);
@@ -37,7 +37,7 @@ fn separating(name: &[u8], quantity: i64, parts: &[i64]) {
 // The same pair twice.
 fn p10() {
     let mut records = [-1; 66];
-    let mut positions = [-1; 6];
+    let mut positions = [-1; 8];
     records[0] = 0;
     positions[0] = 0;
     showing::start(b"P10", &records, &positions);
@@ -48,7 +48,7 @@ fn p10() {
 fn p11() {
     let id = 456_789;
     let mut records = [-1; 105];
-    let mut positions = [-1; 16];
+    let mut positions = [-1; 22];
     records[0] = 0;
     positions[0] = 0;
     showing::start(b"P11", &records, &positions);
@@ -69,7 +69,7 @@ fn p11() {
 // One trade on tables with room for its rows.
 fn trading(name: &[u8], side: i64, quantity: i64, price: i64) {
     let mut records = [-1; 14];
-    let mut positions = [-1; 6];
+    let mut positions = [-1; 8];
     records[0] = 0;
     positions[0] = 0;
     showing::start(name, &records, &positions);
@@ -84,7 +84,7 @@ fn without_room(name: &[u8], records: &mut [i64], positions: &mut [i64]) {
 
 fn shared_id() {
     let mut records = [-1; 92];
-    let mut positions = [-1; 6];
+    let mut positions = [-1; 8];
     records[0] = 0;
     positions[0] = 0;
     showing::start(
@@ -102,7 +102,7 @@ fn shared_id() {
 // P6 as document 01's rule booked it, at 0 with a residual of 1; then the merged record is transferred, and merged with a trade.
 fn merged_before() {
     let mut records = [-1; 144];
-    let mut positions = [-1; 11];
+    let mut positions = [-1; 15];
     records[0] = 0;
     positions[0] = 0;
     book::trade(&mut records, &mut positions, 1, 4, 9, 1, 1, -1);
@@ -110,6 +110,7 @@ fn merged_before() {
     book::merge(&mut records, &mut positions, 3, 4, 9, &[1, 0, 2, 0]);
     records[62] = 0;
     positions[5] = 1;
+    positions[7] = 0;
     showing::start(b"A record merged before, at 0", &records, &positions);
     calls::transfer(&mut records, &mut positions, 3, 0, 4, 5, 9);
     calls::trade(&mut records, &mut positions, 4, 5, 9, 1, 2, -1);
@@ -119,9 +120,9 @@ fn merged_before() {
 
 // The figures to be proved, P1 to P11.
 fn proved() {
-    let mut both = [1, 1, 1, 100, 120, 0, -1, -1, -1, -1, -1];
-    let mut none = [0, -1, -1, -1, -1, -1, -1, -1, -1, -1, -1];
-    let mut short = [1, 1, 1, 0, 120, 0, -1, -1, -1, -1, -1];
+    let mut both = [1, 1, 1, 100, 120, 0, 0, 0, -1, -1, -1, -1, -1, -1, -1];
+    let mut none = [0, -1, -1, -1, -1, -1, -1, -1, -1, -1, -1, -1, -1, -1, -1];
+    let mut short = [1, 1, 1, 0, 120, 0, 0, 0, -1, -1, -1, -1, -1, -1, -1];
     closing(b"P1", &mut both, 150);
     closing(b"P2", &mut none, 100);
     closing(b"P3", &mut short, 120);
@@ -161,7 +162,7 @@ fn others() {
 // A batch of trades, with P1's position at the start.
 fn batch(name: &[u8], figures: &[i64], excess: &mut [i64]) {
     let mut records = [-1; 40];
-    let mut positions = [1, 1, 1, 100, 120, 0, -1, -1, -1, -1, -1];
+    let mut positions = [1, 1, 1, 100, 120, 0, 0, 0, -1, -1, -1, -1, -1, -1, -1];
     records[0] = 0;
     showing::start(name, &records, &positions);
     calls::trades(&mut records, &mut positions, figures, excess);

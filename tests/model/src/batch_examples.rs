@@ -7,7 +7,7 @@ fn handle(records: &mut [i64], positions: &mut [i64], request: &Request) -> Answ
 }
 
 fn tables() -> (Vec<i64>, Vec<i64>) {
-    (std::iter::once(0).chain(vec![-7; 3 * 13]).collect(), std::iter::once(0).chain(vec![-7; 2 * 5]).collect())
+    (std::iter::once(0).chain(vec![-7; 3 * 13]).collect(), std::iter::once(0).chain(vec![-7; 2 * 7]).collect())
 }
 
 fn batch(trades: &[[i64; 6]], cells: usize) -> Request {
@@ -25,8 +25,8 @@ fn all_booked() {
     assert_eq!(answer, Answer { reply: Reply::Booked { rows: 2, residual: 0 }, output: vec![0, 20] });
     let rows = [[10, 0, 0, 10, 0, 1, 1, 4, 60, 5, -40, 20, 0], [30, 0, 0, 0, 0, 1, 1, 1, 40, 5, 40, 0, 0]];
     assert_eq!(records[..27], [vec![2], rows.concat()].concat());
-    assert_eq!(positions[..6], [1, 1, 1, 0, 20, 0]);
-    assert!(records[27..].iter().chain(&positions[6..]).all(|cell| *cell == -7));
+    assert_eq!(positions[..8], [1, 1, 1, 0, 20, 0, -20, -100]);
+    assert!(records[27..].iter().chain(&positions[8..]).all(|cell| *cell == -7));
 }
 
 #[test]

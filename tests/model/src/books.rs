@@ -24,6 +24,9 @@ pub struct Position {
     pub long: i64,
     pub short: i64,
     pub cash: i64,
+    /// Document 02, K7: the two totals.
+    pub quantity: i64,
+    pub value: i64,
 }
 
 /// Document 02, K3: how far a give-up has come.
@@ -53,6 +56,10 @@ pub type Records = BTreeMap<(i64, i64), Record>;
 pub type Positions = BTreeMap<(i64, i64), Position>;
 pub type Processes = BTreeMap<i64, Process>;
 
+/// For each account and series that has a record of status 0 or 3, "the signed quantity and signed quantity times price over its records of status 0 or 3"
+/// (document 02, K7).
+pub type Sums = BTreeMap<(i64, i64), [i128; 2]>;
+
 #[derive(Clone, Debug, Default)]
 pub struct Books {
     pub records: Records,
@@ -71,6 +78,11 @@ impl Record {
 
     pub fn is_to_close(&self) -> bool {
         self.side == 3 || self.side == 4
+    }
+
+    /// "buys plus, sells minus"
+    fn signed_quantity(&self) -> i128 {
+        i128::from(if self.is_buy() { self.quantity } else { -self.quantity })
     }
 }
 
@@ -96,5 +108,30 @@ impl Books {
         row.long += long;
         row.short += short;
         row.cash += cash;
+    }
+
+    pub fn sums(&self) -> Sums {
+        let mut sums = Sums::new();
+        for record in self.records.values().filter(|record| matches!(record.status, 0 | 3)) {
+            let sum = sums.entry((record.account, record.series)).or_default();
+            sum[0] += record.signed_quantity();
+            sum[1] += record.signed_quantity() * i128::from(record.price);
+        }
+        sums
+    }
+
+    /// K7: "Every request adds to the stored figures what it changes in these sums, so true ones stay true". Given are the sums before the request.
+    pub fn add_the_change(&mut self, before: Sums) {
+        let mut change = self.sums();
+        for (key, [quantity, value]) in before {
+            let sum = change.entry(key).or_default();
+            sum[0] -= quantity;
+            sum[1] -= value;
+        }
+        for (key, [quantity, value]) in change.into_iter().filter(|(_, sum)| *sum != [0, 0]) {
+            let row = self.positions.get_mut(&key).expect("a position whose sums change is one that the request needs");
+            row.quantity += quantity as i64;
+            row.value += value as i64;
+        }
     }
 }

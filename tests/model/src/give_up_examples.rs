@@ -16,7 +16,7 @@ fn cells(rows: usize, width: usize) -> Vec<i64> {
 
 impl Book {
     fn new() -> Book {
-        let mut book = Book { records: cells(5, 13), positions: cells(2, 5), processes: cells(2, 9) };
+        let mut book = Book { records: cells(5, 13), positions: cells(2, 7), processes: cells(2, 9) };
         for (id, side) in [(7, 1), (8, 2)] {
             assert_eq!(book.ask(&Request::Trade { id, account: 1, series: 1, side, quantity: 100, price: 5 }), booked(1));
         }
@@ -71,7 +71,7 @@ fn from_the_opening_to_the_booked_rows() {
             [-7; 13],
         ];
         assert_eq!(book.records, [vec![4], rows.concat()].concat());
-        assert_eq!(book.positions, [2, 1, 1, 0, 100, 0, 2, 1, 100, 0, 0]);
+        assert_eq!(book.positions, [2, 1, 1, 0, 100, 0, -100, -500, 2, 1, 100, 0, 0, 100, 500]);
         assert_eq!(book.processes, [&[1, 9, 7, 0, 1, 2, 1, 1, 1, 0], [-7; 9].as_slice()].concat());
         // Nothing follows the end; the row in the new account can be given up in its turn.
         assert_eq!(book.steps(&[Claim, Cancel, Refuse, ApproveGiver, ApproveTaker, Open]), [refused(18); 6]);
@@ -182,10 +182,10 @@ fn what_the_completing_call_needs() {
             (book.records[0], book.records[15]) = (3, 65_534);
         }),
         (14, |book| book.records.truncate(1 + 3 * 13 + 12)),
-        (15, |book| book.positions.truncate(1 + 5 + 4)),
+        (15, |book| book.positions.truncate(1 + 7 + 6)),
         (16, |book| {
             book.positions[0] = 2;
-            book.positions[6..11].copy_from_slice(&[2, 1, 999_999_999_901, 0, 0]);
+            book.positions[8..15].copy_from_slice(&[2, 1, 999_999_999_901, 0, 0, 0, 0]);
         }),
     ];
     for (number, change) in changes {

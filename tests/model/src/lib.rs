@@ -68,4 +68,6 @@ mod give_up_examples;
 #[cfg(test)]
 mod journal_examples;
 #[cfg(test)]
+mod totals_examples;
+#[cfg(test)]
 mod worked_examples;

@@ -93,18 +93,23 @@ fn ensure_each<T>(list: &[T], number: i64, mut holds: impl FnMut(usize, &T) -> b
 
 /// The tests of a request that books, from 3 on, and its booking. The caller drops the books of a refused one.
 pub fn book(books: &mut Books, request: &Request) -> Result<Answer, Refusal> {
+    if let Request::Trades { figures, cells } = request {
+        return batch::trades(books, figures, *cells);
+    }
+    let sums = books.sums();
     let reply = match request {
         Request::Trade { id, account, series, side, quantity, price } => trade(books, *id, *account, *series, *side, *quantity, *price)?,
         Request::Separate { id, suffix, account, series, parts } => separate(books, *id, *suffix, *account, *series, parts)?,
         Request::Transfer { id, suffix, from, to, series } => transfer(books, *id, *suffix, *from, *to, *series)?,
         Request::Merge { id, account, series, pairs } => merge(books, *id, *account, *series, pairs)?,
         Request::Lineage { id, suffix } => lineage(&books.records, *id, *suffix)?,
-        Request::Trades { figures, cells } => return batch::trades(books, figures, *cells),
         Request::GiveUp { step, process, id, suffix, giving, taking, series } => {
             give_up::give_up(books, *step, *process, *id, *suffix, *giving, *taking, *series)?
         }
-        Request::Replay { .. } => unreachable!("the lines of a text are handed in one by one"),
+        Request::Trades { .. } | Request::Replay { .. } => unreachable!("its trades or lines are handed in one by one"),
     };
+    books.add_the_change(sums);
+    fits(books)?;
     Ok(reply.into())
 }
 
@@ -134,7 +139,6 @@ fn trade(books: &mut Books, id: i64, account: i64, series: i64, side: i64, quant
     let kind = if excess > 0 { 10 } else { 0 };
     books.records.insert((id, 0), Record { parent: 0, kind, status: 0, account, series, side, quantity, price, long, short, into: 0 });
     books.move_position(account, series, long, short, 0);
-    fits(books)?;
     Ok(if excess > 0 { Reply::ClosingError { excess } } else { Reply::Booked { rows: 1, residual: 0 } })
 }
 
@@ -151,7 +155,6 @@ fn separate(books: &mut Books, id: i64, suffix: i64, account: i64, series: i64, 
     for &part in parts {
         append(books, id, Record { status: 0, quantity: part, ..row.clone() });
     }
-    fits(books)?;
     Ok(Reply::Booked { rows: 1 + parts.len() as i64, residual: 0 })
 }
 
@@ -163,7 +166,7 @@ fn transfer(books: &mut Books, id: i64, suffix: i64, from: i64, to: i64, series:
     change_account(books, (id, suffix), named, to, [4, 4])
 }
 
-/// Tests 12 to 16 of a record that goes to another account, and its booking: an inverse row in the old account and an adjustable row in the new, of these
+/// Tests 12 and 13 of a record that goes to another account, and its booking: an inverse row in the old account and an adjustable row in the new, of these
 /// types.
 pub fn change_account(books: &mut Books, (id, suffix): (i64, i64), named: Record, to: i64, kinds: [i64; 2]) -> Result<Reply, Refusal> {
     let (q, from, series) = (named.quantity, named.account, named.series);
@@ -178,7 +181,6 @@ pub fn change_account(books: &mut Books, (id, suffix): (i64, i64), named: Record
     append(books, id, Record { kind: kinds[1], status: 0, account: to, long, short, ..row });
     books.move_position(from, series, -long, -short, 0);
     books.move_position(to, series, long, short, 0);
-    fits(books)?;
     Ok(Reply::Booked { rows: 2, residual: 0 })
 }
 
@@ -214,7 +216,6 @@ fn merge(books: &mut Books, new: i64, account: i64, series: i64, pairs: &[i64]) 
     let merged = Record { parent: 0, kind: 901, status: 0, quantity, price: average as i64, long: 0, short: 0, into: 0, ..rows[0].clone() };
     books.records.insert((new, 0), merged);
     books.move_position(account, series, 0, 0, residual);
-    fits(books)?;
     Ok(Reply::Booked { rows: sources.len() as i64 + 1, residual })
 }
 
@@ -274,7 +275,7 @@ fn append(books: &mut Books, id: i64, row: Record) {
     books.records.insert((id, suffix), row);
 }
 
-/// Tests 14 to 16, on the books as they would be.
+/// Tests 14 to 16, on the books as they would be "after the whole request" (K7). A step that adds no row passes them.
 fn fits(books: &Books) -> Result<(), Refusal> {
     ensure(books.records.len() <= books.records_room, 14)?;
     ensure(books.positions.len() <= books.positions_room, 15)?;

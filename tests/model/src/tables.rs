@@ -1,10 +1,10 @@
-//! Document 01, "The two tables", and the process table of document 02, K3: how rows lie in the lent cells, and when a table is sound.
+//! Document 01, "The two tables", with the totals of document 02, K7, and the process table of K3: how rows lie in the lent cells, and when a table is sound.
 
 use crate::books::{Position, Positions, Process, Processes, Record, Records, Stage};
 use std::ops::RangeInclusive;
 
 pub const RECORD_CELLS: usize = 13;
-pub const POSITION_CELLS: usize = 5;
+pub const POSITION_CELLS: usize = 7;
 pub const PROCESS_CELLS: usize = 9;
 const MOST_RECORDS: usize = 4_096;
 const MOST_POSITIONS: usize = 1_024;
@@ -19,6 +19,8 @@ pub const PRICES: RangeInclusive<i64> = -1_000_000_000_000..=1_000_000_000_000;
 pub const SIDES: RangeInclusive<i64> = 1..=4;
 pub const LONG_OR_SHORT: RangeInclusive<i64> = 0..=1_000_000_000_000;
 pub const CASH: RangeInclusive<i64> = -1_000_000_000_000_000..=1_000_000_000_000_000;
+/// Document 02, K7: "Each magnitude stays within 4,000,000,000,000,000,000"
+pub const TOTALS: RangeInclusive<i64> = -4_000_000_000_000_000_000..=4_000_000_000_000_000_000;
 const BOOKED: RangeInclusive<i64> = -1_000_000..=1_000_000;
 
 /// "Room is the whole rows that fit after cell 0, at most 4,096."
@@ -95,7 +97,7 @@ pub fn read_positions(cells: &[i64]) -> Option<Positions> {
     let mut rows = Positions::new();
     for row in counted(cells, POSITION_CELLS, positions_room(cells))? {
         let key = (row[0], row[1]);
-        let position = Position { long: row[2], short: row[3], cash: row[4] };
+        let position = Position { long: row[2], short: row[3], cash: row[4], quantity: row[5], value: row[6] };
         let rises = rows.last_key_value().map_or(true, |(last, _)| *last < key);
         if !rises || !is_sound_position(&position) {
             return None;
@@ -105,8 +107,10 @@ pub fn read_positions(cells: &[i64]) -> Option<Positions> {
     Some(rows)
 }
 
+/// Of the totals K7: "Soundness asks only that range."
 pub fn is_sound_position(p: &Position) -> bool {
-    LONG_OR_SHORT.contains(&p.long) && LONG_OR_SHORT.contains(&p.short) && CASH.contains(&p.cash)
+    let held = LONG_OR_SHORT.contains(&p.long) && LONG_OR_SHORT.contains(&p.short);
+    held && CASH.contains(&p.cash) && TOTALS.contains(&p.quantity) && TOTALS.contains(&p.value)
 }
 
 /// The rows of a sound process table: "process ids (ranged as transaction ids) strictly rising, figures in range, approvals 0 or 1, a stage below".
@@ -171,7 +175,7 @@ pub fn write_positions(cells: &mut [i64], rows: &Positions) {
     cells[0] = rows.len() as i64;
     let places = cells[1..].chunks_mut(POSITION_CELLS);
     for (cells, ((account, series), p)) in places.zip(rows) {
-        cells.copy_from_slice(&[*account, *series, p.long, p.short, p.cash]);
+        cells.copy_from_slice(&[*account, *series, p.long, p.short, p.cash, p.quantity, p.value]);
     }
 }
 

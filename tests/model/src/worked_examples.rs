@@ -7,7 +7,7 @@ fn handle(records: &mut [i64], positions: &mut [i64], request: &Request) -> Repl
 }
 
 fn tables(records: usize, positions: usize) -> (Vec<i64>, Vec<i64>) {
-    (std::iter::once(0).chain(vec![-7; records * 13]).collect(), std::iter::once(0).chain(vec![-7; positions * 5]).collect())
+    (std::iter::once(0).chain(vec![-7; records * 13]).collect(), std::iter::once(0).chain(vec![-7; positions * 7]).collect())
 }
 
 fn trade(id: i64, side: i64, quantity: i64, price: i64) -> Request {
@@ -25,7 +25,7 @@ fn refused(number: i64, place: i64) -> Reply {
 /// A trade to close on a position with that long and short: the answer, the new row's type and booked cells.
 fn closing(long: i64, short: i64, quantity: i64) -> (Reply, [i64; 3]) {
     let (mut records, mut positions) = tables(2, 2);
-    positions[..6].copy_from_slice(&[1, 1, 1, long, short, 0]);
+    positions[..8].copy_from_slice(&[1, 1, 1, long, short, 0, 0, 0]);
     let reply = handle(&mut records, &mut positions, &trade(7, 3, quantity, 5));
     (reply, [records[4], records[11], records[12]])
 }
@@ -102,7 +102,9 @@ fn p11() {
     ];
     let expected: Vec<i64> = std::iter::once(7).chain(rows.concat()).chain([-7; 13]).collect();
     assert_eq!(records, expected);
-    assert_eq!(positions, [2, 1, 1, 0, 0, 0, 2, 1, 100, 0, 0, -7, -7, -7, -7, -7]);
+    // K7: "P11's rows then end 0, 0 and 100, 125,000,000,000."
+    let rows = [[1, 1, 0, 0, 0, 0, 0], [2, 1, 100, 0, 0, 100, 125_000_000_000], [-7; 7]];
+    assert_eq!(positions, [vec![2], rows.concat()].concat());
     let question = Request::Lineage { id: 456_789, suffix: 6 };
     assert_eq!(handle(&mut records, &mut [], &question), Reply::Lineage { price: 1_250_000_000, links: 2 });
 }

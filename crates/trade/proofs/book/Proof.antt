@@ -12,7 +12,7 @@ use lib.ListN.{length}
 use mir.Facts.{toZ-ofZ}
 use mir.Syntax.{w64}
 use mir.Val.{SFits, toZ, ofZ}
-use Rattle.rules.specs.Figures.{validQuantity}
+use Rattle.rules.specs.Figures.{validQuantity, validPrice}
 use Rattle.rules.specs.Keyed.{Key, find, absentFrom}
 use Rattle.rules.specs.Rows.{recordKey, positionKey, newRecord, moved, soundRecord, soundPosition}
 use Rattle.rules.specs.Layout.{roomOf, rowsOf}
@@ -31,7 +31,7 @@ use Rattle.verdict.proofs.Ready.{InsertReady, PutReady}
 use Rattle.verdict.proofs.Room.{positionRead}
 use Rattle.verdict.proofs.SoundReads.{position-read-sound}
 use Rattle.verdict.proofs.Trade.{tradeClosed, tradeLong, tradeShort, tradeError, tradeMovement, tradePosition, tradeRow}
-use Rattle.verdict.proofs.TradeReady.{trade-quantity, trade-insert, trade-put, trade-returns-error, trade-returns-plain}
+use Rattle.verdict.proofs.TradeReady.{trade-quantity, trade-price, trade-insert, trade-put, trade-returns-error, trade-returns-plain}
 use Rattle.trade.specs.Booking.{bookingOf}
 use Rattle.trade.proofs.TradeBooked.{opened-fits, booking-moves, closed-is, movement-is, error-is, moved-is, left-key}
 use Rattle.trade.proofs.book.Statement.{statement}
@@ -64,7 +64,7 @@ module _ (s : tie.Start) where
   rowOf = tradeRow ps (s .args .account) (s .args .series) (s .args .side) (s .args .quantity) (s .args .id) (s .args .price)
 
   abbrev leftOf : Position
-  leftOf = tradePosition ps (s .args .account) (s .args .series) (s .args .side) (s .args .quantity)
+  leftOf = tradePosition ps (s .args .account) (s .args .series) (s .args .side) (s .args .quantity) (s .args .price)
 
   -- The position, as it was read.
   read : s .args .held .position ≡ positionRead ps (s .args .account) (s .args .series)
@@ -76,6 +76,10 @@ module _ (s : tie.Start) where
   quantity-valid : validQuantity (s .args .quantity) ≡ true
   quantity-valid =
       trade-quantity rs ps (s .args .id) (s .args .account) (s .args .series) (s .args .side) (s .args .quantity) (s .args .price) (s .pre .0) (s .pre .1) (s .pre .2)
+
+  price-valid : validPrice (s .args .price) ≡ true
+  price-valid =
+      trade-price rs ps (s .args .id) (s .args .account) (s .args .series) (s .args .side) (s .args .quantity) (s .args .price) (s .pre .0) (s .pre .1) (s .pre .2)
 
   insertable : PlaceReady rs (s .args .place) rowOf
   unfolding newRecord
@@ -91,7 +95,7 @@ module _ (s : tie.Start) where
         ready .0,
         ready .1,
         ready .2,
-        s .pre .3 .found-is ∙ ap (λ (k : Key). foundIn positionsLayout k ps) (sym (left-key ps (s .args .account) (s .args .series) (s .args .side) (s .args .quantity))),
+        s .pre .3 .found-is ∙ ap (λ (k : Key). foundIn positionsLayout k ps) (sym (left-key ps (s .args .account) (s .args .series) (s .args .side) (s .args .quantity) (s .args .price))),
       )
 
 -- What the trade closes and books.
@@ -99,20 +103,20 @@ module _ (c : tie.After-booking-of) where
   abbrev s : tie.Start
   s = c .before .before
 
-  booked : c .booking-of .result ≡ bookingOf (s .args .side) (s .args .quantity) (s .args .held .position)
-  booked = simp (toZ-ofZ (s .fits .side), toZ-ofZ (s .fits .quantity)) at (c .booking-of .ensures)
+  booked : c .booking-of .result ≡ bookingOf (s .args .side) (s .args .quantity) (s .args .price) (s .args .held .position)
+  booked = simp (toZ-ofZ (s .fits .side), toZ-ofZ (s .fits .quantity), toZ-ofZ (s .fits .price)) at (c .booking-of .ensures)
 
   closed : c .booking-of .result .closed ≡ closedOf s
-  closed = closed-is (ps s) (s .args .account) (s .args .series) (s .args .side) (s .args .quantity) (s .args .held .position) (c .booking-of .result) (read s) booked
+  closed = closed-is (ps s) (s .args .account) (s .args .series) (s .args .side) (s .args .quantity) (s .args .price) (s .args .held .position) (c .booking-of .result) (read s) booked
 
-  movement : c .booking-of .result .movement ≡ tradeMovement (ps s) (s .args .account) (s .args .series) (s .args .side) (s .args .quantity)
-  movement = movement-is (ps s) (s .args .account) (s .args .series) (s .args .side) (s .args .quantity) (s .args .held .position) (c .booking-of .result) (read s) booked
+  movement : c .booking-of .result .movement ≡ tradeMovement (ps s) (s .args .account) (s .args .series) (s .args .side) (s .args .quantity) (s .args .price)
+  movement = movement-is (ps s) (s .args .account) (s .args .series) (s .args .side) (s .args .quantity) (s .args .price) (s .args .held .position) (c .booking-of .result) (read s) booked
 
   error : c .booking-of .result .error ≡ errorOf s
-  error = error-is (ps s) (s .args .account) (s .args .series) (s .args .side) (s .args .quantity) (s .args .held .position) (c .booking-of .result) (read s) booked
+  error = error-is (ps s) (s .args .account) (s .args .series) (s .args .side) (s .args .quantity) (s .args .price) (s .args .held .position) (c .booking-of .result) (read s) booked
 
   left : moved (s .args .held .position) (c .booking-of .result .movement) ≡ leftOf s
-  left = moved-is (ps s) (s .args .account) (s .args .series) (s .args .side) (s .args .quantity) (s .args .held .position) (c .booking-of .result) (read s) booked
+  left = moved-is (ps s) (s .args .account) (s .args .series) (s .args .side) (s .args .quantity) (s .args .price) (s .args .held .position) (c .booking-of .result) (read s) booked
 
 -- The row that is made.
 module _ (c : tie.After-new-record) where
@@ -186,7 +190,8 @@ module _ (c : tie.After-struct-told3) where
       λ i. toZ-ofZ (s f .fits .quantity) i -ℤ closed-back i
 
 booking-of-requires : tie.Need-booking-of-requires
-booking-of-requires c κs = simp (toZ-ofZ (c .before .fits .quantity)) (quantity-valid (c .before), read-sound (c .before))
+booking-of-requires c κs =
+    simp (toZ-ofZ (c .before .fits .quantity), toZ-ofZ (c .before .fits .price)) (quantity-valid (c .before), read-sound (c .before), price-valid (c .before))
 
 new-record-requires : tie.Need-new-record-requires
 new-record-requires c κs = search needs
@@ -199,7 +204,7 @@ insert-record-requires c κs =
 moved-requires : tie.Need-moved-requires
 moved-requires c κs =
     let b : tie.After-booking-of = d (c .before) in
-    booking-moves (s b .args .side) (s b .args .quantity) (s b .args .held .position) (quantity-valid (s b)) (read-sound (s b)) (b .booking-of .result) (booked b)
+    booking-moves (s b .args .side) (s b .args .quantity) (s b .args .held .position) (quantity-valid (s b)) (read-sound (s b)) (s b .args .price) (price-valid (s b)) (b .booking-of .result) (booked b)
 
 write-position-requires : tie.Need-write-position-requires
 write-position-requires c κs =

@@ -19,7 +19,7 @@ use Rattle.verdict.proofs.Room.{absent-at-most-one}
 use Rattle.verdict.proofs.SoundReads.{position-read-sound}
 use Rattle.verdict.proofs.Trade.{tradePosition, TradeFrom, trade-tests}
 use Rattle.requests.proofs.AbsentRow.{absent-is}
-use Rattle.trade.proofs.TradeBooked.{after-is, figures-quantity}
+use Rattle.trade.proofs.TradeBooked.{after-is, figures-quantity, figures-price}
 use Rattle.trade.proofs.verdict.Statement.{statement}
 use Rattle.trade.proofs.verdict.Tie as tie
 
@@ -77,20 +77,21 @@ module _ (c : tie.Else2) where
   at-16 = at-15 (c .before .before .before) past sym (answer-15 (c .before)) ∙ c .if2 .left
 
 answer-16 : (c : tie.After-sound-position) → let a = start16 (c .before .before) .args in
-    c .sound-position .result ≡ soundPosition (tradePosition (a .positions .now) (a .account) (a .series) (a .side) (a .quantity))
+    c .sound-position .result ≡ soundPosition (tradePosition (a .positions .now) (a .account) (a .series) (a .side) (a .quantity) (a .price))
 answer-16 c =
     let s : tie.Start = start16 (c .before .before) in
-    let left : c .before .position-after .result ≡ tradePosition (s .args .positions .now) (s .args .account) (s .args .series) (s .args .side) (s .args .quantity)
-    = (simp (toZ-ofZ (s .fits .side), toZ-ofZ (s .fits .quantity)) at (c .before .position-after .ensures))
-    ∙ after-is (s .args .positions .now) (s .args .account) (s .args .series) (s .args .side) (s .args .quantity) (s .args .held .position) (s .pre .4 .read-is) in
+    let left : c .before .position-after .result ≡ tradePosition (s .args .positions .now) (s .args .account) (s .args .series) (s .args .side) (s .args .quantity) (s .args .price)
+    = (simp (toZ-ofZ (s .fits .side), toZ-ofZ (s .fits .quantity), toZ-ofZ (s .fits .price)) at (c .before .position-after .ensures))
+    ∙ after-is (s .args .positions .now) (s .args .account) (s .args .series) (s .args .side) (s .args .quantity) (s .args .price) (s .args .held .position) (s .pre .4 .read-is) in
     c .sound-position .ensures ∙ ap soundPosition left
 
 position-after-requires : tie.Need-position-after-requires
 position-after-requires c κs =
     let s : tie.Start = start16 c in
-    simp (toZ-ofZ (s .fits .quantity)) (
+    simp (toZ-ofZ (s .fits .quantity), toZ-ofZ (s .fits .price)) (
       figures-quantity (s .args .id) (s .args .account) (s .args .series) (s .args .side) (s .args .quantity) (s .args .price) (s .pre .2),
       ap soundPosition (s .pre .4 .read-is) ∙ position-read-sound (s .args .positions .now) (s .pre .1) (s .args .account) (s .args .series),
+      figures-price (s .args .id) (s .args .account) (s .args .series) (s .args .side) (s .args .quantity) (s .args .price) (s .pre .2),
     )
 
 returns-3 : tie.Need-returns-3

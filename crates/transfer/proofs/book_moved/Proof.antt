@@ -183,7 +183,7 @@ module _ (c : tie.After-taken-from) where
   start4 = start3 (c .before .before .before)
 
   taken-is : c .taken-from .result ≡ left start4
-  taken-is = c .taken-from .ensures ∙ ap (λ (p : Position). moved p (inSide (r start4 .side) (negℤ (r start4 .quantity)))) (start4 .pre .old-known .read-is)
+  taken-is = c .taken-from .ensures ∙ ap (λ (p : Position). moved p (inSide (r start4 .side) (negℤ (r start4 .quantity)) (r start4 .price))) (start4 .pre .old-known .read-is)
 
 module _ (c : tie.After-write-position) where
   abbrev start5 : tie.Start
@@ -200,7 +200,7 @@ module _ (c : tie.After-given-to) where
   start6 = start5 put
 
   given-is : c .given-to .result ≡ reached start6
-  given-is = c .given-to .ensures ∙ ap (λ (p : Position). moved p (inSide (r start6 .side) (r start6 .quantity))) (start6 .pre .new-known .read-is)
+  given-is = c .given-to .ensures ∙ ap (λ (p : Position). moved p (inSide (r start6 .side) (r start6 .quantity) (r start6 .price))) (start6 .pre .new-known .read-is)
 
 -- ---- what the calls require
 
@@ -219,7 +219,7 @@ adjust-named-requires c κs =
 taken-from-requires : tie.Need-taken-from-requires
 taken-from-requires c κs =
     let s : tie.Start = start3 (c .before .before) in
-    (old-ready s, found s .quantity-small)
+    (old-ready s, found s .quantity-small, found s .sound .price)
 
 write-position-requires : tie.Need-write-position-requires
 write-position-requires c κs =
@@ -229,7 +229,7 @@ write-position-requires c κs =
 given-to-requires : tie.Need-given-to-requires
 given-to-requires c κs =
     let s : tie.Start = start5 (c .before .before) in
-    (new-ready s, found s .quantity-small)
+    (new-ready s, found s .quantity-small, found s .sound .price)
 
 write-position-requires-2 : tie.Need-write-position-requires-2
 write-position-requires-2 c κs =

@@ -14,7 +14,7 @@ use mir.Syntax.{w64}
 use mir.Val.{SFits, toZ, ofZ}
 use borrow.Author.Needs.{needs}
 use Rattle.integers.proofs.Linear.{zarith, +-lin}
-use Rattle.rules.specs.Figures.{magnitudeAtMost}
+use Rattle.rules.specs.Figures.{magnitudeAtMost, validPrice}
 use Rattle.rules.specs.Rows.{soundPosition}
 use Rattle.rules.specs.Transfer.{holdsTooLittle}
 use Rattle.rules.specs.Layout.{roomOf, rowsOf}
@@ -65,6 +65,9 @@ module _ (s : tie.Start) where
 
   quantity-small : magnitudeAtMost 1000000 (r .quantity) ≡ true
   quantity-small = found-record rs (s .pre .0 .0) id (s .args .suffix) r (s .pre .1 .0 .found) .quantity-small
+
+  price-valid : validPrice (r .price) ≡ true
+  price-valid = found-record rs (s .pre .0 .0) id (s .args .suffix) r (s .pre .1 .0 .found) .sound .price
 
   -- Both positions, as they were read.
   old-is : s .args .old .position ≡ positionRead ps from series
@@ -180,7 +183,7 @@ module _ (c : tie.Else4) where
 taken-from-requires : tie.Need-taken-from-requires
 taken-from-requires c κs =
     let s : tie.Start = start5 c in
-    (rw (old-is s) (position-read-sound (ps s) (s .pre .0 .1) (from s) (series s)), quantity-small s)
+    (rw (old-is s) (position-read-sound (ps s) (s .pre .0 .1) (from s) (series s)), quantity-small s, price-valid s)
 
 old-answer : (c : tie.After-sound-position) → c .sound-position .result ≡ soundPosition (left (start5 (c .before .before)))
 old-answer c =
@@ -195,7 +198,7 @@ returns-5 c =
 given-to-requires : tie.Need-given-to-requires
 given-to-requires c κs =
     let s : tie.Start = start5 (c .before .before .before) in
-    (rw (new-is s) (position-read-sound (ps s) (s .pre .0 .1) (to s) (series s)), quantity-small s)
+    (rw (new-is s) (position-read-sound (ps s) (s .pre .0 .1) (to s) (series s)), quantity-small s, price-valid s)
 
 module _ (c : tie.After-sound-position2) where
   abbrev else5 : tie.Else5

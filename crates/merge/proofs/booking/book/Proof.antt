@@ -16,7 +16,7 @@ use Rattle.integers.specs.Average.{averageOf, residualOf}
 use Rattle.integers.specs.Averageable.{Averageable}
 use Rattle.rules.specs.Figures.{magnitudeAtMost, isBuy, mergeKind}
 use Rattle.rules.specs.Keyed.{Key, find, upsert, upsertAll, absentFrom}
-use Rattle.rules.specs.Rows.{recordKey, positionKey, soundRecord, soundPosition, newRecord, moved}
+use Rattle.rules.specs.Rows.{recordKey, positionKey, soundRecord, soundPosition, newRecord, byResidual, moved}
 use Rattle.rules.specs.Refusal.{anyOf, allOf}
 use Rattle.rules.specs.Layout.{roomOf, rowsOf, write}
 use Rattle.rules.specs.Tables.{recordsLayout, positionsLayout, soundPositions}
@@ -175,10 +175,13 @@ merged-is c =
 -- ---- the position as the merge leaves it
 
 abbrev start4 : tie.After-moved → tie.Start
-start4 c = start3 (c .before .before)
+start4 c = start3 (c .before .before .before)
+
+movement-is : (c : tie.After-by-residual) → c .by-residual .result ≡ byResidual (mergeResidual (sources (start3 (c .before .before))))
+movement-is c = c .by-residual .ensures ∙ ap byResidual (residual-is (c .before .before))
 
 left-is : (c : tie.After-moved) → c .moved .result ≡ mergePosition (ps (start4 c)) (account (start4 c)) (series (start4 c)) (sources (start4 c))
-left-is c = rw (start4 c .pre .4 .read-is, residual-is (c .before .before)) at (c .moved .ensures)
+left-is c = rw (start4 c .pre .4 .read-is, movement-is (c .before)) at (c .moved .ensures)
 
 -- ---- the records, one change after the other
 
@@ -204,7 +207,7 @@ start7 c = start6 (c .before .before .before)
 
 -- Where the merged row was made, seen from the inverses.
 abbrev made : tie.After-insert-inverses → tie.After-merged-row
-made c = c .before .before .before .before .before .before
+made c = c .before .before .before .before .before .before .before
 
 records-are : (c : tie.After-insert-merged) → c .insert-merged .last .0 ≡ recordsMerged (rs (start7 c)) (id (start7 c)) (list (start7 c))
 records-are c =
@@ -248,8 +251,8 @@ residual-requires c κs =
 
 moved-requires : tie.Need-moved-requires
 moved-requires c κs =
-    let s : tie.Start = start3 (c .before) in
-    rw (s .pre .4 .read-is, residual-is (c .before))
+    let s : tie.Start = start3 (c .before .before) in
+    rw (s .pre .4 .read-is, movement-is c)
     (merge-moves (positionRead (ps s) (account s) (series s)) (mergeResidual (sources s)) (position-read-sound (ps s) (s .pre .1) (account s) (series s)) (small-residual s))
 
 adjust-sources-requires : tie.Need-adjust-sources-requires
@@ -300,7 +303,7 @@ returns c =
     let m : tie.After-moved = moved-at j in
     let rows : toZ w64 (ofZ w64 (toZ w64 (length (list s) / 2) +ℤ pos 1)) ≡ pos (length (list s) / 2) +ℤ pos 1
     = ap (λ (z : ℤ). toZ w64 (ofZ w64 (z +ℤ pos 1))) (rows-bits s) ∙ toZ-ofZ (rows-fit s) in
-    let residual : toZ w64 (ofZ w64 (m .before .before .residual .result)) ≡ mergeResidual (sources s) = residual-is (m .before .before) in
+    let residual : toZ w64 (ofZ w64 (m .before .before .before .residual .result)) ≡ mergeResidual (sources s) = residual-is (m .before .before .before) in
     let positions : c .before .write-position .last .0 ≡ write positionsLayout (ps s) (upsert positionKey (mergePosition (ps s) (account s) (series s) (sources s)) (rowsOf positionsLayout (ps s)))
     = c .before .write-position .ensures .0 ∙ ap (λ (p : Position). write positionsLayout (ps s) (upsert positionKey p (rowsOf positionsLayout (ps s)))) (left-is m) in
     (λ i. answered (Booked (rows i) (residual i)) (records-are j i) (positions i))
@@ -311,5 +314,5 @@ book-spec =
     tie.close
     (tie.spec
     source-record-requires sum-of-quantities-requires sum-of-values-requires average-requires (λ c κs. search needs) residual-requires (λ c κs. search needs)
-    moved-requires adjust-sources-requires insert-inverses-requires insert-merged-requires write-position-requires cast-added add-added
+    (λ c κs. search needs) moved-requires adjust-sources-requires insert-inverses-requires insert-merged-requires write-position-requires cast-added add-added
     (λ c. search needs) (λ c. search needs) returns)

@@ -19,7 +19,7 @@ use Rattle.integers.specs.Averageable.{Averageable}
 use Rattle.integers.proofs.Linear.{zarith}
 use Rattle.rules.specs.Figures.{magnitudeAtMost, mostQuantity}
 use Rattle.rules.specs.Keyed.{isSome}
-use Rattle.rules.specs.Rows.{soundPosition}
+use Rattle.rules.specs.Rows.{soundPosition, byResidual}
 use Rattle.rules.specs.Refusal.{anyOf}
 use Rattle.rules.specs.Layout.{roomOf, rowsOf}
 use Rattle.rules.specs.Tables.{positionsLayout}
@@ -194,18 +194,21 @@ module _ (c : tie.After-residual) where
   unfolding mergeResidual
   small-residual = residual-small _ (sumOfValues (sources s6)) (sumOfQuantities (sources s6)) (ready (c .before))
 
-moved-is : (c : tie.After-moved) → let s = s6 (c .before) in c .moved .result ≡ mergePosition (ps s) (account s) (series s) (sources s)
-moved-is c = rw (s6 (c .before) .pre .0 .2 .read-is, residual-is (c .before)) at (c .moved .ensures)
+movement-is : (c : tie.After-by-residual) → c .by-residual .result ≡ byResidual (mergeResidual (sources (s6 (c .before))))
+movement-is c = c .by-residual .ensures ∙ ap byResidual (residual-is (c .before))
+
+moved-is : (c : tie.After-moved) → let s = s6 (c .before .before) in c .moved .result ≡ mergePosition (ps s) (account s) (series s) (sources s)
+moved-is c = rw (s6 (c .before .before) .pre .0 .2 .read-is, movement-is (c .before)) at (c .moved .ensures)
 
 abbrev start7 : tie.After-sound-position → tie.Start
-start7 c = s6 (c .before .before)
+start7 c = s6 (c .before .before .before)
 
 answer-16 : (c : tie.After-sound-position) →
     c .sound-position .result ≡ soundPosition (mergePosition (ps (start7 c)) (account (start7 c)) (series (start7 c)) (sources (start7 c)))
 answer-16 c = rw (moved-is (c .before)) at (c .sound-position .ensures)
 
 abbrev else4 : tie.After-sound-position → tie.Else4
-else4 c = c .before .before .before .before
+else4 c = c .before .before .before .before .before
 
 sum-of-values-requires : tie.Need-sum-of-values-requires
 sum-of-values-requires c κs =
@@ -218,9 +221,9 @@ residual-requires c κs = rw (value-is c, sum-is (tested (c .before) .before)) (
 
 moved-requires : tie.Need-moved-requires
 moved-requires c κs =
-    let s : tie.Start = s6 c in
-    rw (s .pre .0 .2 .read-is, residual-is c)
-    (merge-moves (positionRead (ps s) (account s) (series s)) (mergeResidual (sources s)) (position-read-sound (ps s) (s .pre .0 .1) (account s) (series s)) (small-residual c))
+    let s : tie.Start = s6 (c .before) in
+    rw (s .pre .0 .2 .read-is, movement-is c)
+    (merge-moves (positionRead (ps s) (account s) (series s)) (mergeResidual (sources s)) (position-read-sound (ps s) (s .pre .0 .1) (account s) (series s)) (small-residual (c .before)))
 
 returns-5 : tie.Need-returns-5
 returns-5 c = stops (at-16 (else4 (c .before))) (ap not (failed (answer-16 (c .before)) (c .if5 .taken)))
@@ -233,5 +236,5 @@ verdict-on-sums-spec =
     tie.close
     (tie.spec
     sum-of-quantities-requires returns suffix-above-requires returns-2 (λ c. search needs) lacks-records-room-requires returns-3
-    (λ c κs. search needs) lacks-positions-room-requires returns-4 sum-of-values-requires residual-requires moved-requires (λ c κs. search needs)
+    (λ c κs. search needs) lacks-positions-room-requires returns-4 sum-of-values-requires residual-requires (λ c κs. search needs) moved-requires (λ c κs. search needs)
     returns-5 returns-6)

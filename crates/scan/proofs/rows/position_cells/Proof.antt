@@ -16,6 +16,8 @@ returns c =
       read-back (p .long) (known .1 .1 .0 .1),
       read-back (p .short) (known .1 .1 .1 .0 .1),
       read-back (p .cash) (known .1 .1 .1 .1 .0 .1),
+      read-back (p .quantity) (known .1 .1 .1 .1 .1 .0 .1),
+      read-back (p .value) (known .1 .1 .1 .1 .1 .1 .0 .1),
     )
 
 pub position-cells-spec : {M : Type 1} → statement M

@@ -10,7 +10,7 @@ use lib.ListN.{drop}
 use Rattle.integers.specs.Order.{inRange}
 use Rattle.rules.specs.declared.Position.{Position}
 use Rattle.rules.specs.Figures.{magnitudeAtMost}
-use Rattle.rules.specs.Rows.{soundPosition}
+use Rattle.rules.specs.Rows.{validTotal, soundPosition}
 use Rattle.figures.proofs.Chain.{Remaining, Asked, asked-next, asked-fails, ends}
 use Rattle.scan.proofs.ReadBack.{told}
 use Rattle.scan.proofs.soundness.sound_position.Statement.{statement}
@@ -22,6 +22,8 @@ tests p =
     inRange (pos 0) (pos 1000000000000) (p .long)
     ∷ inRange (pos 0) (pos 1000000000000) (p .short)
     ∷ inRange (negℤ (pos 1000000000000000)) (pos 1000000000000000) (p .cash)
+    ∷ validTotal (p .quantity)
+    ∷ validTotal (p .value)
     ∷ []
 
 -- the test after so many of them was asked and answered so
@@ -41,6 +43,12 @@ asked2 c = asked-next (asked1 (c .before .before .before)) (c .before .before .i
 abbrev asked3 : (c : tie.After-in-range3) → Answered 2 (c .in-range3 .result)
 asked3 c = asked-next (asked2 (c .before .before .before)) (c .before .before .if2 .left) (told (inRange _ _) _ (c .before .struct-told3 .given .1 .1 .1 .1 .0 .1) (c .in-range3 .ensures))
 
+abbrev asked4 : (c : tie.After-valid-total) → Answered 3 (c .valid-total .result)
+asked4 c = asked-next (asked3 (c .before .before .before)) (c .before .before .if3 .left) (told validTotal _ (c .before .struct-told4 .given .1 .1 .1 .1 .1 .0 .1) (c .valid-total .ensures))
+
+abbrev asked5 : (c : tie.After-valid-total2) → Answered 4 (c .valid-total2 .result)
+asked5 c = asked-next (asked4 (c .before .before .before)) (c .before .before .if4 .left) (told validTotal _ (c .before .struct-told5 .given .1 .1 .1 .1 .1 .1 .0 .1) (c .valid-total2 .ensures))
+
 pub sound-position-spec : {M : Type 1} → statement M
 sound-position-spec =
     tie.close
@@ -50,4 +58,8 @@ sound-position-spec =
     (λ c κs. search needs)
     (λ c. asked-fails (asked2 (c .before)) (c .if2 .taken))
     (λ c κs. search needs)
-    (λ c. ends (asked3 c .remain) (asked3 c .answer)))
+    (λ c. asked-fails (asked3 (c .before)) (c .if3 .taken))
+    (λ c κs. search needs)
+    (λ c. asked-fails (asked4 (c .before)) (c .if4 .taken))
+    (λ c κs. search needs)
+    (λ c. ends (asked5 c .remain) (asked5 c .answer)))

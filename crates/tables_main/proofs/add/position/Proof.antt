@@ -37,6 +37,8 @@ new s =
       long = read (s .args .long);
       short = read (s .args .short);
       cash = read (s .args .cash);
+      quantity = read (s .args .quantity);
+      value = read (s .args .value);
     }
 
 abbrev rows : tie.Start → List Position

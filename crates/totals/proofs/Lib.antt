@@ -1,0 +1,14 @@
+pub mod Sums
+pub mod LiveSums
+pub mod Stored
+pub mod EffectsAdd
+pub mod TradeTotals
+pub mod SeparationTotals
+pub mod TransferTotals
+pub mod GiveUpTotals
+pub mod MergedFigures
+pub mod MergeTotals
+pub mod RequestSums
+pub mod Requests
+pub mod Handled
+pub mod Totals

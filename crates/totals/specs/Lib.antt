@@ -1,0 +1,3 @@
+pub mod Replaced
+pub mod Amounts
+pub mod Adds
