@@ -99,12 +99,13 @@ static void keep(velichundam_reply written)
     journal_len += (size_t)written.first;
 }
 
-static void print_table(const char *title, const int64_t *table, size_t width)
+/* Prints the rows of a table, which follow so many cells. */
+static void print_table(const char *title, const int64_t *table, size_t header, size_t width)
 {
     printf("\n%s: %" PRId64 " rows\n", title, table[0]);
     for (size_t row = 0; row < (size_t)table[0]; row++) {
         for (size_t cell = 0; cell < width; cell++)
-            printf("%s%" PRId64, cell == 0 ? "| " : " | ", table[1 + row * width + cell]);
+            printf("%s%" PRId64, cell == 0 ? "| " : " | ", table[header + row * width + cell]);
         printf(" |\n");
     }
 }
@@ -146,8 +147,8 @@ static void book_a_morning(void)
     for (int k = 0; k < TRADES; k++)
         printf(" %" PRId64, excess[k]);
     printf("\n");
-    print_table("records", records, VELICHUNDAM_RECORD_CELLS);
-    print_table("positions", positions, VELICHUNDAM_POSITION_CELLS);
+    print_table("records", records, VELICHUNDAM_RECORDS_HEADER, VELICHUNDAM_RECORD_CELLS);
+    print_table("positions", positions, VELICHUNDAM_POSITIONS_HEADER, VELICHUNDAM_POSITION_CELLS);
     print_averages();
 }
 
@@ -174,19 +175,19 @@ static void give_up_a_part(void)
     take_step("taker's approval, too early", velichundam_give_up_approve_taker, VELICHUNDAM_STEP_APPROVE_TAKER);
     take_step("claim", velichundam_give_up_claim, VELICHUNDAM_STEP_CLAIM);
     take_step("taker's approval", velichundam_give_up_approve_taker, VELICHUNDAM_STEP_APPROVE_TAKER);
-    print_table("processes", processes, VELICHUNDAM_PROCESS_CELLS);
+    print_table("processes", processes, VELICHUNDAM_PROCESSES_HEADER, VELICHUNDAM_PROCESS_CELLS);
 
     printf("\n");
     take_step("giver's approval", velichundam_give_up_approve_giver, VELICHUNDAM_STEP_APPROVE_GIVER);
-    print_table("records", records, VELICHUNDAM_RECORD_CELLS);
-    print_table("positions", positions, VELICHUNDAM_POSITION_CELLS);
-    print_table("processes", processes, VELICHUNDAM_PROCESS_CELLS);
+    print_table("records", records, VELICHUNDAM_RECORDS_HEADER, VELICHUNDAM_RECORD_CELLS);
+    print_table("positions", positions, VELICHUNDAM_POSITIONS_HEADER, VELICHUNDAM_POSITION_CELLS);
+    print_table("processes", processes, VELICHUNDAM_PROCESSES_HEADER, VELICHUNDAM_PROCESS_CELLS);
 }
 
-/* Whether two tables have the same rows; what lies past them may differ. */
-static int same_rows(const int64_t *table, const int64_t *other, size_t width)
+/* Whether two tables have the same header and rows; what lies past them may differ. */
+static int same_rows(const int64_t *table, const int64_t *other, size_t header, size_t width)
 {
-    return memcmp(table, other, (1 + (size_t)table[0] * width) * sizeof *table) == 0;
+    return memcmp(table, other, (header + (size_t)table[0] * width) * sizeof *table) == 0;
 }
 
 /* The day once more, from its journal: into empty tables of the same room, again into these, and with a byte that was lost. */
@@ -203,8 +204,9 @@ static void replay_the_day(void)
     print_reply("replay", velichundam_replay(records_again, RECORDS_LEN, positions_again, POSITIONS_LEN, processes_again, PROCESSES_LEN,
         journal, journal_len));
     printf("records, positions and processes: %s\n",
-        same_rows(records, records_again, VELICHUNDAM_RECORD_CELLS) && same_rows(positions, positions_again, VELICHUNDAM_POSITION_CELLS)
-        && same_rows(processes, processes_again, VELICHUNDAM_PROCESS_CELLS) ? "the same rows" : "other rows");
+        same_rows(records, records_again, VELICHUNDAM_RECORDS_HEADER, VELICHUNDAM_RECORD_CELLS)
+        && same_rows(positions, positions_again, VELICHUNDAM_POSITIONS_HEADER, VELICHUNDAM_POSITION_CELLS)
+        && same_rows(processes, processes_again, VELICHUNDAM_PROCESSES_HEADER, VELICHUNDAM_PROCESS_CELLS) ? "the same rows" : "other rows");
 
     print_reply("replay on top of it", velichundam_replay(records_again, RECORDS_LEN, positions_again, POSITIONS_LEN,
         processes_again, PROCESSES_LEN, journal, journal_len));
@@ -229,8 +231,8 @@ int main(void)
         keep(velichundam_write_separation(JOURNAL_REST, 456789, 2, 2, 1, parts, PARTS));
     print_reply("lineage of suffix 6", velichundam_lineage(records, RECORDS_LEN, 456789, 6));
 
-    print_table("records", records, VELICHUNDAM_RECORD_CELLS);
-    print_table("positions", positions, VELICHUNDAM_POSITION_CELLS);
+    print_table("records", records, VELICHUNDAM_RECORDS_HEADER, VELICHUNDAM_RECORD_CELLS);
+    print_table("positions", positions, VELICHUNDAM_POSITIONS_HEADER, VELICHUNDAM_POSITION_CELLS);
 
     printf("\n");
     print_reply("separation again", velichundam_separate(records, RECORDS_LEN, positions, POSITIONS_LEN,

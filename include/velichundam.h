@@ -4,9 +4,10 @@
  * The book lives in tables that the host owns and lends for the length of a call: plain arrays of signed 64-bit numbers. Nothing is
  * allocated, nothing is kept between calls, and no call does input or output. Four requests book: trade, separation, account transfer and
  * average-price merge; a list of trades may be handed in by one call. Six more are the steps by which a record is given up to another member's
- * account; they and a replay alone are lent the third table, the processes. One question, lineage, only reads.
+ * account; they and a replay alone are lent the third table, the processes. One more moves the current day forward. Two questions only read: lineage,
+ * and the list of the records that are reported at the end of a day.
  *
- * A host may keep a journal: six calls write a request as a line of text, and one replays such a text.
+ * A host may keep a journal: seven calls write a request as a line of text, and one replays such a text.
  *
  * Every call takes any tables of any length with any contents, any figures and any text, and answers. A request that is refused changes nothing; a
  * list of trades stops at the first that is refused, a replay at the first line that is bad or refused, and what came before stays booked. What each
@@ -24,10 +25,20 @@
  *
  * THE TABLES
  *
- * Records. Cell 0 is the row count. Row k (from 0) has the 13 cells from 1 + 13 * k on:
+ * Records. A header of two cells, then the rows. Cell 0 is the row count, cell 1 the current day (see DAYS AND THE REPORTING LIST). Row k (from 0) has
+ * the 14 cells from 2 + 14 * k on, the last of them the day on which it was booked:
  *
  *     +0 id      +1 suffix  +2 parent  +3 type     +4 status  +5 account  +6 series
- *     +7 side    +8 quantity           +9 price    +10 long booked        +11 short booked      +12 into
+ *     +7 side    +8 quantity           +9 price    +10 long booked        +11 short booked      +12 into      +13 day
+ *
+ * Here is a trade of day 17, and its transfer to account 2 on day 18, the current one:
+ *
+ *     cell  0  |      3 |  18 |                                                                                       count, current day
+ *              | id     | suffix | parent | type | status | account | series | side | qty  | price | long | short | into | day |
+ *     cell  2  | 456789 |      0 |      0 |    0 |      1 |       1 |      1 |    1 |  100 |     5 |  100 |     0 |    0 |  17 |
+ *     cell 16  | 456789 |      1 |      0 |    4 |      2 |       1 |      1 |    1 | -100 |     5 | -100 |     0 |    0 |  18 |
+ *     cell 30  | 456789 |      2 |      0 |    4 |      0 |       2 |      1 |    1 |  100 |     5 |  100 |     0 |    0 |  18 |
+ *     cell 44  room, as the host left it
  *
  * Positions. Cell 0 is the row count. Row k has the 7 cells from 1 + 7 * k on, the last two of them totals over the position's records (see AVERAGE
  * ENTRY):
@@ -39,9 +50,10 @@
  *     +0 process id  +1 id  +2 suffix  +3 giving account  +4 taking account  +5 series
  *     +6 giver's approval   +7 taker's approval           +8 stage
  *
- * The room of a table is the number of whole rows that fit after cell 0, at most 4,096 records, 1,024 positions and 1,024 processes. A longer array
- * is fine: what lies past the room is never touched, and neither is a part of a row at the end. Cells past the last row are neither read nor
- * changed. An empty table is a 0 in cell 0; the other cells may hold anything.
+ * The room of a table is the number of whole rows that fit after cell 0, of records after cell 1, at most 4,096 records, 1,024 positions and 1,024
+ * processes. A longer array is fine: what lies past the room is never touched, and neither is a part of a row at the end. Cells past the last row are
+ * neither read nor changed. An empty table is a 0 in cell 0; a book that begins has another 0 in cell 1 of its records. The other cells may hold
+ * anything.
  *
  * Rows strictly rise, records by id and then suffix, positions by account and then series, processes by process id. The book keeps them so. A new row
  * goes where its key belongs, and the rows above that place move up by one. A process row, once made, stays, whatever becomes of the process.
@@ -54,15 +66,16 @@
  *     price           -1,000,000,000,000 to 1,000,000,000,000, in units of 0.0000001
  *     long, short     0 to 1,000,000,000,000, in a position   cash             magnitude at most 1,000,000,000,000,000
  *     quantity, value of a position                           magnitude at most 4,000,000,000,000,000,000
+ *     day             1 to 99,999, in a request               current day      0 to 99,999, in the records' header
  *     parts of a separation, sources of a merge               2 to 1,000
  *     trades in one call                                      1 to 1,000
  *
  * In a record the type is 0, 4, 6, 10, 20, 30 or 901; the status 0 to 3; the quantity is not 0, has magnitude at most 1,000,000 and is negative
  * exactly where the status is 2; the two booked cells have magnitude at most 1,000,000; into is 0 or an id; the parent is below the suffix, or both
- * are 0. In a process the approvals are 0 or 1 and the stage is 0, 6, 9, 10 or 12. A table that breaks one of these rules, or whose count is not
- * between 0 and the room, is not sound: refusals 1, 2 and 19. (Account and series of a position row are not tested; only that the rows rise by them.
- * Of its quantity and value only the range is tested. Nor is it tested that a process names a record under give-up, or two accounts that differ: a
- * step of such a process is refused.)
+ * are 0; the day is from 0 to the current one. In a process the approvals are 0 or 1 and the stage is 0, 6, 9, 10 or 12. A table that breaks one of
+ * these rules, or whose count is not between 0 and the room, or that lacks a cell of its header, is not sound: refusals 1, 2 and 19. (Account and
+ * series of a position row are not tested; only that the rows rise by them. Of its quantity and value only the range is tested. Nor is it tested that a
+ * process names a record under give-up, or two accounts that differ: a step of such a process is refused.)
  *
  * AVERAGE ENTRY
  *
@@ -88,6 +101,35 @@
  *
  * No call tests whether the two are true. On tables that were made otherwise they may be any numbers in their range, and they stay as untrue as they
  * were: a host that fills in such a table sums over its records first.
+ *
+ * DAYS AND THE REPORTING LIST
+ *
+ * The current day is cell 1 of the records. It begins at 0 and moves forward by velichundam_day, and by a line of a day in a replay, alone; a host
+ * chooses what its numbers stand for, and may leave some out. Each new row takes the current day, whatever request adds it, and keeps it: a record
+ * that is adjusted, or given up, later has the day on which it was booked.
+ *
+ * At the end of a day velichundam_reportable lists what is reported: the state that the day leaves behind, not each change on the way. Of the records
+ * of the current day (the others are never on the list) those are reported that are
+ *
+ *     status 0 or 3   adjustable, or under give-up: what came of the day's bookings
+ *     status 2        inverse, where the parent, the record of the same id whose suffix is the cell parent, was booked on an earlier day: that
+ *                     record was reported then, and the inverse takes it back
+ *
+ * and not those that were adjusted later that day (status 1), nor inverses whose parent is of the same day (an inverse with suffix 0 is its own
+ * parent). In the picture above the list of day 18 is 456789, 1 and 456789, 2. An inverse of the current day whose parent row is not in the table
+ * can't be decided: the list is refused 5. Tables that these calls made have no such row.
+ *
+ * A host's end of day, with room for ROOM records: list first, then move the day, since the list is of the current day.
+ *
+ *     int64_t pairs[VELICHUNDAM_PAIRS_LEN(ROOM)];                  // a pair for each record is always enough
+ *     velichundam_reply r = velichundam_reportable(records, VELICHUNDAM_RECORDS_LEN(ROOM), pairs, VELICHUNDAM_PAIRS_LEN(ROOM));
+ *     if (r.kind == VELICHUNDAM_LISTED)
+ *         for (int64_t k = 0; k < r.first; k++)
+ *             report(pairs[2 * k], pairs[2 * k + 1]);              // id, suffix
+ *     r = velichundam_day(records, VELICHUNDAM_RECORDS_LEN(ROOM), records[VELICHUNDAM_CURRENT_DAY] + 1);
+ *
+ * examples/end_of_day.c is a whole program. Tables from before this release, with one cell before rows of 13, are none of these: a host that has some
+ * writes them anew, with a current day after the count and a day at the end of each row.
  *
  * GIVE-UP AND TAKE-UP
  *
@@ -133,6 +175,7 @@
  *     M  id  account  series  id  suffix  id  suffix  ..              a merge
  *     G  step  process  id  suffix  giving  taking  series            a step of a give-up, by its letter: O open, C claim, X cancel, R refuse,
  *                                                                     G the giver's approval, T the taker's
+ *     D  day                                                          a new day
  *
  * Figures are decimal, without leading zeros, with a minus for negatives only. Nothing else stands in a line: no space, no plus, no carriage return.
  * The line of document 01's first trade, each tab shown as |:
@@ -147,8 +190,8 @@
  * For the length of a call:
  *   - a pointer points to as many int64_t as its length says, aligned as int64_t is, a text to as many bytes, and is not NULL even where the length
  *     is 0;
- *   - that memory may be read, and written for the tables, the excesses and a text that is written to (not for a parameter that is const);
- *   - records, positions, processes, the list, the excesses and the text share no cell with each other;
+ *   - that memory may be read, and written for the tables, the excesses, the pairs and a text that is written to (not for a parameter that is const);
+ *   - records, positions, processes, the list, the excesses, the pairs and the text share no cell with each other;
  *   - nobody else writes any of them, nor reads what the call may write: where threads share a book, hold a lock.
  *
  * Different tables may be used from different threads at the same time: the functions have no state of their own.
@@ -160,11 +203,12 @@
  * the greatest suffix of its id, in two arrays of 1,000 numbers of 16 bits; a replay keeps the figures of a line, 2,003 numbers. In bytes, from the
  * host's call down, rounded up:
  *
- *     lineage                                525,000 at the longest chain: 128 for each link, and 300
+ *     lineage                                600,000 at the longest chain: 144 for each link, and 400
  *     merge                                    5,000
  *     trade, trades, separation                1,000
  *     transfer, the steps of a give-up         2,000
  *     replay                                  22,000
+ *     day, the reporting list                  1,000
  *     the calls that write                     1,000
  *
  * These were measured with this archive on x86-64, on full tables, the longest chain, lists of 1,000 and the longest lines. They are no part of what
@@ -182,8 +226,8 @@ extern "C" {
 #endif
 
 /* Cells before the first row, cells of a row, and the greatest room of a table. */
-#define VELICHUNDAM_RECORDS_HEADER 1
-#define VELICHUNDAM_RECORD_CELLS 13
+#define VELICHUNDAM_RECORDS_HEADER 2
+#define VELICHUNDAM_RECORD_CELLS 14
 #define VELICHUNDAM_POSITIONS_HEADER 1
 #define VELICHUNDAM_POSITION_CELLS 7
 #define VELICHUNDAM_PROCESSES_HEADER 1
@@ -191,6 +235,14 @@ extern "C" {
 #define VELICHUNDAM_MOST_RECORDS 4096
 #define VELICHUNDAM_MOST_POSITIONS 1024
 #define VELICHUNDAM_MOST_PROCESSES 1024
+
+/* The cell of the records that holds the current day, the cell of a record that holds its day of booking, and the greatest day. */
+#define VELICHUNDAM_CURRENT_DAY 1
+#define VELICHUNDAM_RECORD_DAY 13
+#define VELICHUNDAM_LAST_DAY 99999
+
+/* Cells of a record on the reporting list: id, suffix. */
+#define VELICHUNDAM_PAIR_CELLS 2
 
 /* The cells of a position that keep its totals. */
 #define VELICHUNDAM_POSITION_QUANTITY 5
@@ -207,11 +259,15 @@ extern "C" {
 #define VELICHUNDAM_TRANSFER_LINE 35
 #define VELICHUNDAM_MERGE_LINE(sources) (24 + (size_t)16 * (sources))
 #define VELICHUNDAM_GIVE_UP_LINE 47
+#define VELICHUNDAM_DAY_LINE 8
 
 /* How many cells a table takes that has room for so many rows. */
 #define VELICHUNDAM_RECORDS_LEN(rows) (VELICHUNDAM_RECORDS_HEADER + (size_t)VELICHUNDAM_RECORD_CELLS * (rows))
 #define VELICHUNDAM_POSITIONS_LEN(rows) (VELICHUNDAM_POSITIONS_HEADER + (size_t)VELICHUNDAM_POSITION_CELLS * (rows))
 #define VELICHUNDAM_PROCESSES_LEN(rows) (VELICHUNDAM_PROCESSES_HEADER + (size_t)VELICHUNDAM_PROCESS_CELLS * (rows))
+
+/* How many cells the pairs of so many records take. */
+#define VELICHUNDAM_PAIRS_LEN(records) ((size_t)VELICHUNDAM_PAIR_CELLS * (records))
 
 /* Side codes. */
 enum {
@@ -260,7 +316,7 @@ enum {
 };
 
 /*
- * An answer: which of nine it is, and up to three numbers. A number that an answer lacks is 0.
+ * An answer: which of ten it is, and up to three numbers. A number that an answer lacks is 0.
  *
  *     kind                            first                            second                          third
  *     0 VELICHUNDAM_BOOKED            rows added to the records table  residual (0 but for a merge)
@@ -272,6 +328,7 @@ enum {
  *     6 VELICHUNDAM_REPLAYED          lines booked, all of them
  *     7 VELICHUNDAM_BAD_LINE          line, from 1
  *     8 VELICHUNDAM_LINE_REFUSED      line, from 1                     number                          place
+ *     9 VELICHUNDAM_LISTED            records listed
  */
 typedef struct velichundam_reply {
     int64_t kind;
@@ -289,7 +346,8 @@ enum {
     VELICHUNDAM_WRITTEN = 5,
     VELICHUNDAM_REPLAYED = 6,
     VELICHUNDAM_BAD_LINE = 7,
-    VELICHUNDAM_LINE_REFUSED = 8
+    VELICHUNDAM_LINE_REFUSED = 8,
+    VELICHUNDAM_LISTED = 9
 };
 
 /*
@@ -303,15 +361,15 @@ enum {
 enum {
     /* The records table is not sound. */
     VELICHUNDAM_RECORDS_NOT_SOUND = 1,
-    /* The positions table is not sound. Not for lineage. */
+    /* The positions table is not sound. Not for lineage, a new day and the reporting list, which are not lent it. */
     VELICHUNDAM_POSITIONS_NOT_SOUND = 2,
     /* A figure of the request, an element of its list or the list's count is out of range; the list of pairs has an odd length; from equals to,
      * or giving taking; the list of trades has no multiple of six figures, or fewer cells for the excesses than trades; a step to be written is no
-     * step's letter. */
+     * step's letter. A new day: it is the current one, or an earlier one, too. */
     VELICHUNDAM_OUT_OF_RANGE = 3,
     /* Trade, merge: the new id has a record already, under whatever suffix. */
     VELICHUNDAM_ID_TAKEN = 4,
-    /* There is no such record. For lineage also: a parent row is missing. */
+    /* There is no such record. For lineage also: a parent row is missing. The reporting list: an inverse of the current day lacks its parent row. */
     VELICHUNDAM_NO_RECORD = 5,
     /* The record's account or series is not the one named. */
     VELICHUNDAM_ELSEWHERE = 6,
@@ -329,7 +387,8 @@ enum {
     VELICHUNDAM_NOT_HELD = 12,
     /* An id would need a suffix above 65,535. */
     VELICHUNDAM_NO_SUFFIX = 13,
-    /* The new rows don't fit into the records table's room. A call that writes: the line doesn't fit into the text. */
+    /* The new rows don't fit into the records table's room. A call that writes: the line doesn't fit into the text. The reporting list: the pairs
+     * don't fit into the cells lent for them, two for each record. */
     VELICHUNDAM_RECORDS_FULL = 14,
     /* The rows that are needed and absent don't fit into the positions table's room. */
     VELICHUNDAM_POSITIONS_FULL = 15,
@@ -476,13 +535,31 @@ velichundam_reply velichundam_give_up_approve_taker(int64_t *records, size_t rec
 velichundam_reply velichundam_lineage(const int64_t *records, size_t records_len, int64_t id, int64_t suffix);
 
 /*
- * The six calls that write a request as a line of a journal. See THE JOURNAL above. They are lent no table, and don't know whether the request was
+ * Moves the current day forward, to a later one. No cell but the current day changes: rows keep the day on which they were booked. It is not lent the
+ * positions, so they may be unsound. See DAYS AND THE REPORTING LIST above.
+ *
+ * Answers booked (0 rows). Refuses by 1, and by 3 where the day is out of range or not after the current one.
+ */
+velichundam_reply velichundam_day(int64_t *records, size_t records_len, int64_t day);
+
+/*
+ * Lists the records of the current day that are reported at its end, in table order: pairs gets id, suffix, id, suffix, .. from its first cell on. The
+ * cells past the last pair stay as they were. See DAYS AND THE REPORTING LIST above for which records these are.
+ *
+ * Answers listed (the records, each of which has two cells). Refuses by 1, 5, 14, and writes no cell then; 14 where pairs_len is below two cells for
+ * each record. The call may be made again at any time of the day: it changes nothing but the pairs.
+ */
+velichundam_reply velichundam_reportable(const int64_t *records, size_t records_len, int64_t *pairs, size_t pairs_len);
+
+/*
+ * The seven calls that write a request as a line of a journal. See THE JOURNAL above. They are lent no table, and don't know whether the request was
  * accepted: the host writes those that were.
  *
  * Each writes from the first byte of text on, at most VELICHUNDAM_TRADE_LINE bytes and so on; a host that appends lends the rest of its buffer. The
  * bytes past what is written stay as they were.
  *
- * Answers written (the bytes). Refuses by 3 what its own call would refuse by 3, then by 14 where text is too short; the text is left as it was.
+ * Answers written (the bytes). Refuses by 3 what its own call would refuse by 3, of a day its range alone, then by 14 where text is too short; the text
+ * is left as it was.
  */
 
 /* Writes the line of a trade. */
@@ -511,14 +588,18 @@ velichundam_reply velichundam_write_merge(uint8_t *text, size_t text_len,
 velichundam_reply velichundam_write_give_up(uint8_t *text, size_t text_len,
     int64_t step, int64_t process, int64_t id, int64_t suffix, int64_t giving, int64_t taking, int64_t series);
 
+/* Writes the line of a new day, from 1 to 99,999, whatever the current day is. */
+velichundam_reply velichundam_write_day(uint8_t *text, size_t text_len, int64_t day);
+
 /*
  * Replays a journal: each line's request is handled as by its own call, line by line up to the first that is bad or refused. A line is bad where it is
  * none that the calls above write; so one whose figures fail test 3 is bad, and so are an empty line, a line of another letter and a last line without
  * its newline. The lines before the one that is named stay booked; it and those after it change nothing.
  *
  * Answers replayed (the lines) where all are booked, which an empty text is, whatever the tables hold. Otherwise a bad line (its place from 1), or a
- * refused line (its place from 1, and its request's refusal by any number but 3). Tables that are not sound refuse the first line, by 1 or 2; a
- * process table that is not sound refuses only the lines of give-ups, by 19.
+ * refused line (its place from 1, and its request's refusal; by 3 only a day that is not after the current one). Tables that are not sound refuse the
+ * first line, by 1 or 2, but days are booked beside unsound positions up to the first line of another kind; a process table that is not sound refuses
+ * only the lines of give-ups, by 19.
  */
 velichundam_reply velichundam_replay(int64_t *records, size_t records_len, int64_t *positions, size_t positions_len,
     int64_t *processes, size_t processes_len, const uint8_t *text, size_t text_len);

@@ -4,7 +4,7 @@ use crate::calls;
 use crate::request::{Coded, Request};
 use crate::stats::Spread;
 use crate::turns::{agree, take_turns};
-use velichundam::{positions_len, POSITION_CELLS, POSITION_QUANTITY, POSITION_VALUE, RECORD_CELLS};
+use velichundam::{positions_len, POSITIONS_HEADER, POSITION_CELLS, POSITION_QUANTITY, POSITION_VALUE, RECORDS_HEADER, RECORD_CELLS};
 
 pub struct Line {
     pub rows: usize,
@@ -15,7 +15,7 @@ pub struct Line {
 /// The position is looked up as a host would, by halving the range.
 #[inline(never)]
 fn from_cells(positions: &[i64], account: i64, series: i64) -> i64 {
-    let (rows, _) = positions[1..].as_chunks::<POSITION_CELLS>();
+    let (rows, _) = positions[POSITIONS_HEADER..].as_chunks::<POSITION_CELLS>();
     let found = rows[..positions[0] as usize].binary_search_by_key(&(account, series), |row| (row[0], row[1]));
     found.map_or(0, |at| average(rows[at][POSITION_QUANTITY], rows[at][POSITION_VALUE]))
 }
@@ -32,7 +32,7 @@ fn average(quantity: i64, value: i64) -> i64 {
 
 /// Over the records of status 0 or 3, buys plus and sells minus.
 fn sums(records: &[i64], account: i64, series: i64) -> [i64; 2] {
-    let (rows, _) = records[1..].as_chunks::<RECORD_CELLS>();
+    let (rows, _) = records[RECORDS_HEADER..].as_chunks::<RECORD_CELLS>();
     let (mut quantity, mut value) = (0, 0);
     for row in &rows[..records[0] as usize] {
         if row[5] == account && row[6] == series && (row[4] == 0 || row[4] == 3) {

@@ -22,14 +22,16 @@ fn position_key(rng: &mut Rng) -> (i64, i64) {
     (1 + rng.below(40) as i64, 1 + rng.below(12) as i64)
 }
 
+const TODAY: i64 = 30;
+
 /// Tables with so many records, adjustable buys under even ids, and the 480 positions, where there are records. Rising ids come after all of the
 /// table's, as a morning's do; shuffled ones are odd, lie all over the table and come in any order.
 fn case(rows: usize, shuffled: bool) -> Case {
     let mut rng = Rng(rows as u64);
-    let (mut records, mut positions) = (vec![rows as i64], vec![0]);
+    let (mut records, mut positions) = (vec![rows as i64, TODAY], vec![0]);
     for k in 0..rows as i64 {
         let (account, series) = position_key(&mut rng);
-        records.extend([1_000 + 2 * k, 0, 0, 0, 0, account, series, 1, 30, 12_500_000 + k % 11, 30, 0, 0]);
+        records.extend([1_000 + 2 * k, 0, 0, 0, 0, account, series, 1, 30, 12_500_000 + k % 11, 30, 0, 0, k % (TODAY + 1)]);
     }
     if rows > 0 {
         positions[0] = 480;

@@ -10,7 +10,9 @@ fn position_key(k: usize) -> (i64, i64) {
     (1 + k as i64 / 20, 1 + k as i64 % 20)
 }
 
-/// A request that is accepted, and the tables for it, with so many records and a quarter as many positions. In the middle stands one id with five
+const TODAY: i64 = 30;
+
+/// A request that is accepted, and the tables for it, with so many records, booked over 31 days, and a quarter as many positions. In the middle stands one id with five
 /// suffixes, each the parent of the next; the other records are adjustable buys under even ids. What a request names lies in the middle of its table,
 /// so that half of the rows move.
 pub fn case(kind: usize, rows: usize) -> (Request, [Vec<i64>; 2]) {
@@ -20,16 +22,16 @@ pub fn case(kind: usize, rows: usize) -> (Request, [Vec<i64>; 2]) {
     let id_of = |k: usize| 1_000 + 2 * k as i64 + if k >= family_at { 2 } else { 0 };
     let family = 1_000 + 2 * family_at as i64;
     let sources = [1, 2, 3, 4].map(|fifth| singles * fifth / 5);
-    let mut records = vec![rows as i64];
+    let mut records = vec![rows as i64, TODAY];
     for k in 0..singles {
         if k == family_at {
             for suffix in 0..5 {
                 let status = if suffix < 4 { 1 } else { 0 };
-                records.extend([family, suffix, (suffix - 1).max(0), 4 * suffix.min(1), status, 1, 1, 1, 40, 12_500_000, 0, 0, 0]);
+                records.extend([family, suffix, (suffix - 1).max(0), 4 * suffix.min(1), status, 1, 1, 1, 40, 12_500_000, 0, 0, 0, TODAY]);
             }
         }
         let (account, series) = if sources.contains(&k) { (1, 1) } else { position_key(k * 7 % position_count) };
-        records.extend([id_of(k), 0, 0, 0, 0, account, series, 1, 30, 12_500_000 + k as i64 % 11, 30, 0, 0]);
+        records.extend([id_of(k), 0, 0, 0, 0, account, series, 1, 30, 12_500_000 + k as i64 % 11, 30, 0, 0, k as i64 % (TODAY + 1)]);
     }
     let mut positions = vec![position_count as i64];
     for k in 0..position_count {

@@ -1,4 +1,4 @@
-//! Journals written and replayed: a day's, the same with give-ups, and trades whose rows move none.
+//! Journals written and replayed: a day's, one with give-ups over some days, and trades whose rows move none.
 
 use crate::day::{self, Day};
 use crate::request::{
@@ -11,7 +11,8 @@ use peer::Step;
 use std::hint::black_box;
 use std::time::Instant;
 use velichundam::{
-    positions_len, processes_len, records_len, MOST_POSITIONS, MOST_PROCESSES, MOST_RECORDS, PROCESSES_HEADER, PROCESS_CELLS, RECORDS_HEADER, RECORD_CELLS,
+    positions_len, processes_len, records_len, CURRENT_DAY, MOST_POSITIONS, MOST_PROCESSES, MOST_RECORDS, PROCESSES_HEADER, PROCESS_CELLS, RECORDS_HEADER,
+    RECORD_CELLS,
 };
 
 type Tables = [Vec<i64>; 3];
@@ -40,11 +41,11 @@ impl Journal {
         Journal { name, entries, text, end }
     }
 
-    /// The requests of which the entries are made, where there is no step among them.
+    /// The requests of which the entries are made, where there is no step and no day among them.
     fn requests(&self) -> Option<Vec<&Request>> {
         let requests = self.entries.iter().map(|entry| match entry {
             Entry::Request(request) => Some(request),
-            Entry::Step(..) => None,
+            Entry::Step(..) | Entry::Day(_) => None,
         });
         requests.collect()
     }
@@ -73,18 +74,22 @@ pub fn all() -> [Journal; 3] {
     };
     [
         Journal::new("day", day.map(Entry::Request).collect()),
-        Journal::new("day with give-ups", with_give_ups(2)),
+        Journal::new("days and give-ups", with_give_ups(2)),
         Journal::new("trades, rising", (0..3_900).map(|k| Entry::Request(trade(k))).collect()),
     ]
 }
 
-/// Draws requests and steps and keeps the accepted ones, until the book has about 3,900 records.
+/// Draws requests, steps and now and then a new day, and keeps the accepted ones, until the book has about 3,900 records.
 fn with_give_ups(seed: u64) -> Vec<Entry> {
     let mut rng = Rng(seed);
     let mut tables = empty_tables();
     let mut entries = Vec::new();
     while tables[0][0] < 3_900 {
-        let entry = if rng.below(3) > 0 { step(&mut rng, &tables) } else { None };
+        let entry = match rng.below(300) {
+            0 => Some(Entry::Day(tables[0][CURRENT_DAY] + 1)),
+            1..200 => step(&mut rng, &tables),
+            _ => None,
+        };
         let entry = entry.unwrap_or_else(|| Entry::Request(day::draw(&mut rng, &tables[0])));
         let accepted = entry_by_hand(&mut tables, &entry).kind != REFUSED;
         if accepted && !matches!(entry, Entry::Request(Request::Lineage { .. })) {

@@ -1,5 +1,5 @@
 //! The time of a request, for the proved book, for the same written by hand in Rust, and for SQLite:
-//! `cargo run --release -- [--samples N] [--batches N] [--days N] [--replays N]`. No time is asserted; that the books agree is.
+//! `cargo run --release -- [--samples N] [--lists N] [--batches N] [--days N] [--replays N]`. No time is asserted; that the books agree is.
 
 mod average;
 mod batch;
@@ -7,6 +7,7 @@ mod calls;
 mod day;
 mod give_ups;
 mod journal;
+mod list;
 mod request;
 mod rng;
 mod sqlite;
@@ -28,6 +29,7 @@ fn main() {
     print_calls(samples);
     print_give_ups(samples);
     print_averages(samples);
+    print_lists(number(&words, "--lists", 200));
     print_batches(number(&words, "--batches", 50));
     print_day(number(&words, "--days", 15));
     print_journals(number(&words, "--replays", 50));
@@ -64,6 +66,20 @@ fn print_averages(samples: usize) {
     for line in average::measure(samples) {
         let ratio = line.over_records.median / line.from_cells.median;
         println!("| {:>5} | {:>24} | {:>26} | {ratio:>33.0} |", line.rows, cell(line.from_cells), cell(line.over_records));
+    }
+}
+
+fn print_lists(samples: usize) {
+    let sql = SqlBook::open();
+    println!("\nThe end of a day, in nanoseconds a call: median of {samples} samples [a tenth below .. a tenth above]. The records were booked by a day's requests, so");
+    println!("many of them on the current day, of which the list has those that are listed. {}\n", sql_note(&sql, "with an index on the day"));
+    println!("| call    |  rows | of the day | listed |                     ours |              by hand, Rust |     SQLite | ours / by hand | SQLite / ours |");
+    println!("|---------|------:|-----------:|-------:|-------------------------:|---------------------------:|-----------:|---------------:|--------------:|");
+    for line in list::measure(samples, sql) {
+        let (ours, by_hand) = (line.ours.median, line.by_hand.median);
+        let (sqlite, against) = line.sqlite.map_or(("-".into(), "-".into()), |time| (format!("{time:.0}"), format!("{:.2}", time / ours)));
+        print!("| {:<7} | {:>5} | {:>10} | {:>6} | {:>24} | {:>26} ", line.call, line.rows, line.of_the_day, line.listed, cell(line.ours), cell(line.by_hand));
+        println!("| {sqlite:>10} | {:>14.2} | {against:>13} |", ours / by_hand);
     }
 }
 

@@ -2,6 +2,7 @@
 
 use peer::Step;
 pub use velichundam::c::Coded;
+use velichundam::c::{velichundam_day, velichundam_reportable, velichundam_write_day};
 use velichundam::c::{velichundam_give_up_approve_giver, velichundam_give_up_approve_taker, velichundam_give_up_cancel};
 use velichundam::c::{velichundam_give_up_claim, velichundam_give_up_open, velichundam_give_up_refuse};
 use velichundam::c::{velichundam_lineage, velichundam_merge, velichundam_separate, velichundam_trade, velichundam_trades, velichundam_transfer};
@@ -36,6 +37,7 @@ pub const REFUSED: i64 = 3;
 const STOPPED: i64 = 4;
 pub const WRITTEN: i64 = 5;
 pub const REPLAYED: i64 = 6;
+pub const LISTED: i64 = 9;
 
 pub type Book = fn(&mut [i64], &mut [i64], &Request) -> Coded;
 
@@ -80,6 +82,7 @@ fn coded(reply: peer::Reply) -> Coded {
         peer::Reply::Replayed { lines } => (REPLAYED, lines, 0, 0),
         peer::Reply::BadLine { line } => (7, line, 0, 0),
         peer::Reply::LineRefused { line, number, place } => (8, line, number, place),
+        peer::Reply::Listed { records } => (LISTED, records, 0, 0),
     };
     Coded { kind, first, second, third }
 }
@@ -141,11 +144,36 @@ pub fn step_by_hand(tables: &mut [Vec<i64>; 3], step: Step, names: &Names) -> Co
     coded(peer::give_up(step, records, positions, processes, process, id, suffix, giving, taking, series))
 }
 
-/// What a line of a journal asks for: a request that changes a table, or a step of a give-up.
+/// The archive, a new day.
+#[inline(never)]
+pub fn day_of_ours(records: &mut [i64], day: i64) -> Coded {
+    unsafe { velichundam_day(records.as_mut_ptr(), records.len(), day) }
+}
+
+/// The peer, a new day.
+#[inline(never)]
+pub fn day_by_hand(records: &mut [i64], day: i64) -> Coded {
+    coded(peer::day(records, day))
+}
+
+/// The archive, the reporting list.
+#[inline(never)]
+pub fn list_of_ours(records: &[i64], pairs: &mut [i64]) -> Coded {
+    unsafe { velichundam_reportable(records.as_ptr(), records.len(), pairs.as_mut_ptr(), pairs.len()) }
+}
+
+/// The peer, the reporting list.
+#[inline(never)]
+pub fn list_by_hand(records: &[i64], pairs: &mut [i64]) -> Coded {
+    coded(peer::reportable(records, pairs))
+}
+
+/// What a line of a journal asks for: a request that changes a table, a step of a give-up, or a new day.
 #[derive(Clone, Debug)]
 pub enum Entry {
     Request(Request),
     Step(Step, Names),
+    Day(i64),
 }
 
 fn letter(step: Step) -> i64 {
@@ -168,6 +196,7 @@ pub fn entry_of_ours(tables: &mut [Vec<i64>; 3], entry: &Entry) -> Coded {
             ours(records, positions, request)
         }
         Entry::Step(step, names) => step_of_ours(tables, *step, names),
+        Entry::Day(day) => day_of_ours(&mut tables[0], *day),
     }
 }
 
@@ -179,6 +208,7 @@ pub fn entry_by_hand(tables: &mut [Vec<i64>; 3], entry: &Entry) -> Coded {
             by_hand(records, positions, request)
         }
         Entry::Step(step, names) => step_by_hand(tables, *step, names),
+        Entry::Day(day) => day_by_hand(&mut tables[0], *day),
     }
 }
 
@@ -202,6 +232,7 @@ pub fn line_of_ours(text: &mut [u8], entry: &Entry) -> Coded {
             Entry::Step(step, [process, id, suffix, giving, taking, series]) => {
                 velichundam_write_give_up(t, tn, letter(*step), *process, *id, *suffix, *giving, *taking, *series)
             }
+            Entry::Day(day) => velichundam_write_day(t, tn, *day),
         }
     }
 }
@@ -220,6 +251,7 @@ pub fn line_by_hand(text: &mut [u8], entry: &Entry) -> Coded {
         Entry::Step(step, [process, id, suffix, giving, taking, series]) => {
             peer::write_give_up(text, letter(*step), *process, *id, *suffix, *giving, *taking, *series)
         }
+        Entry::Day(day) => peer::write_day(text, *day),
     };
     coded(reply)
 }

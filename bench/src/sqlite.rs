@@ -1,11 +1,12 @@
 //! The same book kept in SQLite, in memory: the two tables as SQL tables, a transaction for each request or for a list of them, prepared statements.
 //! SQLite keeps the rows sound by CHECK constraints and finds them by their keys; its tables have no room, so 14 and 15 are not tested. Give-ups are not in it.
+//! The current day is a table of one row; the records of a day have an index where the reporting list is timed, and only there.
 //!
 //! The library is opened at run time, where it is installed.
 
-use crate::request::{Coded, Request, REFUSED};
+use crate::request::{Coded, Request, LISTED, REFUSED};
 use std::ffi::{c_char, c_int, c_void, CStr, CString};
-use velichundam::{POSITION_CELLS, RECORD_CELLS};
+use velichundam::{CURRENT_DAY, LAST_DAY, POSITIONS_HEADER, POSITION_CELLS, RECORDS_HEADER, RECORD_CELLS};
 
 extern "C" {
     fn dlopen(name: *const c_char, flags: c_int) -> *mut c_void;
@@ -74,6 +75,7 @@ const RECORDS: &str = "CREATE TABLE records (
     long INTEGER NOT NULL CHECK (long BETWEEN -1000000 AND 1000000),
     short INTEGER NOT NULL CHECK (short BETWEEN -1000000 AND 1000000),
     into_id INTEGER NOT NULL CHECK (into_id BETWEEN 0 AND 999999999),
+    day INTEGER NOT NULL CHECK (day BETWEEN 0 AND 99999),
     PRIMARY KEY (id, suffix),
     CHECK ((quantity < 0) = (status = 2)),
     CHECK (parent < suffix OR (parent = 0 AND suffix = 0))
@@ -89,6 +91,15 @@ const POSITIONS: &str = "CREATE TABLE positions (
     value INTEGER NOT NULL CHECK (value BETWEEN -4000000000000000000 AND 4000000000000000000),
     PRIMARY KEY (account, series)
 ) WITHOUT ROWID";
+
+const TODAY: &str = "CREATE TABLE today (day INTEGER NOT NULL CHECK (day BETWEEN 0 AND 99999))";
+const FIRST_DAY: &str = "INSERT INTO today VALUES (0)";
+
+/// The list in table order; a third column says that an inverse lacks its parent. The parent is looked up for inverses alone.
+const REPORTABLE: &str = "SELECT r.id, r.suffix, r.status = 2 AND p.day IS NULL
+    FROM records r LEFT JOIN records p ON r.status = 2 AND p.id = r.id AND p.suffix = r.parent
+    WHERE r.day = (SELECT day FROM today) AND (r.status IN (0, 3) OR (r.status = 2 AND (p.day IS NULL OR p.day < r.day)))
+    ORDER BY r.id, r.suffix";
 
 pub struct SqlBook {
     library: Library,
@@ -108,6 +119,11 @@ pub struct SqlBook {
     all_positions: Statement,
     clear_records: Statement,
     clear_positions: Statement,
+    load_record: Statement,
+    set_day: Statement,
+    move_day: Statement,
+    day: Statement,
+    reportable: Statement,
 }
 
 /// parent to into, as in a records row from cell 2 on
@@ -142,10 +158,14 @@ impl SqlBook {
             all_positions: std::ptr::null_mut(),
             clear_records: std::ptr::null_mut(),
             clear_positions: std::ptr::null_mut(),
+            load_record: std::ptr::null_mut(),
+            set_day: std::ptr::null_mut(),
+            move_day: std::ptr::null_mut(),
+            day: std::ptr::null_mut(),
+            reportable: std::ptr::null_mut(),
         };
-        for table in [RECORDS, POSITIONS] {
-            let create = book.prepare(table);
-            book.run(create, &[]);
+        for create in [RECORDS, POSITIONS, TODAY, FIRST_DAY] {
+            book.run(book.prepare(create), &[]);
         }
         book.begin = book.prepare("BEGIN IMMEDIATE");
         book.commit = book.prepare("COMMIT");
@@ -154,7 +174,7 @@ impl SqlBook {
         book.greatest = book.prepare("SELECT max(suffix) FROM records WHERE id = ?1");
         book.record = book
             .prepare("SELECT parent, type, status, account, series, side, quantity, price, long, short, into_id FROM records WHERE id = ?1 AND suffix = ?2");
-        book.add = book.prepare("INSERT INTO records VALUES (?1, ?2, ?3, ?4, ?5, ?6, ?7, ?8, ?9, ?10, ?11, ?12, ?13)");
+        book.add = book.prepare("INSERT INTO records VALUES (?1, ?2, ?3, ?4, ?5, ?6, ?7, ?8, ?9, ?10, ?11, ?12, ?13, (SELECT day FROM today))");
         book.adjust = book.prepare("UPDATE records SET status = 1 WHERE id = ?1 AND suffix = ?2");
         book.position = book.prepare("SELECT long, short, cash FROM positions WHERE account = ?1 AND series = ?2");
         book.make_position = book.prepare("INSERT OR IGNORE INTO positions VALUES (?1, ?2, 0, 0, 0, 0, 0)");
@@ -166,7 +186,17 @@ impl SqlBook {
         book.all_positions = book.prepare("SELECT * FROM positions ORDER BY account, series");
         book.clear_records = book.prepare("DELETE FROM records");
         book.clear_positions = book.prepare("DELETE FROM positions");
+        book.load_record = book.prepare("INSERT INTO records VALUES (?1, ?2, ?3, ?4, ?5, ?6, ?7, ?8, ?9, ?10, ?11, ?12, ?13, ?14)");
+        book.set_day = book.prepare("UPDATE today SET day = ?1");
+        book.move_day = book.prepare("UPDATE today SET day = ?1 WHERE day < ?1");
+        book.day = book.prepare("SELECT day FROM today");
+        book.reportable = book.prepare(REPORTABLE);
         Some(book)
+    }
+
+    /// Finds the records of a day by an index from now on, which has in table order what the list asks of a record; only parents are looked up elsewhere.
+    pub fn index_days(&mut self) {
+        self.run(self.prepare("CREATE INDEX records_day ON records (day, id, suffix, status, parent)"), &[]);
     }
 
     pub fn version(&self) -> String {
@@ -209,8 +239,9 @@ impl SqlBook {
         row
     }
 
-    fn rows(&self, statement: Statement, width: usize) -> Vec<i64> {
-        let mut cells = vec![0];
+    /// The count, the rest of the header, and the rows.
+    fn rows(&self, statement: Statement, header: &[i64], width: usize) -> Vec<i64> {
+        let mut cells = [&[0], header].concat();
         while unsafe { (self.library.step)(statement) } == ROW {
             cells.extend((0..width).map(|k| unsafe { (self.library.column)(statement, k as c_int) }));
             cells[0] += 1;
@@ -221,11 +252,13 @@ impl SqlBook {
 
     /// The count and the rows of both tables, as the lent tables have them.
     pub fn cells(&self) -> (Vec<i64>, Vec<i64>) {
-        (self.rows(self.all_records, RECORD_CELLS), self.rows(self.all_positions, POSITION_CELLS))
+        let today = self.row::<1>(self.day, &[]).expect("there is a current day");
+        (self.rows(self.all_records, &today, RECORD_CELLS), self.rows(self.all_positions, &[], POSITION_CELLS))
     }
 
     pub fn clear(&mut self) {
-        assert!(self.run(self.clear_records, &[]) && self.run(self.clear_positions, &[]), "{}", self.message());
+        let cleared = self.run(self.clear_records, &[]) && self.run(self.clear_positions, &[]) && self.run(self.set_day, &[0]);
+        assert!(cleared, "{}", self.message());
     }
 
     /// One request in a transaction of its own.
@@ -289,13 +322,45 @@ impl SqlBook {
     pub fn load(&mut self, records: &[i64], positions: &[i64]) {
         self.clear();
         self.run(self.begin, &[]);
-        for row in records[1..].chunks_exact(RECORD_CELLS).take(records[0] as usize) {
-            assert!(self.run(self.add, row), "{}", self.message());
+        assert!(self.run(self.set_day, &[records[CURRENT_DAY]]), "{}", self.message());
+        for row in records[RECORDS_HEADER..].chunks_exact(RECORD_CELLS).take(records[0] as usize) {
+            assert!(self.run(self.load_record, row), "{}", self.message());
         }
-        for row in positions[1..].chunks_exact(POSITION_CELLS).take(positions[0] as usize) {
+        for row in positions[POSITIONS_HEADER..].chunks_exact(POSITION_CELLS).take(positions[0] as usize) {
             assert!(self.run(self.make_position, &row[..2]) && self.run(self.move_position, row), "{}", self.message());
         }
         self.run(self.commit, &[]);
+    }
+
+    /// A new day, in a transaction of its own.
+    pub fn new_day(&mut self, day: i64) -> Coded {
+        let moved = is_in(day, 1, LAST_DAY) && self.run(self.move_day, &[day]) && unsafe { (self.library.changes)(self.connection) } == 1;
+        if moved {
+            booked(0, 0)
+        } else {
+            Coded { kind: REFUSED, first: 3, second: 0, third: 0 }
+        }
+    }
+
+    /// The reporting list; a refusal may leave pairs behind, which is not measured.
+    pub fn reportable(&mut self, pairs: &mut [i64]) -> Coded {
+        let mut listed = 0;
+        let (pairs, _) = pairs.as_chunks_mut::<2>();
+        let mut refusal = 0;
+        while refusal == 0 && unsafe { (self.library.step)(self.reportable) } == ROW {
+            let [id, suffix, lacks_parent] = [0, 1, 2].map(|k| unsafe { (self.library.column)(self.reportable, k) });
+            match pairs.get_mut(listed) {
+                _ if lacks_parent == 1 => refusal = 5,
+                Some(pair) => *pair = [id, suffix],
+                None => refusal = 14,
+            }
+            listed += 1;
+        }
+        unsafe { (self.library.reset)(self.reportable) };
+        if refusal > 0 {
+            return Coded { kind: REFUSED, first: refusal, second: 0, third: 0 };
+        }
+        Coded { kind: LISTED, first: listed as i64, second: 0, third: 0 }
     }
 
     fn find(&self, id: i64, suffix: i64, place: usize) -> Result<Record, Stop> {

@@ -4,10 +4,16 @@
 //! host: slices of the right length that do not overlap, and nobody else who writes them. The archive is made by `rt staticlib velichundam`; its folder is
 //! VELICHUNDAM_LIB_DIR, or ../target/staticlib. The header also says how much stack a call may need.
 
-/// Cells before the first row of the records table: cell 0 is the row count.
-pub const RECORDS_HEADER: usize = 1;
+/// Cells before the first row of the records table: cell 0 is the row count, cell 1 the current day.
+pub const RECORDS_HEADER: usize = 2;
+/// The cell of the records table that holds the current day.
+pub const CURRENT_DAY: usize = 1;
 /// Cells of a record.
-pub const RECORD_CELLS: usize = 13;
+pub const RECORD_CELLS: usize = 14;
+/// The cell of a record that holds its day of booking.
+pub const RECORD_DAY: usize = 13;
+/// The greatest day that a table can come to.
+pub const LAST_DAY: i64 = 99_999;
 /// The greatest room of a records table; a longer slice is fine.
 pub const MOST_RECORDS: usize = 4_096;
 /// Cells before the first row of the positions table: cell 0 is the row count.
@@ -38,6 +44,10 @@ pub const TRADE_LINE: usize = 49;
 pub const TRANSFER_LINE: usize = 35;
 /// The most bytes that the line of a step of a give-up takes in a journal.
 pub const GIVE_UP_LINE: usize = 47;
+/// The most bytes that the line of a new day takes in a journal.
+pub const DAY_LINE: usize = 8;
+/// Cells of a record on the reporting list: id, suffix.
+pub const PAIR_CELLS: usize = 2;
 
 /// The most bytes that the line of a separation into so many parts takes in a journal.
 pub const fn separation_line(parts: usize) -> usize {
@@ -62,6 +72,11 @@ pub const fn positions_len(rows: usize) -> usize {
 /// How many cells a process table takes that has room for so many rows.
 pub const fn processes_len(rows: usize) -> usize {
     PROCESSES_HEADER + PROCESS_CELLS * rows
+}
+
+/// How many cells the pairs of so many records take on the reporting list.
+pub const fn pairs_len(records: usize) -> usize {
+    PAIR_CELLS * records
 }
 
 /// A step of a give-up. The header has a picture of who may do what, and when.
@@ -133,13 +148,15 @@ pub enum Reply {
     BadLine { line: i64 },
     /// A journal replayed up to this line, counted from 1, whose request is refused, and that refusal. The lines before it stay booked.
     LineRefused { line: i64, number: i64, place: i64 },
+    /// The reporting list: so many records, a pair of cells for each, from the first lent cell on.
+    Listed { records: i64 },
 }
 
 /// The answer that the numbers of the C interface stand for.
 ///
 /// # Panics
 ///
-/// At a kind that is none of 0 to 8. The archive is proved to answer with these alone, so another number means that the archive that was linked and this crate
+/// At a kind that is none of 0 to 9. The archive is proved to answer with these alone, so another number means that the archive that was linked and this crate
 /// don't belong together. To call it a refusal would be to say that no cell has changed, which nobody knows then.
 impl From<c::Coded> for Reply {
     fn from(coded: c::Coded) -> Reply {
@@ -154,6 +171,7 @@ impl From<c::Coded> for Reply {
             6 => Reply::Replayed { lines: first },
             7 => Reply::BadLine { line: first },
             8 => Reply::LineRefused { line: first, number: second, place: third },
+            9 => Reply::Listed { records: first },
             _ => panic!("an answer of kind {kind}: the archive that is linked is not the one that this crate was written for"),
         }
     }
@@ -223,6 +241,18 @@ pub fn lineage(records: &[i64], id: i64, suffix: i64) -> Reply {
     unsafe { c::velichundam_lineage(records.as_ptr(), records.len(), id, suffix) }.into()
 }
 
+/// Moves the current day forward: to a later one, at most `LAST_DAY`. No other cell changes; what is booked from then on is of that day.
+pub fn day(records: &mut [i64], day: i64) -> Reply {
+    unsafe { c::velichundam_day(records.as_mut_ptr(), records.len(), day) }.into()
+}
+
+/// Lists the records of the current day that are reported at its end, in table order: id and suffix of each go to two cells of `pairs`, from the first on, and
+/// the other cells stay. Listed are those that are adjustable or under give-up, and inverses whose parent was booked on an earlier day. The cells that
+/// `pairs_len` gives for the table's rows are always enough.
+pub fn reportable(records: &[i64], pairs: &mut [i64]) -> Reply {
+    unsafe { c::velichundam_reportable(records.as_ptr(), records.len(), pairs.as_mut_ptr(), pairs.len()) }.into()
+}
+
 /// Writes the line of a trade to the front of `text`. A host does so for each request that was accepted, and replays the lines later.
 ///
 /// This and the other calls that write answer the bytes written, at most those of `TRADE_LINE` and its like. They refuse what fails test 3 by 3, and then a text
@@ -256,6 +286,11 @@ pub fn write_merge(text: &mut [u8], id: i64, account: i64, series: i64, pairs: &
 pub fn write_give_up(text: &mut [u8], step: Step, process: i64, id: i64, suffix: i64, giving: i64, taking: i64, series: i64) -> Reply {
     let letter = i64::from(step.letter());
     unsafe { c::velichundam_write_give_up(text.as_mut_ptr(), text.len(), letter, process, id, suffix, giving, taking, series) }.into()
+}
+
+/// Writes the line of a new day, which is refused by its range alone: the call is lent no table, and knows no current day.
+pub fn write_day(text: &mut [u8], day: i64) -> Reply {
+    unsafe { c::velichundam_write_day(text.as_mut_ptr(), text.len(), day) }.into()
 }
 
 /// Books the lines of a journal one by one, each as its own call does, up to the first that is bad or refused.
@@ -301,6 +336,8 @@ pub mod c {
         pub fn velichundam_give_up_approve_taker(records: *mut i64, records_len: usize, positions: *mut i64, positions_len: usize,
             processes: *mut i64, processes_len: usize, process: i64, id: i64, suffix: i64, giving: i64, taking: i64, series: i64) -> Coded;
         pub fn velichundam_lineage(records: *const i64, records_len: usize, id: i64, suffix: i64) -> Coded;
+        pub fn velichundam_day(records: *mut i64, records_len: usize, day: i64) -> Coded;
+        pub fn velichundam_reportable(records: *const i64, records_len: usize, pairs: *mut i64, pairs_len: usize) -> Coded;
         pub fn velichundam_write_trade(text: *mut u8, text_len: usize,
             id: i64, account: i64, series: i64, side: i64, quantity: i64, price: i64) -> Coded;
         pub fn velichundam_write_trades(text: *mut u8, text_len: usize, trades: *const i64, trades_len: usize) -> Coded;
@@ -311,6 +348,7 @@ pub mod c {
             id: i64, account: i64, series: i64, pairs: *const i64, pairs_len: usize) -> Coded;
         pub fn velichundam_write_give_up(text: *mut u8, text_len: usize,
             step: i64, process: i64, id: i64, suffix: i64, giving: i64, taking: i64, series: i64) -> Coded;
+        pub fn velichundam_write_day(text: *mut u8, text_len: usize, day: i64) -> Coded;
         pub fn velichundam_replay(records: *mut i64, records_len: usize, positions: *mut i64, positions_len: usize,
             processes: *mut i64, processes_len: usize, text: *const u8, text_len: usize) -> Coded;
     }

@@ -1,7 +1,8 @@
 //! A host in Rust: document 01's P11, the answers that carry other values, a refusal that changes nothing, the average entry of a position, a list of trades,
-//! give-ups, a journal and its replay, and what is no answer at all.
+//! give-ups, a journal and its replay, a day's end, and what is no answer at all.
 
 use velichundam::{c::Coded, give_up, lineage, merge, positions_len, processes_len, records_len, separate, trade, trades, transfer, Reply, Stage, Step};
+use velichundam::{day, pairs_len, reportable, write_day, CURRENT_DAY, DAY_LINE, LAST_DAY, RECORD_DAY};
 use velichundam::{merge_line, separation_line, GIVE_UP_LINE, TRADE_LINE, TRANSFER_LINE};
 use velichundam::{replay, write_give_up, write_merge, write_separation, write_trade, write_trades, write_transfer};
 use velichundam::{POSITION_QUANTITY, POSITION_VALUE};
@@ -52,7 +53,7 @@ fn a_list_of_trades_is_booked_or_stops() {
     let list = [30, 1, 1, 1, 40, 5, 10, 1, 1, 4, 60, 5, 30, 1, 1, 2, 1, 5];
     let mut excess = [-1; 4];
     assert_eq!(trades(&mut records, &mut positions, &list, &mut excess), Reply::Stopped { booked: 2, number: 4, place: 0 });
-    assert_eq!((records[0], records[1], records[14], excess), (2, 10, 30, [0, 20, -1, -1]));
+    assert_eq!((records[0], records[records_len(0)], records[records_len(1)], excess), (2, 10, 30, [0, 20, -1, -1]));
     assert_eq!(positions[..8], [1, 1, 1, 0, 20, 0, -20, -100]);
 
     let before = (records.clone(), positions.clone());
@@ -90,7 +91,7 @@ impl Book {
     /// The status of id 7, and of the process in that row the approvals and the stage.
     fn state(&self, row: usize) -> (i64, [i64; 2], Option<Stage>) {
         let cells = &self.processes[processes_len(row)..processes_len(row + 1)];
-        (self.records[5], [cells[6], cells[7]], Stage::of(cells[8]))
+        (self.records[records_len(0) + 4], [cells[6], cells[7]], Stage::of(cells[8]))
     }
 }
 
@@ -106,7 +107,7 @@ fn a_give_up_is_booked_once_claimed_and_approved() {
     }
     assert_eq!(book.step(9, Step::ApproveTaker), Reply::Booked { rows: 2, residual: 0 });
     assert_eq!(book.state(0), (1, [1, 1], Some(Stage::Done)));
-    let added = [[7, 1, 0, 20, 2, 1, 1, 1, -100, 5, -100, 0, 0], [7, 2, 0, 30, 0, 2, 1, 1, 100, 5, 100, 0, 0]];
+    let added = [[7, 1, 0, 20, 2, 1, 1, 1, -100, 5, -100, 0, 0, 0], [7, 2, 0, 30, 0, 2, 1, 1, 100, 5, 100, 0, 0, 0]];
     assert_eq!((book.records[0], &book.records[records_len(1)..records_len(3)]), (3, added.concat().as_slice()));
     assert_eq!(book.positions[..15], [2, 1, 1, 0, 0, 0, 0, 0, 2, 1, 100, 0, 0, 100, 500]);
 }
@@ -185,6 +186,76 @@ fn a_replay_stops_at_a_line() {
     assert_eq!(book.records[0], 7);
 }
 
+/// A host's end of a day: the list as pairs of id and suffix, then the day after it.
+fn end_day(records: &mut [i64]) -> Vec<[i64; 2]> {
+    let mut pairs = vec![-1; pairs_len(records[0] as usize)];
+    let Reply::Listed { records: listed } = reportable(records, &mut pairs) else { panic!("the list is refused") };
+    let (pairs, rest) = pairs.split_at(pairs_len(listed as usize));
+    assert!(rest.iter().all(|cell| *cell == -1));
+    assert_eq!(day(records, records[CURRENT_DAY] + 1), NO_ROW);
+    pairs.as_chunks().0.to_vec()
+}
+
+#[test]
+fn a_day_ends_with_its_list() {
+    let mut book = Book::new();
+    assert_eq!(book.step(9, Step::Open), NO_ROW);
+    // Under give-up it counts as adjustable.
+    assert_eq!(end_day(&mut book.records), [[7, 0]]);
+    assert_eq!((book.records[CURRENT_DAY], book.records[RECORD_DAY + records_len(0)]), (1, 0));
+    for step in [Step::Claim, Step::ApproveGiver, Step::ApproveTaker] {
+        book.step(9, step);
+    }
+    // The trade was reported the day before, so that its inverse is reported too; the separated row and its inverse are both of this day.
+    let (records, positions) = (&mut book.records, &mut book.positions);
+    assert_eq!(separate(records, positions, 7, 2, 2, 1, &[60, 40]), Reply::Booked { rows: 3, residual: 0 });
+    assert_eq!(end_day(records), [[7, 1], [7, 4], [7, 5]]);
+    let days: Vec<i64> = (0..6).map(|row| records[records_len(row) + RECORD_DAY]).collect();
+    assert_eq!((records[CURRENT_DAY], days), (2, vec![0, 1, 1, 1, 1, 1]));
+    assert_eq!(end_day(records), [[0; 2]; 0]);
+}
+
+#[test]
+fn a_day_or_a_list_is_refused() {
+    let mut book = Book::new();
+    let refused = |number: i64| Reply::Refused { number, place: 0 };
+    let mut pairs = [-1; 3];
+    assert_eq!(reportable(&book.records, &mut pairs[..1]), refused(14));
+    assert_eq!(pairs, [-1; 3]);
+    assert_eq!(reportable(&book.records, &mut pairs), Reply::Listed { records: 1 });
+    assert_eq!(pairs, [7, 0, -1]);
+    for wrong in [-1, 0, LAST_DAY + 1] {
+        assert_eq!(day(&mut book.records, wrong), refused(3));
+    }
+    assert_eq!(day(&mut book.records, LAST_DAY), NO_ROW);
+    assert_eq!(day(&mut book.records, LAST_DAY), refused(3));
+    // An inverse of the current day whose parent row is not there, and a row that is of a later day than the table.
+    book.records[records_len(0)..records_len(1)].copy_from_slice(&[7, 4, 3, 6, 2, 1, 1, 1, -100, 5, 0, 0, 0, LAST_DAY]);
+    assert_eq!(reportable(&book.records, &mut pairs), refused(5));
+    book.records[CURRENT_DAY] -= 1;
+    assert_eq!(reportable(&book.records, &mut pairs), refused(1));
+    assert_eq!(day(&mut book.records, LAST_DAY), refused(1));
+    assert_eq!(day(&mut [0], 1), refused(1));
+}
+
+#[test]
+fn days_are_journalled_and_replayed() {
+    let mut journal = Journal::default();
+    journal.append(DAY_LINE, |text| write_day(text, 17));
+    journal.append(DAY_LINE, |text| write_day(text, LAST_DAY));
+    assert_eq!(journal.0, b"D\t17\nD\t99999\n");
+    assert_eq!(write_day(&mut [0; DAY_LINE], 0), Reply::Refused { number: 3, place: 0 });
+    assert_eq!(write_day(&mut [0; 4], 17), Reply::Refused { number: 14, place: 0 });
+    let mut book = Book::new();
+    assert_eq!(book.replay("D\t17\nA\t7\t0\t1\t2\t1\nD\t18\nD\t18\n"), Reply::LineRefused { line: 4, number: 3, place: 0 });
+    assert_eq!((book.records[CURRENT_DAY], book.records[records_len(2) + RECORD_DAY]), (18, 17));
+    assert_eq!(book.replay("D\t100000\n"), Reply::BadLine { line: 1 });
+    // A line of a day has no test 2.
+    book.positions.clear();
+    assert_eq!(book.replay("D\t19\nD\t20\nA\t7\t2\t2\t1\t1\n"), Reply::LineRefused { line: 3, number: 2, place: 0 });
+    assert_eq!(book.records[CURRENT_DAY], 20);
+}
+
 #[test]
 fn a_text_that_is_too_short_stays() {
     let mut text = [7; TRANSFER_LINE];
@@ -208,12 +279,13 @@ fn each_kind_has_its_case() {
     assert_eq!(answer(6), Reply::Replayed { lines: 7 });
     assert_eq!(answer(7), Reply::BadLine { line: 7 });
     assert_eq!(answer(8), Reply::LineRefused { line: 7, number: 8, place: 9 });
+    assert_eq!(answer(9), Reply::Listed { records: 7 });
 }
 
 #[test]
-#[should_panic(expected = "an answer of kind 9:")]
+#[should_panic(expected = "an answer of kind 10:")]
 fn an_unknown_kind_is_no_refusal() {
-    let _ = Reply::from(Coded { kind: 9, first: 7, second: 8, third: 9 });
+    let _ = Reply::from(Coded { kind: 10, first: 7, second: 8, third: 9 });
 }
 
 #[test]

@@ -3,7 +3,7 @@
 
 use crate::checker::Checker;
 use crate::sweeps::{many, small};
-use crate::tables::{positions_len, records_len, Tables, MOST_POSITIONS, MOST_RECORDS, POSITION_CELLS};
+use crate::tables::{positions_len, records_len, Tables, MOST_POSITIONS, MOST_RECORDS, POSITION_CELLS, RECORD_CELLS};
 use model::{Reply, Request};
 
 type Trade = [i64; 6];
@@ -107,7 +107,7 @@ fn limit_of_a_position(checker: &mut Checker) {
 /// Batches that reach 4,096 records or 1,024 positions, in slices that are just long enough, shorter and longer.
 fn greatest_rooms(checker: &mut Checker) {
     let around: Vec<Trade> = (0..6).map(|k| [if k % 2 == 0 { 9 - k } else { 9_000 - k }, 1, 1, 1 + k % 4, 1 + k, k]).collect();
-    for spare in [0, 12, 13, 40] {
+    for spare in [0, RECORD_CELLS - 1, RECORD_CELLS, 40] {
         for count in [4_089, 4_090, 4_091, 4_095, 4_096, 4_097] {
             let mut tables = many(4_098, 4_100, 4);
             tables.records[0] = count;

@@ -2,6 +2,8 @@
 //! memory around them.
 
 use crate::coverage::Coverage;
+use crate::day_situations;
+use crate::days;
 use crate::give_up_situations;
 use crate::journal_situations;
 use crate::lent::{note_call, Fence};
@@ -44,7 +46,9 @@ impl Checker {
         give_up_situations::note(&mut self.coverage, tables, &expected, request, answer.reply);
         journal_situations::note(&mut self.coverage, tables, &expected, request, answer.reply);
         totals_situations::note(&mut self.coverage, tables, &expected, request, &answer);
+        day_situations::note(&mut self.coverage, tables, &expected, request, &answer);
         self.compare_totals(tables, &outcome.tables, request);
+        self.compare_days(tables, &outcome, request);
         *tables = expected;
         answer
     }
@@ -61,6 +65,26 @@ impl Checker {
             self.fail_later(&format!("the totals and the sums over the records\n{before}\n{}\n\n{after}", print_request(request)));
         }
         self.coverage.situation(if untrue.is_empty() { "totals: true afterwards as before" } else { "totals: as untrue afterwards as before" });
+    }
+
+    /// The days of the records that the book left, and its list, against the cells before the call. The model has no part in this.
+    fn compare_days(&mut self, before: &Tables, outcome: &Outcome, request: &Request) {
+        let moves = matches!(request, Request::NewDay { .. } | Request::Replay { .. });
+        if let Err(what) = days::kept(before, &outcome.tables, moves) {
+            let after = outcome.tables.print();
+            self.fail_later(&format!("{what}\n{}\n{}\n\n{after}", before.print(), print_request(request)));
+        }
+        if let (Request::Reportable { cells }, Coded { kind, first, .. }) = (request, outcome.answer) {
+            let answered = match (kind, first) {
+                (3, 1) => return,
+                (9, records) => Ok(&outcome.output[..2 * records as usize]),
+                (_, number) => Err(number),
+            };
+            if answered != days::list(before, *cells).as_deref().map_err(|number| *number) {
+                self.fail_later(&format!("the list and the rows\n{}\n{}", before.print(), print_request(request)));
+            }
+            self.coverage.situation("list: as the rows say, by a plain scan");
+        }
     }
 
     /// Counts a call, and says at which fence its slices lie.

@@ -1,5 +1,6 @@
 //! Which answers were seen, for each kind of request, and which special situations; a run that misses a possible one fails.
 
+use crate::day_situations::{DAY_LINE_SITUATIONS, DAY_SITUATIONS};
 use crate::give_up_situations::GIVE_UP_SITUATIONS;
 use crate::journal_situations::JOURNAL_SITUATIONS;
 use crate::totals_situations::TOTALS_SITUATIONS;
@@ -7,16 +8,34 @@ use model::{Reply, Request};
 use std::collections::{BTreeMap, BTreeSet};
 
 /// The kinds of request, and last the calls that write a request's line.
-pub const KINDS: [&str; 14] =
-    ["trade", "separation", "transfer", "merge", "lineage", "batch", "open", "claim", "cancel", "refuse", "giver's", "taker's", "replay", "writing"];
+pub const KINDS: [&str; 16] = [
+    "trade",
+    "separation",
+    "transfer",
+    "merge",
+    "lineage",
+    "batch",
+    "open",
+    "claim",
+    "cancel",
+    "refuse",
+    "giver's",
+    "taker's",
+    "day",
+    "list",
+    "replay",
+    "writing",
+];
 
 /// The first of the six steps of a give-up among the kinds.
 pub const STEPS: usize = 6;
 pub const LINEAGE_KIND: usize = 4;
-pub const REPLAY: usize = 12;
-const WRITING: usize = 13;
+pub const DAY: usize = 12;
+pub const LIST: usize = 13;
+pub const REPLAY: usize = 14;
+const WRITING: usize = 15;
 
-/// 0 to 12, in the order of `KINDS`.
+/// 0 to 14, in the order of `KINDS`.
 pub fn kind_of(request: &Request) -> usize {
     match request {
         Request::Trade { .. } => 0,
@@ -26,18 +45,21 @@ pub fn kind_of(request: &Request) -> usize {
         Request::Lineage { .. } => 4,
         Request::Trades { .. } => 5,
         Request::GiveUp { step, .. } => STEPS + *step as usize,
+        Request::NewDay { .. } => DAY,
+        Request::Reportable { .. } => LIST,
         Request::Replay { .. } => REPLAY,
     }
 }
 
-/// Columns 1 to 23 are the refusals; then booked, booked without a row, closing error, lineage; then the stops, by the number of the refusal; then written,
+/// Columns 1 to 23 are the refusals; then booked, booked without a row, closing error, lineage, listed; then the stops, by the number of the refusal; then written,
 /// replayed and bad line; then the refused lines, by the number of the refusal.
 const REFUSALS: usize = 23;
 pub const BOOKED: usize = 24;
 pub const NO_ROW: usize = 25;
 pub const CLOSING_ERROR: usize = 26;
 pub const LINEAGE: usize = 27;
-const STOPPED: usize = 28;
+const LISTED: usize = 28;
+const STOPPED: usize = 29;
 const WRITTEN: usize = STOPPED + REFUSALS + 1;
 const REPLAYED: usize = WRITTEN + 1;
 const BAD_LINE: usize = WRITTEN + 2;
@@ -55,6 +77,7 @@ pub fn column_of(reply: Reply) -> usize {
         Reply::Booked { .. } => BOOKED,
         Reply::ClosingError { .. } => CLOSING_ERROR,
         Reply::Lineage { .. } => LINEAGE,
+        Reply::Listed { .. } => LISTED,
         Reply::Stopped { number, .. } => STOPPED + refusal_column(number),
         Reply::Written { .. } => WRITTEN,
         Reply::Replayed { .. } => REPLAYED,
@@ -69,6 +92,7 @@ fn column_name(column: usize) -> String {
         NO_ROW => "booked, no row".to_string(),
         CLOSING_ERROR => "closing error".to_string(),
         LINEAGE => "lineage".to_string(),
+        LISTED => "listed".to_string(),
         WRITTEN => "written".to_string(),
         REPLAYED => "replayed".to_string(),
         BAD_LINE => "bad line".to_string(),
@@ -84,9 +108,10 @@ fn column_name(column: usize) -> String {
 /// no id; its list of one record has no 9 to 11. A merge takes nothing out of a position, so 12 can't apply. Lineage has 1, 3 and 5 alone. A
 /// batch is refused before its first trade alone; its tables being sound, it stops by the other numbers of a trade. A record under give-up is refused 17
 /// wherever it would be adjusted or opened on. An opening books no row, and 23 is its own; a cancellation and a refusal end the process without a row; a claim
-/// or an approval may be the step that completes, the claim on foreign tables only, and is then tested and booked as a transfer. A replay itself is never
-/// refused; a line that fails test 3 is bad. A writing call reads no table, and has 3 and 14 alone.
-pub const POSSIBLE: [&[usize]; 14] = [
+/// or an approval may be the step that completes, the claim on foreign tables only, and is then tested and booked as a transfer. A new day has 1 and 3, the list
+/// 1, 5 and 14. A replay itself is never refused; a line that fails test 3 is bad, but for a day's that comes no later. A writing call reads no table, and has
+/// 3 and 14 alone.
+pub const POSSIBLE: [&[usize]; 16] = [
     &[1, 2, 3, 4, 14, 15, 16, BOOKED, CLOSING_ERROR],
     &[1, 2, 3, 5, 6, 7, 11, 13, 14, 17, BOOKED],
     &[1, 2, 3, 5, 6, 7, 8, 12, 13, 14, 15, 16, 17, BOOKED],
@@ -99,11 +124,14 @@ pub const POSSIBLE: [&[usize]; 14] = [
     &[1, 2, 3, 5, 6, 7, 8, 18, 19, NO_ROW],
     &[1, 2, 3, 5, 6, 7, 8, 12, 13, 14, 15, 16, 18, 19, NO_ROW, BOOKED],
     &[1, 2, 3, 5, 6, 7, 8, 12, 13, 14, 15, 16, 18, 19, NO_ROW, BOOKED],
+    &[1, 3, NO_ROW],
+    &[1, 5, 14, LISTED],
     &[
         REPLAYED,
         BAD_LINE,
         LINE_REFUSED + 1,
         LINE_REFUSED + 2,
+        LINE_REFUSED + 3,
         LINE_REFUSED + 4,
         LINE_REFUSED + 5,
         LINE_REFUSED + 6,
@@ -125,7 +153,7 @@ pub const POSSIBLE: [&[usize]; 14] = [
     &[3, 14, WRITTEN],
 ];
 
-/// Situations that a good run has met besides, those of give-ups, journals and totals not among them.
+/// Situations that a good run has met besides, those of give-ups, journals, totals and days not among them.
 pub const SITUATIONS: [&str; 54] = [
     "trade: buy open",
     "trade: sell open",
@@ -184,7 +212,7 @@ pub const SITUATIONS: [&str; 54] = [
 ];
 
 fn all_situations() -> impl Iterator<Item = &'static str> {
-    SITUATIONS.into_iter().chain(GIVE_UP_SITUATIONS).chain(JOURNAL_SITUATIONS).chain(TOTALS_SITUATIONS)
+    SITUATIONS.into_iter().chain(GIVE_UP_SITUATIONS).chain(JOURNAL_SITUATIONS).chain(TOTALS_SITUATIONS).chain(DAY_SITUATIONS).chain(DAY_LINE_SITUATIONS)
 }
 
 pub struct Coverage {
@@ -259,27 +287,27 @@ impl Coverage {
         }
     }
 
-    /// A line was refused by this number after booked ones: any but 1 and 2, which apply to the first line, and 3.
+    /// A line was refused by this number after booked ones: any but 1, which applies to the first line; 2 after lines of days alone, and 3 of such a line.
     pub fn late_line(&mut self, number: i64) {
         self.late_lines.insert(number);
-        if (4..=19).chain([23]).all(|n| self.late_lines.contains(&n)) {
-            self.situation("replay: refused after booked lines, by each of 4 to 19 and 23");
+        if (2..=19).chain([23]).all(|n| self.late_lines.contains(&n)) {
+            self.situation("replay: refused after booked lines, by each of 2 to 19 and 23");
         }
     }
 
-    /// A replay booked a line of these letters: there are four kinds and six steps.
+    /// A replay booked a line of these letters: there are five kinds and six steps.
     pub fn booked_line(&mut self, letters: [u8; 2]) {
         self.booked_lines.insert(letters);
-        if self.booked_lines.len() == 10 {
+        if self.booked_lines.len() == 11 {
             self.situation("replay: lines of each kind and each step booked");
         }
     }
 
-    /// One of the six writing calls, and one of the six things that may come of it.
+    /// One of the seven writing calls, and one of the six things that may come of it.
     pub fn writing(&mut self, call: usize, what: &'static str, reply: Reply) {
         self.answers[WRITING][column_of(reply)] += 1;
         self.writings.insert((call, what));
-        if self.writings.len() == 36 {
+        if self.writings.len() == 42 {
             self.situation("writing: each call, into buffers of every kind, and refused");
         }
     }
@@ -301,7 +329,7 @@ impl Coverage {
             if count == 0 {
                 missing.push(name.to_string());
             }
-            text += &format!("{name:<64}{:>10}\n", if count == 0 { "MISSING".to_string() } else { count.to_string() });
+            text += &format!("{name:<72}{:>10}\n", if count == 0 { "MISSING".to_string() } else { count.to_string() });
         }
         (text, missing)
     }

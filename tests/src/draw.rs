@@ -2,17 +2,18 @@
 //! requests meet each other's records and positions and the rules' limits.
 
 use crate::batches;
-use crate::coverage::{REPLAY, STEPS};
+use crate::coverage::{DAY, LIST, REPLAY, STEPS};
+use crate::days;
 use crate::give_ups;
 use crate::journals;
 use crate::rng::Rng;
-use crate::tables::{Tables, POSITION_CELLS, PROCESS_CELLS, RECORD_CELLS};
+use crate::tables::{Tables, CURRENT_DAY, POSITIONS_HEADER, POSITION_CELLS, PROCESSES_HEADER, PROCESS_CELLS, RECORDS_HEADER, RECORD_CELLS};
 use crate::totals;
 use model::Request;
 use std::collections::{BTreeMap, BTreeSet};
 
 /// The ends of every range of documents 01 and 02 with their neighbours, the codes of types and stages, and the ends of the machine's numbers.
-pub const ENDS: [i64; 44] = [
+pub const ENDS: [i64; 46] = [
     i64::MIN,
     i64::MIN + 1,
     -4_000_000_000_000_000_001,
@@ -43,6 +44,8 @@ pub const ENDS: [i64; 44] = [
     10_000,
     65_535,
     65_536,
+    99_999,
+    100_000,
     999_999,
     1_000_000,
     1_000_001,
@@ -124,18 +127,38 @@ fn draw_cells(rng: &mut Rng, count: usize) -> Vec<i64> {
     (0..count).map(|_| if rng.percent(30) { rng.pick(&ENDS) } else { rng.between(-9, 99) }).collect()
 }
 
-/// A table of whole rows, the cells past them and a part of a row, with some room to spare.
-fn table(rng: &mut Rng, rows: &[Vec<i64>], width: usize, lean: Lean) -> Vec<i64> {
+/// A table of whole rows after its header, of which cell 0 is their count, the cells past them and a part of a row, with some room to spare.
+fn table(rng: &mut Rng, header: &[i64], rows: &[Vec<i64>], width: usize, lean: Lean) -> Vec<i64> {
     let spare = if lean == Lean::Tight { rng.pick(&[0, 0, 1, 1, 2, 3]) } else { rng.pick(&[0, 2, 5, 8, 20, 40]) };
     let part = rng.below(width);
-    let mut cells = vec![rows.len() as i64];
+    let mut cells = [&[rows.len() as i64], header].concat();
     cells.extend(rows.iter().flatten());
     let past = draw_cells(rng, spare * width + part);
     cells.extend(past);
     cells
 }
 
-fn records(rng: &mut Rng, lean: Lean, most: usize) -> Vec<Vec<i64>> {
+/// A current day: an end of its range, or one of the first.
+fn draw_today(rng: &mut Rng) -> i64 {
+    match rng.below(8) {
+        0 => 0,
+        1 => 99_999,
+        2 => rng.between(0, 99_999),
+        _ => rng.between(1, 5),
+    }
+}
+
+/// A day of booking: mostly the current one or one before it.
+fn draw_day(rng: &mut Rng, today: i64) -> i64 {
+    match rng.below(10) {
+        0 => 0,
+        1..=3 => (today - 1).max(0),
+        4 => rng.between(0, today),
+        _ => today,
+    }
+}
+
+fn records(rng: &mut Rng, lean: Lean, most: usize, today: i64) -> Vec<Vec<i64>> {
     let wanted = rng.below(most + 1);
     let mut keys = BTreeSet::new();
     for _ in 0..wanted {
@@ -176,6 +199,7 @@ fn records(rng: &mut Rng, lean: Lean, most: usize) -> Vec<Vec<i64>> {
             if rng.percent(20) { rng.between(-1_000_000, 1_000_000) } else { 0 },
             if rng.percent(20) { rng.pick(&[-1_000_000, 1_000_000]) } else { 0 },
             if rng.percent(10) { draw_id(rng) } else { 0 },
+            draw_day(rng, today),
         ]);
     }
     rows
@@ -248,19 +272,20 @@ fn positions(rng: &mut Rng, lean: Lean, records: &[Vec<i64>]) -> Vec<Vec<i64>> {
 
 /// Sound tables with at most about so many records.
 pub fn sound_tables(rng: &mut Rng, lean: Lean, most: usize) -> Tables {
-    let record_rows = records(rng, lean, most);
+    let today = draw_today(rng);
+    let record_rows = records(rng, lean, most, today);
     let position_rows = positions(rng, lean, &record_rows);
     let process_rows = give_ups::processes(rng, &record_rows);
     Tables {
-        records: table(rng, &record_rows, RECORD_CELLS, lean),
-        positions: table(rng, &position_rows, POSITION_CELLS, lean),
-        processes: table(rng, &process_rows, PROCESS_CELLS, lean),
+        records: table(rng, &[today], &record_rows, RECORD_CELLS, lean),
+        positions: table(rng, &[], &position_rows, POSITION_CELLS, lean),
+        processes: table(rng, &[], &process_rows, PROCESS_CELLS, lean),
     }
 }
 
-/// Empty tables with so much room, and cells past it.
+/// Empty tables with so much room, and cells past it: "Empty tables start at day 0".
 pub fn empty_tables(rng: &mut Rng, records: usize, positions: usize, processes: usize) -> Tables {
-    let mut tables = Tables { records: vec![0], positions: vec![0], processes: vec![0] };
+    let mut tables = Tables { records: vec![0; RECORDS_HEADER], positions: vec![0; POSITIONS_HEADER], processes: vec![0; PROCESSES_HEADER] };
     let past = draw_cells(rng, records * RECORD_CELLS);
     tables.records.extend(past);
     let past = draw_cells(rng, positions * POSITION_CELLS + 3);
@@ -270,31 +295,34 @@ pub fn empty_tables(rng: &mut Rng, records: usize, positions: usize, processes: 
     tables
 }
 
-/// Other empty tables of the same room: the cells past cell 0 are others, and so is the part of a row at the end.
+/// Other empty tables of the same room: the cells past the header are others, and so is the part of a row at the end.
 pub fn empty_again(rng: &mut Rng, tables: &Tables) -> Tables {
-    let mut table = |cells: &[i64], width: usize| {
-        let past = (cells.len() - 1) / width * width + rng.below(width);
-        [vec![0], draw_cells(rng, past)].concat()
+    let mut table = |cells: &[i64], header: usize, width: usize| {
+        let past = (cells.len() - header) / width * width + rng.below(width);
+        [vec![0; header], draw_cells(rng, past)].concat()
     };
     Tables {
-        records: table(&tables.records, RECORD_CELLS),
-        positions: table(&tables.positions, POSITION_CELLS),
-        processes: table(&tables.processes, PROCESS_CELLS),
+        records: table(&tables.records, RECORDS_HEADER, RECORD_CELLS),
+        positions: table(&tables.positions, POSITIONS_HEADER, POSITION_CELLS),
+        processes: table(&tables.processes, PROCESSES_HEADER, PROCESS_CELLS),
     }
 }
 
 /// Writes something into one cell, or cuts a table: the tables may be sound or not afterwards.
 pub fn damage(rng: &mut Rng, tables: &mut Tables) {
-    let (cells, width) = match rng.below(20) {
-        0..=9 => (&mut tables.records, RECORD_CELLS),
-        10..=14 => (&mut tables.positions, POSITION_CELLS),
-        _ => (&mut tables.processes, PROCESS_CELLS),
+    let (cells, header, width) = match rng.below(20) {
+        0..=9 => (&mut tables.records, RECORDS_HEADER, RECORD_CELLS),
+        10..=14 => (&mut tables.positions, POSITIONS_HEADER, POSITION_CELLS),
+        _ => (&mut tables.processes, PROCESSES_HEADER, PROCESS_CELLS),
     };
-    if cells.is_empty() {
+    if cells.len() < header {
         return;
     }
-    let rows = (cells[0].clamp(0, 5_000) as usize).min((cells.len() - 1) / width);
-    match rng.below(12) {
+    let rows = (cells[0].clamp(0, 5_000) as usize).min((cells.len() - header) / width);
+    match rng.below(13) {
+        12 if header > CURRENT_DAY => {
+            cells[CURRENT_DAY] = if rng.percent(50) { rng.pick(&ENDS) } else { cells[CURRENT_DAY].wrapping_add(rng.between(-2, 2)) };
+        }
         0 => cells[0] = rng.pick(&ENDS),
         1 => cells[0] = cells[0].wrapping_add(rng.between(-2, 2)),
         2 => {
@@ -305,31 +333,31 @@ pub fn damage(rng: &mut Rng, tables: &mut Tables) {
             // two rows change places
             let (a, b) = (rng.below(rows), rng.below(rows));
             for k in 0..width {
-                cells.swap(1 + a * width + k, 1 + b * width + k);
+                cells.swap(header + a * width + k, header + b * width + k);
             }
         }
         5 if rows > 1 => {
             // a row twice
-            let at = 1 + rng.below(rows - 1) * width;
+            let at = header + rng.below(rows - 1) * width;
             cells.copy_within(at..at + width, at + width);
         }
         6 | 7 if rows > 0 => {
-            let at = 1 + rng.below(rows * width);
+            let at = header + rng.below(rows * width);
             cells[at] = cells[at].wrapping_add(rng.between(-2, 2));
         }
         8 if rows > 0 => {
-            let at = 1 + rng.below(rows * width);
+            let at = header + rng.below(rows * width);
             cells[at] = cells[at].wrapping_neg();
         }
         _ if rows > 0 => {
-            let at = 1 + rng.below(rows * width);
+            let at = header + rng.below(rows * width);
             cells[at] = rng.pick(&ENDS);
         }
         _ => cells[0] = rng.between(-1, 1),
     }
 }
 
-/// A request of that kind (0 to 12, as in `coverage::KINDS`), mostly one that fits the tables.
+/// A request of that kind (0 to 14, as in `coverage::KINDS`), mostly one that fits the tables.
 pub fn request(rng: &mut Rng, tables: &Tables, kind: usize) -> Request {
     let mut request = match kind {
         0 => trade(rng, tables),
@@ -338,6 +366,8 @@ pub fn request(rng: &mut Rng, tables: &Tables, kind: usize) -> Request {
         3 => merge(rng, tables),
         4 => lineage(rng, tables),
         5 => batches::draw(rng, tables),
+        DAY => new_day(rng, tables),
+        LIST => list(rng, tables),
         REPLAY => journals::draw(rng, tables),
         _ => give_ups::draw(rng, tables, give_ups::EACH[kind - STEPS]),
     };
@@ -351,7 +381,7 @@ pub fn request(rng: &mut Rng, tables: &Tables, kind: usize) -> Request {
 }
 
 pub fn any_request(rng: &mut Rng, tables: &Tables) -> Request {
-    let kind = rng.pick(&[0, 0, 0, 1, 1, 2, 2, 3, 3, 4, 5, 6, 6, 6, 7, 7, 8, 9, 10, 10, 11, 11, REPLAY]);
+    let kind = rng.pick(&[0, 0, 0, 1, 1, 2, 2, 3, 3, 4, 5, 6, 6, 6, 7, 7, 8, 9, 10, 10, 11, 11, DAY, DAY, LIST, LIST, REPLAY]);
     request(rng, tables, kind)
 }
 
@@ -365,7 +395,8 @@ pub fn figures(request: &Request) -> usize {
         Request::Lineage { .. } => 2,
         Request::Trades { figures, .. } => figures.len(),
         Request::GiveUp { .. } => 6,
-        Request::Replay { .. } => 0,
+        Request::NewDay { .. } => 1,
+        Request::Reportable { .. } | Request::Replay { .. } => 0,
     }
 }
 
@@ -378,7 +409,8 @@ pub fn set_figure(request: &mut Request, which: usize, figure: i64) {
         Request::Lineage { id, suffix } => [id, suffix].into_iter().nth(which),
         Request::Trades { figures, .. } => figures.get_mut(which),
         Request::GiveUp { process, id, suffix, giving, taking, series, .. } => [process, id, suffix, giving, taking, series].into_iter().nth(which),
-        Request::Replay { .. } => None,
+        Request::NewDay { day } => [day].into_iter().nth(which),
+        Request::Reportable { .. } | Request::Replay { .. } => None,
     };
     *place.expect("the request has this figure") = figure;
 }
@@ -508,6 +540,35 @@ fn merge(rng: &mut Rng, tables: &Tables) -> Request {
 fn pair_of(rng: &mut Rng, tables: &Tables, likes: impl Fn(&[i64]) -> bool) -> Option<(i64, i64)> {
     let liked: Vec<(i64, i64)> = tables.record_rows().filter(|row| likes(row)).map(|row| (row[0], row[1])).collect();
     (!liked.is_empty()).then(|| rng.pick(&liked))
+}
+
+/// Mostly a day after the current one, now and then the same, one before it, or one that nothing can follow.
+pub fn new_day(rng: &mut Rng, tables: &Tables) -> Request {
+    let today = tables.today();
+    let day = match rng.below(20) {
+        0 => today,
+        1 => today.wrapping_sub(rng.between(1, 3)),
+        2 => rng.pick(&[0, 99_999, 100_000]),
+        3 => rng.between(0, 99_999),
+        _ => today.wrapping_add(rng.pick(&[1, 1, 1, 2, 3, 30])),
+    };
+    Request::NewDay { day }
+}
+
+/// Mostly as many cells as the list needs, or some more or fewer.
+fn list(rng: &mut Rng, tables: &Tables) -> Request {
+    let needed = days::listed(tables).map_or(2, |pairs| pairs.len());
+    let cells = match rng.below(20) {
+        0 => 0,
+        1 | 2 => needed.saturating_sub(1),
+        3 => needed.saturating_sub(2),
+        // as many as records
+        4 => needed / 2,
+        5..=12 => needed,
+        13..=15 => needed + 1,
+        _ => needed + rng.below(9),
+    };
+    Request::Reportable { cells }
 }
 
 fn lineage(rng: &mut Rng, tables: &Tables) -> Request {

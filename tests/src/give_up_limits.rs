@@ -47,8 +47,8 @@ const NAMES: [i64; 6] = [5, 7, 0, 1, 2, 1];
 
 impl Limits {
     fn tables(&self, progress: [i64; 3]) -> Tables {
-        let records = [[7, 0, 0, 0, 3, 1, 1, self.side, 15, -4, 15, 0, 0], [7, self.greatest, 0, 6, 1, 1, 1, 3, 15, -4, 0, 0, 0]];
-        let mut records = [vec![2], records.concat()].concat();
+        let records = [[7, 0, 0, 0, 3, 1, 1, self.side, 15, -4, 15, 0, 0, 6], [7, self.greatest, 0, 6, 1, 1, 1, 3, 15, -4, 0, 0, 0, 8]];
+        let mut records = [vec![2, 9], records.concat()].concat();
         records.resize(records_len(self.records_room) + 7, -71);
         let position = |account: i64, figure: i64| if self.side == 1 { [account, 1, figure, 8, 2, 3, 4] } else { [account, 1, 8, figure, 2, 3, 4] };
         let mut positions = [vec![1], position(1, self.held).to_vec()].concat();

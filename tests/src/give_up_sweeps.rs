@@ -233,7 +233,7 @@ fn unsound_tables(checker: &mut Checker) {
                 let has = |fault: usize| faults & (1 << fault) != 0;
                 let (mut tables, mut request) = (before.clone(), request.clone());
                 if has(0) {
-                    tables.records[k % 2 * 13] = -1;
+                    tables.records[k % 2 * records_len(1)] = -1;
                 }
                 if has(1) {
                     tables.positions[k % 2 * 3] = -1;

@@ -2,7 +2,7 @@
 
 use crate::batches::{self, trades_of};
 use crate::checker::Checker;
-use crate::coverage::{column_of, POSSIBLE, REPLAY, STEPS};
+use crate::coverage::{column_of, DAY, POSSIBLE, REPLAY, STEPS};
 use crate::draw::{any_request, damage, empty_again, empty_tables, request, sound_tables, Lean, LEANS};
 use crate::give_ups::{CLAIMED, PENDING};
 use crate::journals::{self, journalled, DAMAGES};
@@ -40,7 +40,7 @@ pub fn aimed(checker: &mut Checker, rng: &mut Rng, times: usize) {
 fn replays_of(checker: &mut Checker, rng: &mut Rng, tables: &Tables, asked: Request) {
     let Some(lines) = lines_of(&Writing::Of(asked)) else { return };
     let drawn = (0..30).map(|_| {
-        let kind = rng.pick(&[0, 0, 1, 2, 3, STEPS]);
+        let kind = rng.pick(&[0, 0, 1, 2, 3, STEPS, DAY]);
         request(rng, tables, kind)
     });
     let booked = drawn.into_iter().find(|first| !matches!(tables.model_reply(first), Reply::Refused { .. }));
@@ -76,8 +76,13 @@ pub fn history(checker: &mut Checker, rng: &mut Rng) {
     let true_totals = start.records[0] == 0 && start.positions[0] == 0;
     let mut tables = start.clone();
     let (mut entries, mut journal) = (Vec::new(), Vec::new());
+    // Some histories are of one day, and ask for no list: more of their entries may change places.
+    let one_day = rng.percent(40);
     for _ in 0..4 + rng.below(44) {
         let request = any_request(rng, &tables);
+        if one_day && matches!(request, Request::NewDay { .. } | Request::Reportable { .. }) {
+            continue;
+        }
         let before = tables.clone();
         let answer = checker.call(&mut tables, &request);
         journal.extend(journalled(checker, rng, &request, &answer));
@@ -111,7 +116,7 @@ fn replayed(checker: &mut Checker, rng: &mut Rng, start: &Tables, journal: &[u8]
         checker.fail_later(&format!("a history and the replay of its journal\n{}\n{}{}", start.print(), journal.escape_ascii(), end.print()));
     }
     checker.coverage.situation("replay: a history again, from the same cells");
-    let is_day = [&start.records, &start.positions, &start.processes].into_iter().all(|table| table[0] == 0);
+    let is_day = start.today() == 0 && [&start.records, &start.positions, &start.processes].into_iter().all(|table| table[0] == 0);
     if !is_day {
         return;
     }
@@ -120,6 +125,9 @@ fn replayed(checker: &mut Checker, rng: &mut Rng, start: &Tables, journal: &[u8]
         checker.fail_later(&format!("a day and the replay of its journal\n{}\n{}{}", tables.print(), journal.escape_ascii(), end.print()));
     }
     checker.coverage.situation("replay: a day again, into empty tables of the same room");
+    if lines(journal).filter(|line| line[0] == b'D').count() >= 2 {
+        checker.coverage.situation("replay: three days or more again, into empty tables of the same room");
+    }
     if lines(journal).count() >= 20 && lines(journal).any(|line| line[0] == b'G') {
         checker.coverage.situation("replay: a day of twenty lines or more again, give-ups among them");
     }

@@ -22,7 +22,7 @@ pub const JOURNAL_SITUATIONS: [&str; 48] = [
     "replay: bad after booked lines",
     "replay: bad, the last line without a newline",
     "replay: refused at the first line",
-    "replay: refused after booked lines, by each of 4 to 19 and 23",
+    "replay: refused after booked lines, by each of 2 to 19 and 23",
     "replay: refused at a place above 0",
     "replay: refused, and a bad line after it",
     "replay: a history again, from the same cells",
@@ -127,7 +127,9 @@ fn note_booked(seen: &mut Coverage, before: &Tables, after: &Tables, text: &[u8]
     if before.records[0] < MOST_RECORDS as i64 && after.records[0] == MOST_RECORDS as i64 {
         seen.situation("replay: booked up to the greatest room, 4,096 records");
     }
-    if before.positions[0] < MOST_POSITIONS as i64 && after.positions[0] == MOST_POSITIONS as i64 {
+    // Lines of days alone are booked beside any positions.
+    let positions = |tables: &Tables| tables.positions.first().copied().unwrap_or(0);
+    if positions(before) < MOST_POSITIONS as i64 && positions(after) == MOST_POSITIONS as i64 {
         seen.situation("replay: booked up to the greatest room, 1,024 positions");
     }
     let processes = |tables: &Tables| tables.processes.first().copied().unwrap_or(0);
@@ -136,7 +138,7 @@ fn note_booked(seen: &mut Coverage, before: &Tables, after: &Tables, text: &[u8]
     }
 }
 
-/// The six writing calls, in the order of the header.
+/// The seven writing calls, in the order of the header.
 fn call_of(writing: &Writing) -> usize {
     match writing {
         Writing::Of(Request::Trade { .. }) => 0,
@@ -144,6 +146,7 @@ fn call_of(writing: &Writing) -> usize {
         Writing::Of(Request::Separate { .. }) => 2,
         Writing::Of(Request::Transfer { .. }) => 3,
         Writing::Of(Request::Merge { .. }) => 4,
+        Writing::Of(Request::NewDay { .. }) => 6,
         Writing::Of(_) | Writing::Step(..) => 5,
     }
 }
@@ -152,7 +155,7 @@ pub fn note_written(seen: &mut Coverage, writing: &Writing, bytes: usize, reply:
     let needed = lines_of(writing).map(|lines| lines.len());
     let what = match needed {
         // No line has fewer bytes.
-        None if bytes < 12 => "refused 3, and too short",
+        None if bytes < 4 => "refused 3, and too short",
         None => "refused 3",
         Some(needed) if bytes > needed => "more than enough",
         Some(needed) if bytes == needed => "just enough",

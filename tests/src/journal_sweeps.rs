@@ -7,7 +7,7 @@ use crate::give_up_sweeps::{tables, GIVEN, OPENED};
 use crate::give_ups::{named, CLAIMED, EACH, PENDING};
 use crate::sweeps::many;
 use crate::tables::{positions_len, processes_len, records_len, Tables, MOST_POSITIONS, MOST_PROCESSES, MOST_RECORDS};
-use crate::tables::{POSITION_CELLS, PROCESS_CELLS, RECORD_CELLS};
+use crate::tables::{POSITION_CELLS, RECORD_CELLS};
 use model::journal::{line_of, lines};
 use model::{Reply, Request, Step};
 
@@ -23,6 +23,7 @@ fn accepted() -> Vec<Request> {
         Request::Separate { id: 7, suffix: 3, account: 1, series: 1, parts: vec![1, 2, 2] },
         Request::Transfer { id: 7, suffix: 3, from: 1, to: 2, series: 1 },
         Request::Merge { id: 6, account: 1, series: 1, pairs: vec![7, 3, 5, 0] },
+        Request::NewDay { day: 31 },
         named(Step::Open, &OPENED),
         named(Step::ApproveTaker, &GIVEN),
     ]
@@ -159,7 +160,7 @@ fn figure_counts(checker: &mut Checker) {
     }
 }
 
-/// A day of every kind of line from empty tables, and these tables.
+/// A day of every kind of line from empty tables, which goes on over two more, and these tables.
 fn day() -> (Tables, Vec<u8>) {
     let given = |step: Step| named(step, &[77, 456_789, 4, 2, 5, 1]);
     let requests = [
@@ -168,16 +169,22 @@ fn day() -> (Tables, Vec<u8>) {
         Request::Separate { id: 456_789, suffix: 2, account: 2, series: 1, parts: vec![50, 25, 25] },
         given(Step::Open),
         given(Step::Claim),
+        Request::NewDay { day: 4 },
         given(Step::ApproveGiver),
         given(Step::ApproveTaker),
         Request::Merge { id: 500_000, account: 2, series: 1, pairs: vec![456_789, 6, 456_789, 5] },
+        Request::NewDay { day: 99_999 },
         Request::Trade { id: 7, account: 5, series: 1, side: 4, quantity: 60, price: -3 },
         named(Step::Open, &[9, 500_000, 0, 2, 1, 1]),
         named(Step::Cancel, &[9, 500_000, 0, 2, 1, 1]),
     ];
-    let empty = |rows: usize, width: usize| [vec![0], vec![-5; rows * width + 2]].concat();
+    let empty = |header: usize, cells: usize| [vec![0; header], vec![-5; cells + 2 - header]].concat();
     (
-        Tables { records: empty(16, RECORD_CELLS), positions: empty(4, POSITION_CELLS), processes: empty(3, PROCESS_CELLS) },
+        Tables {
+            records: empty(records_len(0), records_len(16)),
+            positions: empty(positions_len(0), positions_len(4)),
+            processes: empty(processes_len(0), processes_len(3)),
+        },
         requests.iter().flat_map(line).collect(),
     )
 }

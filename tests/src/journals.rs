@@ -1,7 +1,7 @@
 //! Journals: drawn, damaged, and those of a history.
 
 use crate::checker::Checker;
-use crate::coverage::STEPS;
+use crate::coverage::{DAY, STEPS};
 use crate::draw::{self, ENDS};
 use crate::journal_situations::booked_lines;
 use crate::rng::Rng;
@@ -13,7 +13,7 @@ use model::{Answer, Reply, Request, Writing};
 pub fn draw(rng: &mut Rng, tables: &Tables) -> Request {
     let (mut text, mut after) = (Vec::new(), tables.clone());
     for _ in 0..rng.pick(&[0, 1, 1, 2, 3, 4, 5, 8]) {
-        let kind = rng.pick(&[0, 0, 0, 1, 2, 3, STEPS, STEPS, STEPS + 1, STEPS + 2, STEPS + 3, STEPS + 4, STEPS + 5]);
+        let kind = rng.pick(&[0, 0, 0, 1, 2, 3, STEPS, STEPS, STEPS + 1, STEPS + 2, STEPS + 3, STEPS + 4, STEPS + 5, DAY, DAY]);
         let request = draw::request(rng, &after, kind);
         let reply = model::handle(&mut after.records, &mut after.positions, &mut after.processes, &request).reply;
         if !matches!(reply, Reply::Refused { .. }) || rng.percent(12) {
@@ -147,7 +147,7 @@ fn beyond(rng: &mut Rng, figure: &[u8]) -> Vec<u8> {
 /// What a host adds to its journal after a call: the lines of what was booked, written by the book.
 pub fn journalled(checker: &mut Checker, rng: &mut Rng, request: &Request, answer: &Answer) -> Vec<u8> {
     let writing = match (request, answer.reply) {
-        (_, Reply::Refused { .. } | Reply::Lineage { .. } | Reply::Stopped { booked: 0, .. }) => return Vec::new(),
+        (_, Reply::Refused { .. } | Reply::Lineage { .. } | Reply::Listed { .. } | Reply::Stopped { booked: 0, .. }) => return Vec::new(),
         (Request::Trades { figures, .. }, _) => {
             Writing::Of(Request::Trades { figures: figures[..6 * answer.output.len()].to_vec(), cells: answer.output.len() })
         }

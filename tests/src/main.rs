@@ -1,14 +1,17 @@
 //! Compares the book, as a host links it, with the model of documents 01 and 02: `cargo run --release -- [--seed S] [--calls N] [--show K]`.
 //!
 //! A run has a fixed part (the ends of every range, every length around the limits, full tables, every step of a give-up at every stage, every byte of a
-//! journal's lines, each figure of a position around the ends of its range: some 209,000 calls) and a random part of which the seed decides, until N calls are
-//! made. After each call the totals beside the positions are held against the sums over the records. It prints which answers it saw, and ends with a line that
-//! says how many calls passed. The first difference is printed in full.
+//! journal's lines, each figure of a position around the ends of its range, days and lists: some 267,000 calls) and a random part of which the seed decides,
+//! until N calls are made. After each call the totals beside the positions are held against the sums over the records, and days and lists against the rows. It
+//! prints which answers it saw, and ends with a line that says how many calls passed. The first difference is printed in full.
 
 mod batch_sweeps;
 mod batches;
 mod checker;
 mod coverage;
+mod day_situations;
+mod day_sweeps;
+mod days;
 mod draw;
 mod give_up_limits;
 mod give_up_situations;
@@ -42,7 +45,7 @@ struct Options {
 }
 
 fn options() -> Result<Options, String> {
-    let mut options = Options { seed: 1, calls: 470_000, show: None };
+    let mut options = Options { seed: 1, calls: 530_000, show: None };
     let mut words = std::env::args().skip(1);
     while let Some(word) = words.next() {
         let mut number = || words.next().and_then(|n| n.replace([',', '_'], "").parse::<u64>().ok()).ok_or(format!("{word} needs a number"));
@@ -75,6 +78,7 @@ fn main() -> ExitCode {
     writing_sweeps::run(&mut checker);
     journal_sweeps::run(&mut checker);
     totals_sweeps::run(&mut checker);
+    day_sweeps::run(&mut checker);
     println!("the ends of the ranges, the lengths and the limits: {} calls", checker.calls);
     let fixed = checker.calls;
     histories::aimed(&mut checker, &mut rng, 20);

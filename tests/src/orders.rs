@@ -95,6 +95,7 @@ fn note_order(checker: &mut Checker, entries: &[Entry], order: &[usize]) {
         }
     }
     note_steps(checker, entries, order);
+    note_days(checker, entries, order);
 }
 
 /// Steps of give-ups that have changed places with another entry, and with a step of another process.
@@ -118,10 +119,35 @@ fn note_steps(checker: &mut Checker, entries: &[Entry], order: &[usize]) {
     }
 }
 
+/// New days and lists keep their places; entries before one and after it have changed places among themselves.
+fn note_days(checker: &mut Checker, entries: &[Entry], order: &[usize]) {
+    let changes = |places: std::ops::Range<usize>| order[places].windows(2).any(|pair| pair[0] > pair[1]);
+    for k in (0..order.len()).filter(|k| touches_all(&entries[*k].request)) {
+        assert_eq!(order[k], k, "what touches everything keeps its place");
+        let (before, after) = (changes(0..k), changes(k + 1..order.len()));
+        match (&entries[k].request, &entries[k].answer.output) {
+            (Request::NewDay { .. }, _) if before && after => checker.coverage.situation("demand 3: other orders before and after a new day"),
+            (Request::Reportable { .. }, pairs) if before && pairs.len() >= 4 => {
+                checker.coverage.situation("demand 3: another order before a list of two records or more")
+            }
+            _ => {}
+        }
+    }
+    if entries.iter().filter(|entry| matches!(entry.request, Request::NewDay { .. })).count() >= 2 {
+        checker.coverage.situation("demand 3: another order over three days or more");
+    }
+}
+
+/// K8: a new day and the list "touch everything in demand 3"
+fn touches_all(request: &Request) -> bool {
+    matches!(request, Request::NewDay { .. } | Request::Reportable { .. })
+}
+
 /// A random order in which any two touching entries keep theirs: each time one of those is taken that no entry before them holds back.
 fn other_order(rng: &mut Rng, entries: &[Entry]) -> Vec<usize> {
     let named: Vec<Names> = entries.iter().map(|entry| names(&entry.request)).collect();
-    let touch = |a: usize, b: usize| !named[a].0.is_disjoint(&named[b].0) || !named[a].1.is_disjoint(&named[b].1);
+    let all: Vec<bool> = entries.iter().map(|entry| touches_all(&entry.request)).collect();
+    let touch = |a: usize, b: usize| all[a] || all[b] || !named[a].0.is_disjoint(&named[b].0) || !named[a].1.is_disjoint(&named[b].1);
     let mut left: Vec<usize> = (0..entries.len()).collect();
     let mut order = Vec::new();
     // Half of the orders prefer the latest entry that may go first: the farthest from the first order.
@@ -156,6 +182,7 @@ fn names(request: &Request) -> Names {
             let trades: Vec<Names> = trades_of(figures).map(|trade| names(&trade)).collect();
             (trades.iter().flat_map(|trade| trade.0.clone()).collect(), trades.iter().flat_map(|trade| trade.1.clone()).collect())
         }
+        Request::NewDay { .. } | Request::Reportable { .. } => (BTreeSet::new(), BTreeSet::new()),
         Request::Replay { .. } => unreachable!("it stands in the list as the requests it booked"),
     }
 }

@@ -22,16 +22,21 @@ fn note_empty_slices(seen: &mut Coverage, before: &Tables, request: &Request) {
         Request::Separate { parts, .. } => parts.is_empty(),
         Request::Merge { pairs, .. } => pairs.is_empty(),
         Request::Trades { figures, cells } => figures.is_empty() || *cells == 0,
+        Request::Reportable { cells } => *cells == 0,
         Request::Replay { text } => text.is_empty(),
         _ => false,
     };
     let no_processes = request.lends_processes() && before.processes.is_empty();
-    if before.records.is_empty() || before.positions.is_empty() || no_processes || empty_list {
+    let no_positions = request.lends_positions() && before.positions.is_empty();
+    if before.records.is_empty() || no_positions || no_processes || empty_list {
         seen.situation("an empty slice is lent");
     }
 }
 
 fn note_booked(seen: &mut Coverage, before: &Tables, after: &Tables, request: &Request, answer: &Answer) {
+    if !request.lends_positions() {
+        return;
+    }
     if before.records.len() >= records_len(MOST_RECORDS + 1) || before.positions.len() >= positions_len(MOST_POSITIONS + 1) {
         seen.situation("a slice longer than the greatest room is booked in");
     }
@@ -48,8 +53,8 @@ fn note_booked(seen: &mut Coverage, before: &Tables, after: &Tables, request: &R
         Request::Merge { pairs, .. } => note_merge(seen, before, pairs, answer.reply),
         Request::Lineage { .. } => {}
         Request::Trades { figures, cells } => note_batch(seen, before, after, figures, *cells, answer),
-        // in `give_up_situations` and `journal_situations`
-        Request::GiveUp { .. } | Request::Replay { .. } => {}
+        // in `give_up_situations`, `journal_situations` and `day_situations`
+        Request::GiveUp { .. } | Request::Replay { .. } | Request::NewDay { .. } | Request::Reportable { .. } => {}
     }
 }
 

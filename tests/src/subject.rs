@@ -5,6 +5,7 @@ use crate::tables::Tables;
 use model::journal::letter_of;
 use model::{Reply, Request, Step, Writing};
 pub use velichundam::c::Coded;
+use velichundam::c::{velichundam_day, velichundam_reportable, velichundam_write_day};
 use velichundam::c::{velichundam_give_up_approve_giver, velichundam_give_up_approve_taker, velichundam_give_up_cancel};
 use velichundam::c::{velichundam_give_up_claim, velichundam_give_up_open, velichundam_give_up_refuse};
 use velichundam::c::{velichundam_lineage, velichundam_merge, velichundam_separate, velichundam_trade, velichundam_trades, velichundam_transfer};
@@ -23,13 +24,14 @@ pub fn coded(reply: Reply) -> Coded {
         Reply::Replayed { lines } => (6, lines, 0, 0),
         Reply::BadLine { line } => (7, line, 0, 0),
         Reply::LineRefused { line, number, place } => (8, line, number, place),
+        Reply::Listed { records } => (9, records, 0, 0),
     };
     Coded { kind, first, second, third }
 }
 
 /// What the cells of an output hold when they are lent: nothing that a call writes.
 pub fn lent_output(request: &Request) -> Vec<i64> {
-    let cells = if let Request::Trades { cells, .. } = request { *cells } else { 0 };
+    let cells = if let Request::Trades { cells, .. } | Request::Reportable { cells } = request { *cells } else { 0 };
     (0..cells as i64).map(|k| -5_000_000_000 - k).collect()
 }
 
@@ -84,7 +86,7 @@ fn list_of(request: &Request) -> &[i64] {
 
 impl Subject {
     pub fn new() -> Subject {
-        let [records, positions, processes, list, output] = [60_000, 8_000, 10_000, 8_000, 2_000].map(Arena::new);
+        let [records, positions, processes, list, output] = [64_000, 8_000, 10_000, 8_000, 10_000].map(Arena::new);
         Subject { records, positions, processes, list, output, text: Arena::new(400_000) }
     }
 
@@ -109,6 +111,8 @@ impl Subject {
                 Request::GiveUp { step, process, id, suffix, giving, taking, series } => {
                     call_of(step)(r, rn, p, pn, processes.first, processes.len, process, id, suffix, giving, taking, series)
                 }
+                Request::NewDay { day } => velichundam_day(r, rn, day),
+                Request::Reportable { .. } => velichundam_reportable(r.cast_const(), rn, output.first, output.len),
                 Request::Replay { .. } => velichundam_replay(r, rn, p, pn, processes.first, processes.len, lent_text.first.cast_const(), lent_text.len),
             }
         };
@@ -147,7 +151,8 @@ impl Subject {
                 Writing::Step(letter, [process, id, suffix, giving, taking, series]) => {
                     velichundam_write_give_up(t, tn, letter, process, id, suffix, giving, taking, series)
                 }
-                Writing::Of(Request::Lineage { .. } | Request::Replay { .. }) => unreachable!("it has no line"),
+                Writing::Of(Request::NewDay { day }) => velichundam_write_day(t, tn, day),
+                Writing::Of(Request::Lineage { .. } | Request::Reportable { .. } | Request::Replay { .. }) => unreachable!("it has no line"),
             }
         };
         let (text, text_guards_kept) = self.text.take_back(tn, fence);
@@ -175,6 +180,7 @@ mod peer_behind_the_interface {
             Reply::Replayed { lines } => Coded { kind: 6, first: lines, second: 0, third: 0 },
             Reply::BadLine { line } => Coded { kind: 7, first: line, second: 0, third: 0 },
             Reply::LineRefused { line, number, place } => Coded { kind: 8, first: line, second: number, third: place },
+            Reply::Listed { records } => Coded { kind: 9, first: records, second: 0, third: 0 },
         }
     }
 
@@ -229,6 +235,21 @@ mod peer_behind_the_interface {
     #[no_mangle]
     unsafe extern "C" fn velichundam_lineage(records: *const i64, records_len: usize, id: i64, suffix: i64) -> Coded {
         coded(peer::lineage(from_raw_parts(records, records_len), id, suffix))
+    }
+
+    #[no_mangle]
+    unsafe extern "C" fn velichundam_day(records: *mut i64, records_len: usize, day: i64) -> Coded {
+        coded(peer::day(from_raw_parts_mut(records, records_len), day))
+    }
+
+    #[no_mangle]
+    unsafe extern "C" fn velichundam_reportable(records: *const i64, records_len: usize, pairs: *mut i64, pairs_len: usize) -> Coded {
+        coded(peer::reportable(from_raw_parts(records, records_len), from_raw_parts_mut(pairs, pairs_len)))
+    }
+
+    #[no_mangle]
+    unsafe extern "C" fn velichundam_write_day(text: *mut u8, text_len: usize, day: i64) -> Coded {
+        coded(peer::write_day(from_raw_parts_mut(text, text_len), day))
     }
 
     #[no_mangle]

@@ -5,16 +5,16 @@ use crate::draw::{figures, set_figure, ENDS};
 use crate::tables::{positions_len, records_len, Tables, MOST_POSITIONS, MOST_RECORDS, POSITION_CELLS, RECORD_CELLS};
 use model::{Reply, Request};
 
-/// A small pair of tables on which each of `accepted` is accepted.
+/// A small pair of tables on which each of `accepted` is accepted. The current day is 30; record 7 was separated on it, and booked the day before.
 pub fn small() -> Tables {
     let mut records = vec![
-        6, //
-        5, 0, 0, 0, 0, 1, 1, 1, 10, 100, 10, 0, 0, //
-        7, 0, 0, 0, 1, 1, 1, 1, 20, 103, 20, 0, 0, //
-        7, 1, 0, 6, 2, 1, 1, 1, -20, 103, 0, 0, 0, //
-        7, 2, 0, 6, 0, 1, 1, 1, 15, 103, 0, 0, 0, //
-        7, 3, 0, 6, 0, 1, 1, 1, 5, 103, 0, 0, 0, //
-        9, 0, 0, 10, 0, 3, 2, 4, 8, -7, 0, 8, 0,
+        6, 30, //
+        5, 0, 0, 0, 0, 1, 1, 1, 10, 100, 10, 0, 0, 7, //
+        7, 0, 0, 0, 1, 1, 1, 1, 20, 103, 20, 0, 0, 29, //
+        7, 1, 0, 6, 2, 1, 1, 1, -20, 103, 0, 0, 0, 30, //
+        7, 2, 0, 6, 0, 1, 1, 1, 15, 103, 0, 0, 0, 30, //
+        7, 3, 0, 6, 0, 1, 1, 1, 5, 103, 0, 0, 0, 30, //
+        9, 0, 0, 10, 0, 3, 2, 4, 8, -7, 0, 8, 0, 30,
     ];
     records.extend((0..RECORD_CELLS as i64 * 6 + 5).map(|k| -1_000 - k));
     let mut positions = vec![
@@ -27,7 +27,7 @@ pub fn small() -> Tables {
     Tables::without_processes(records, positions)
 }
 
-fn accepted() -> Vec<Request> {
+pub fn accepted() -> Vec<Request> {
     vec![
         Request::Trade { id: 8, account: 2, series: 1, side: 1, quantity: 3, price: 99 },
         Request::Trade { id: 6, account: 1, series: 1, side: 3, quantity: 5, price: -99 },
@@ -36,6 +36,8 @@ fn accepted() -> Vec<Request> {
         Request::Merge { id: 6, account: 1, series: 1, pairs: vec![7, 3, 5, 0, 7, 2] },
         Request::Lineage { id: 7, suffix: 3 },
         Request::Trades { figures: vec![8, 2, 1, 1, 3, 99, 6, 1, 1, 4, 35, -99, 10, 2, 1, 4, 2, 0], cells: 4 },
+        Request::NewDay { day: 31 },
+        Request::Reportable { cells: 9 },
     ]
 }
 
@@ -109,11 +111,12 @@ fn every_length(checker: &mut Checker) {
     }
 }
 
-/// A records table of so many adjustable buys of 1 in account 1, series 1, under ids from 10 on, and one position that holds them.
+/// A records table of so many adjustable buys of 1 in account 1, series 1, under ids from 10 on, of days up to 8, the current one, and one position that holds
+/// them.
 pub fn many(rows: usize, room: usize, quantity: i64) -> Tables {
-    let mut records = vec![rows as i64];
+    let mut records = vec![rows as i64, 8];
     for k in 0..rows as i64 {
-        records.extend([10 + k, 0, 0, 0, 0, 1, 1, 1, quantity, 50 + k % 7, quantity, 0, 0]);
+        records.extend([10 + k, 0, 0, 0, 0, 1, 1, 1, quantity, 50 + k % 7, quantity, 0, 0, k % 9]);
     }
     records.extend(vec![-9; (room - rows) * RECORD_CELLS + 6]);
     Tables::without_processes(records, vec![1, 1, 1, 1_000_000, 0, 0, 5, -6, -9, -9, -9, -9, -9, -9, -9])
@@ -142,9 +145,9 @@ fn list_lengths(checker: &mut Checker) {
 fn last_suffixes(checker: &mut Checker) {
     for greatest in 65_528..=65_535 {
         let records = [
-            vec![3, 4, 0, 0, 0, 0, 1, 1, 1, 6, 10, 6, 0, 0],
-            vec![4, greatest - 1, 0, 6, 0, 1, 1, 1, 6, 10, 0, 0, 0],
-            vec![4, greatest, 0, 6, 0, 1, 1, 1, 6, 10, 0, 0, 0],
+            vec![3, 5, 4, 0, 0, 0, 0, 1, 1, 1, 6, 10, 6, 0, 0, 4],
+            vec![4, greatest - 1, 0, 6, 0, 1, 1, 1, 6, 10, 0, 0, 0, 4],
+            vec![4, greatest, 0, 6, 0, 1, 1, 1, 6, 10, 0, 0, 0, 5],
         ];
         let mut tables = Tables::without_processes(records.concat(), vec![1, 1, 1, 99, 0, 0, 18, 180, 0, 0, 0, 0, 0, 0, 0]);
         tables.records.extend(vec![3; RECORD_CELLS * 9]);
@@ -213,7 +216,7 @@ fn every_place(checker: &mut Checker) {
     let of_places = |rows: i64| {
         let mut tables = many(rows as usize, rows as usize + 1, 1);
         for k in 0..rows as usize {
-            tables.records[1 + k * RECORD_CELLS] = 2 + 2 * k as i64;
+            tables.records[records_len(k)] = 2 + 2 * k as i64;
         }
         tables.positions = vec![rows];
         tables.positions.extend((0..rows).flat_map(|k| [1 + k / 9, 2 + 2 * (k % 9), 5, 5, k, -k, 7 * k]));
@@ -256,7 +259,7 @@ fn deep_lineage(checker: &mut Checker) {
     // A parent row that is missing, the original's among them.
     let rows: Vec<Vec<i64>> = tables.record_rows().map(<[i64]>::to_vec).collect();
     for gone in [0, 1, 2, 60, rows.len() - 1] {
-        let mut cells = vec![rows.len() as i64 - 1];
+        let mut cells = vec![rows.len() as i64 - 1, tables.today()];
         cells.extend(rows.iter().enumerate().filter(|(k, _)| *k != gone).flat_map(|(_, row)| row.clone()));
         let holed = Tables::without_processes(cells, vec![]);
         for suffix in (0..suffix).step_by(7) {
@@ -268,9 +271,9 @@ fn deep_lineage(checker: &mut Checker) {
 /// Merges whose value is at the ends, and every remainder of small ones: averages above, below and at a half.
 fn ends_of_averages(checker: &mut Checker) {
     let merge = |checker: &mut Checker, side: i64, sources: &[(i64, i64)], cash: i64| {
-        let mut tables = Tables::without_processes(vec![sources.len() as i64], vec![1, 1, 1, 0, 0, cash, 3, -cash, 4, 4, 4, 4, 4, 4, 4]);
+        let mut tables = Tables::without_processes(vec![sources.len() as i64, 2], vec![1, 1, 1, 0, 0, cash, 3, -cash, 4, 4, 4, 4, 4, 4, 4]);
         for (k, (quantity, price)) in sources.iter().enumerate() {
-            tables.records.extend([20 + k as i64, 0, 0, 0, 0, 1, 1, side, *quantity, *price, 0, 0, 0]);
+            tables.records.extend([20 + k as i64, 0, 0, 0, 0, 1, 1, side, *quantity, *price, 0, 0, 0, k as i64 % 3]);
         }
         tables.records.extend(vec![6; RECORD_CELLS * (sources.len() + 1)]);
         let pairs = (0..sources.len() as i64).flat_map(|k| [20 + k, 0]).collect();

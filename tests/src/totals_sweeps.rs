@@ -29,11 +29,14 @@ pub fn run(checker: &mut Checker) {
 
 const PRICES: [i64; 6] = [0, 1, -3, FAR, -FAR, FAR - 1];
 
-/// The records with the given rows, and the positions of accounts 1 and 2, whose figures are far from any end.
-fn tables(records: &[[i64; 13]]) -> Tables {
+/// The records with the given rows, booked on day 3 or before, and the positions of accounts 1 and 2, whose figures are far from any end.
+fn tables(records: &[[i64; 14]]) -> Tables {
     let middle = |account: i64| [account, 1, MOST_HELD / 2, MOST_HELD / 2, 7, -11, 13];
-    let mut tables =
-        Tables { records: [vec![records.len() as i64], records.concat()].concat(), positions: [&[2][..], &middle(1), &middle(2)].concat(), processes: vec![0] };
+    let mut tables = Tables {
+        records: [vec![records.len() as i64, 3], records.concat()].concat(),
+        positions: [&[2][..], &middle(1), &middle(2)].concat(),
+        processes: vec![0],
+    };
     tables.records.resize(records_len(records.len() + 6) + 5, -81);
     tables.positions.resize(positions_len(4) + 3, -82);
     tables.processes.resize(processes_len(2) + 4, -83);
@@ -109,7 +112,7 @@ fn changes_of_account(checker: &mut Checker) {
                 let (long, short) = if side == 1 { (quantity, 0) } else { (0, quantity) };
                 let given = [long, short, 0, sign * quantity, sign * quantity * price];
                 let moved = [(1, given.map(|figure| -figure)), (2, given)];
-                let record = |status: i64| [7, 0, 0, 0, status, 1, 1, side, quantity, price, long, short, 0];
+                let record = |status: i64| [7, 0, 0, 0, status, 1, 1, side, quantity, price, long, short, 0, 2];
                 let transfer = Request::Transfer { id: 7, suffix: 0, from: 1, to: 2, series: 1 };
                 around_the_ends(checker, &tables(&[record(0)]), &transfer, &moved);
                 for (progress, step) in [([1, 1, PENDING], Step::Claim), ([0, 1, CLAIMED], Step::ApproveGiver), ([1, 0, CLAIMED], Step::ApproveTaker)] {
@@ -147,7 +150,7 @@ fn merges(checker: &mut Checker) {
         [((1, 0), (1, 1), 1), ((1, 0), (1, -1), -1), ((2, 10_000_000), (1, 10_000_001), -1), ((500_000, FAR), (500_000, FAR - 1), 500_000), ((3, 5), (4, 5), 0)]
     {
         for (side, residual) in [(1, over), (2, -over)] {
-            let record = |id: i64, (quantity, price): (i64, i64)| [id, 0, 0, 0, 0, 1, 1, side, quantity, price, 0, 0, 0];
+            let record = |id: i64, (quantity, price): (i64, i64)| [id, 0, 0, 0, 0, 1, 1, side, quantity, price, 0, 0, 0, 3];
             let request = Request::Merge { id: 5, account: 1, series: 1, pairs: vec![8, 0, 7, 0] };
             around_the_ends(checker, &tables(&[record(7, first), record(8, second)]), &request, &[(1, [0, 0, residual, 0, residual])]);
         }
@@ -159,7 +162,7 @@ fn what_moves_nothing(checker: &mut Checker) {
     for (quantity, value) in [(MOST_TOTAL, MOST_TOTAL), (MOST_TOTAL, -MOST_TOTAL), (-MOST_TOTAL, MOST_TOTAL), (-MOST_TOTAL, -MOST_TOTAL)] {
         for side in [1, 2] {
             let at_the_ends = |status: i64| {
-                let mut tables = tables(&[[7, 0, 0, 0, status, 1, 1, side, MILLION, FAR, 0, 0, 0]]);
+                let mut tables = tables(&[[7, 0, 0, 0, status, 1, 1, side, MILLION, FAR, 0, 0, 0, 0]]);
                 for row in 0..2 {
                     tables.positions[positions_len(row) + 5..positions_len(row + 1)].copy_from_slice(&[quantity, value]);
                 }
@@ -185,8 +188,12 @@ fn what_moves_nothing(checker: &mut Checker) {
 
 /// Empty tables with room for so many records, three positions and two processes.
 fn empty(records: usize) -> Tables {
-    let cells = |len: usize, cell: i64| [vec![0], vec![cell; len - 1]].concat();
-    Tables { records: cells(records_len(records), -84), positions: cells(positions_len(3), -85), processes: cells(processes_len(2), -86) }
+    let cells = |empty: usize, len: usize, cell: i64| [vec![0; empty], vec![cell; len - empty]].concat();
+    Tables {
+        records: cells(records_len(0), records_len(records), -84),
+        positions: cells(positions_len(0), positions_len(3), -85),
+        processes: cells(processes_len(0), processes_len(2), -86),
+    }
 }
 
 fn trade(id: i64, account: i64, side: i64, price: i64) -> Request {

@@ -2,13 +2,13 @@
 //! length of a list, every number for a step; and requests drawn at random.
 
 use crate::checker::Checker;
-use crate::coverage::{LINEAGE_KIND, REPLAY};
+use crate::coverage::{LINEAGE_KIND, LIST, REPLAY};
 use crate::draw::{self, figures, set_figure, sound_tables, ENDS, LEANS};
 use crate::give_ups::{named, EACH};
 use crate::rng::Rng;
 use model::journal::{letter_of, lines_of};
 use model::{Reply, Request, Writing};
-use velichundam::{merge_line, separation_line, GIVE_UP_LINE, TRADE_LINE, TRANSFER_LINE};
+use velichundam::{merge_line, separation_line, DAY_LINE, GIVE_UP_LINE, LAST_DAY, TRADE_LINE, TRANSFER_LINE};
 
 const NAMES: [i64; 6] = [77, 456_789, 0, 1, 2, 1];
 
@@ -20,6 +20,7 @@ fn valid() -> Vec<Request> {
         Request::Separate { id: 456_789, suffix: 2, account: 2, series: 1, parts: vec![50, 25, 25] },
         Request::Transfer { id: 456_789, suffix: 0, from: 1, to: 2, series: 1 },
         Request::Merge { id: 7, account: 2, series: 1, pairs: vec![456_789, 5, 8, 65_535] },
+        Request::NewDay { day: 31 },
     ];
     requests.extend(EACH.map(|step| named(step, &NAMES)));
     requests
@@ -135,6 +136,7 @@ fn longest_lines(checker: &mut Checker) {
         (Request::Merge { id, account, series, pairs: [id, suffix].repeat(2) }, merge_line(2)),
         (Request::Merge { id, account, series, pairs: [id, suffix].repeat(1_000) }, merge_line(1_000)),
         (named(EACH[0], &[id, id, suffix, account, account - 1, series]), GIVE_UP_LINE),
+        (Request::NewDay { day: LAST_DAY }, DAY_LINE),
     ];
     for (request, bytes) in longest {
         let writing = Writing::Of(request);
@@ -149,7 +151,7 @@ pub fn drawn(checker: &mut Checker, rng: &mut Rng, times: usize) {
     for _ in 0..times {
         let lean = rng.pick(&LEANS);
         let tables = sound_tables(rng, lean, 6);
-        let kinds: Vec<usize> = (0..REPLAY).filter(|kind| *kind != LINEAGE_KIND).collect();
+        let kinds: Vec<usize> = (0..REPLAY).filter(|kind| ![LINEAGE_KIND, LIST].contains(kind)).collect();
         let kind = rng.pick(&kinds);
         let mut request = draw::request(rng, &tables, kind);
         let count = figures(&request);

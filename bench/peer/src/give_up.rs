@@ -76,7 +76,7 @@ pub fn give_up(
 
 /// Test 19.
 pub fn open_processes(processes: &mut [i64]) -> Result<Processes<'_>, Refusal> {
-    Processes::open(processes, PROCESSES_ROOM, by_first, is_sound_process).ok_or(Refusal { number: 19, place: 0 })
+    Processes::open(processes, PROCESSES_ROOM, by_first, |_, row| is_sound_process(row)).ok_or(Refusal { number: 19, place: 0 })
 }
 
 /// Test 3 of a step.

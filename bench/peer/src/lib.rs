@@ -1,14 +1,16 @@
 //! The transaction book as one would write it in Rust by hand: the same lent tables of flat cells, the same tests in the same order, the same
 //! bookings. The benchmark compares the proved book with it, and `tests/` can be run against it to try the harness itself.
 
+mod days;
 mod give_up;
 mod replay;
 mod table;
 mod writing;
 
+pub use days::{day, reportable};
 pub use give_up::{give_up, Step};
 pub use replay::replay;
-pub use writing::{write_give_up, write_merge, write_separation, write_trade, write_trades, write_transfer};
+pub use writing::{write_day, write_give_up, write_merge, write_separation, write_trade, write_trades, write_transfer};
 
 use table::{by_pair, sound_rows, PositionRow, Positions, RecordRow, Records};
 
@@ -23,6 +25,7 @@ pub enum Reply {
     Replayed { lines: i64 },
     BadLine { line: i64 },
     LineRefused { line: i64, number: i64, place: i64 },
+    Listed { records: i64 },
 }
 
 #[derive(Clone, Copy)]
@@ -67,6 +70,10 @@ const PRICE: usize = 9;
 const LONG: usize = 10;
 const SHORT: usize = 11;
 const INTO: usize = 12;
+const DAY: usize = 13;
+
+// The cell of the records' header after the count.
+const TODAY: usize = 1;
 
 // The cells of a positions row after account and series.
 const OPEN_LONG: usize = 2;
@@ -98,6 +105,7 @@ const MOST_PRICE: i64 = 1_000_000_000_000;
 const MOST_HELD: i64 = 1_000_000_000_000;
 const MOST_CASH: i64 = 1_000_000_000_000_000;
 const MOST_TOTAL: i64 = 4_000_000_000_000_000_000;
+const LAST_DAY: i64 = 99_999;
 
 fn is_id(z: i64) -> bool {
     (1..=999_999_999).contains(&z)
@@ -123,8 +131,8 @@ fn is_price(z: i64) -> bool {
     (-MOST_PRICE..=MOST_PRICE).contains(&z)
 }
 
-fn is_sound_record(row: &RecordRow) -> bool {
-    let [id, suffix, parent, kind, status, account, series, side, quantity, price, long, short, into] = *row;
+fn is_sound_record(header: &[i64; 2], row: &RecordRow) -> bool {
+    let [id, suffix, parent, kind, status, account, series, side, quantity, price, long, short, into, day] = *row;
     is_id(id)
         && is_suffix(suffix)
         && is_suffix(parent)
@@ -142,6 +150,7 @@ fn is_sound_record(row: &RecordRow) -> bool {
         && (-MOST_QUANTITY..=MOST_QUANTITY).contains(&long)
         && (-MOST_QUANTITY..=MOST_QUANTITY).contains(&short)
         && (into == 0 || is_id(into))
+        && (0..=header[TODAY]).contains(&day)
 }
 
 fn is_sound_position(row: &PositionRow) -> bool {
@@ -156,11 +165,29 @@ fn is_sound_position(row: &PositionRow) -> bool {
 const RECORDS_ROOM: usize = 4_096;
 const POSITIONS_ROOM: usize = 1_024;
 
+/// Test 1.
+fn open_records(records: &mut [i64]) -> Result<Records<'_>, Refusal> {
+    Records::open(records, RECORDS_ROOM, by_pair, is_sound_record).filter(|records| is_today(records.header[TODAY])).ok_or(Refusal { number: 1, place: 0 })
+}
+
+/// Test 1 of a call that only reads: the current day and the rows.
+fn read_records(records: &[i64]) -> Result<(i64, &[RecordRow]), Refusal> {
+    let sound = sound_rows(records, RECORDS_ROOM, by_pair, is_sound_record).filter(|(header, _)| is_today(header[TODAY]));
+    sound.map(|(header, rows)| (header[TODAY], rows)).ok_or(Refusal { number: 1, place: 0 })
+}
+
+fn is_today(day: i64) -> bool {
+    (0..=LAST_DAY).contains(&day)
+}
+
+/// Test 2.
+fn open_positions(positions: &mut [i64]) -> Result<Positions<'_>, Refusal> {
+    Positions::open(positions, POSITIONS_ROOM, by_pair, |_, row| is_sound_position(row)).ok_or(Refusal { number: 2, place: 0 })
+}
+
 /// Tests 1 and 2.
 fn open<'a>(records: &'a mut [i64], positions: &'a mut [i64]) -> Result<(Records<'a>, Positions<'a>), Refusal> {
-    let records = Records::open(records, RECORDS_ROOM, by_pair, is_sound_record).ok_or(Refusal { number: 1, place: 0 })?;
-    let positions = Positions::open(positions, POSITIONS_ROOM, by_pair, is_sound_position).ok_or(Refusal { number: 2, place: 0 })?;
-    Ok((records, positions))
+    Ok((open_records(records)?, open_positions(positions)?))
 }
 
 /// Tests 5 and 6 of a request that names one record: its place in the table, and a copy of it.
@@ -259,7 +286,8 @@ fn book_trade(records: &mut Records, positions: &mut Positions, trade: &Trade) -
 
     let excess = if side < BUY_CLOSE { 0 } else { long.max(short) };
     let kind = if excess > 0 { CLOSING_ERROR } else { ORIGINAL };
-    records.insert(place, [id, 0, 0, kind, ADJUSTABLE, account, series, side, quantity, price, long, short, 0]);
+    let today = records.header[TODAY];
+    records.insert(place, [id, 0, 0, kind, ADJUSTABLE, account, series, side, quantity, price, long, short, 0, today]);
     positions.put(held, position);
     Ok(excess)
 }
@@ -320,6 +348,7 @@ fn book_separation(records: &mut Records, names: &[i64; 4], parts: &[i64]) -> Ou
     row[LONG] = 0;
     row[SHORT] = 0;
     row[INTO] = 0;
+    row[DAY] = records.header[TODAY];
     let gap = records.open_gap(end, added);
     for (k, place) in gap.iter_mut().enumerate() {
         row[SUFFIX] = greatest + 1 + k as i64;
@@ -389,6 +418,7 @@ fn change_account(records: &mut Records, positions: &mut Positions, at: usize, m
     row[SUFFIX] = greatest + 1;
     row[PARENT] = suffix;
     row[INTO] = 0;
+    row[DAY] = records.header[TODAY];
     let gap = records.open_gap(end, 2);
     gap[1] = row;
     gap[1][SUFFIX] += 1;
@@ -466,6 +496,7 @@ fn book_merge(records: &mut Records, positions: &mut Positions, names: &[i64; 3]
     position[TOTAL_VALUE] += residual;
     refuse_if(!is_sound_position(&position), 16)?;
 
+    let today = records.header[TODAY];
     for pair in sources {
         let at = records.find(pair[0], pair[1]).unwrap_or_else(|place| place);
         let (end, greatest) = end_of(records, pair[0]);
@@ -480,10 +511,11 @@ fn book_merge(records: &mut Records, positions: &mut Positions, names: &[i64; 3]
         inverse[LONG] = 0;
         inverse[SHORT] = 0;
         inverse[INTO] = id;
+        inverse[DAY] = today;
         records.insert(end, inverse);
     }
     let place = records.find(id, 0).unwrap_or_else(|place| place);
-    records.insert(place, [id, 0, 0, MERGE, ADJUSTABLE, account, series, side, quantity, average, 0, 0, 0]);
+    records.insert(place, [id, 0, 0, MERGE, ADJUSTABLE, account, series, side, quantity, average, 0, 0, 0, today]);
     positions.put(held, position);
     Ok(Reply::Booked { rows: sources.len() as i64 + 1, residual })
 }
@@ -505,7 +537,7 @@ pub fn lineage(records: &[i64], id: i64, suffix: i64) -> Reply {
 }
 
 fn try_lineage(records: &[i64], id: i64, suffix: i64) -> Outcome {
-    let rows = sound_rows(records, RECORDS_ROOM, by_pair, is_sound_record).ok_or(Refusal { number: 1, place: 0 })?;
+    let (_, rows) = read_records(records)?;
     refuse_if(!is_id(id) || !is_suffix(suffix), 3)?;
     let mut at = suffix;
     for links in 0.. {

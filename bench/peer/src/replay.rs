@@ -1,8 +1,9 @@
 //! A journal's lines read from a text and booked one by one. The tables are tested once, and each byte of the text is read once.
 
+use crate::days::{is_day, move_day};
 use crate::give_up::{book_step, is_step, open_processes, Names};
 use crate::table::{Positions, Processes, Records};
-use crate::{book_merge, book_separation, book_trade, book_transfer, is_merge, is_separation, is_trade, is_transfer, open};
+use crate::{book_merge, book_separation, book_trade, book_transfer, is_merge, is_separation, is_trade, is_transfer, open_positions, open_records};
 use crate::{Refusal, Reply, Step, Trade};
 
 /// The most digits that a figure in range has.
@@ -15,6 +16,7 @@ enum Line<'a> {
     Transfer([i64; 5]),
     Merge([i64; 3], &'a [i64]),
     Step(Step, Names),
+    Day(i64),
 }
 
 /// What is left of a text, and the list of the line that was read last.
@@ -105,6 +107,11 @@ impl Reader<'_> {
                 self.expect(b'\n')?;
                 is_step(&names).then_some(Line::Step(step, names))
             }
+            b'D' => {
+                let [day] = self.figures()?;
+                self.expect(b'\n')?;
+                is_day(day).then_some(Line::Day(day))
+            }
             b'S' => {
                 let names = self.figures()?;
                 self.list(1_000)?;
@@ -123,12 +130,12 @@ impl Reader<'_> {
 /// Books the lines of a text, up to the first that is bad or refused.
 pub fn replay(records: &mut [i64], positions: &mut [i64], processes: &mut [i64], text: &[u8]) -> Reply {
     let mut reader = Reader { rest: text, list: Vec::new() };
-    let (mut tables, mut processes) = (open(records, positions), open_processes(processes));
+    let mut tables = (open_records(records), open_positions(positions), open_processes(processes));
     let mut lines = 0;
     while !reader.rest.is_empty() {
         lines += 1;
         let Some(line) = reader.line() else { return Reply::BadLine { line: lines } };
-        if let Err(Refusal { number, place }) = book(&mut tables, &mut processes, &line) {
+        if let Err(Refusal { number, place }) = book(&mut tables, &line) {
             return Reply::LineRefused { line: lines, number, place: place as i64 };
         }
     }
@@ -137,9 +144,14 @@ pub fn replay(records: &mut [i64], positions: &mut [i64], processes: &mut [i64],
 
 type Opened<T> = Result<T, Refusal>;
 
-/// Tests 1 and 2, of a step 19 too, were made when the tables were opened.
-fn book(tables: &mut Opened<(Records, Positions)>, processes: &mut Opened<Processes>, line: &Line) -> Result<(), Refusal> {
-    let (records, positions) = tables.as_mut().map_err(|refusal| *refusal)?;
+/// Tests 1 and 2, of a step 19 too, of a day 1 alone, were made when the tables were opened.
+fn book(tables: &mut (Opened<Records>, Opened<Positions>, Opened<Processes>), line: &Line) -> Result<(), Refusal> {
+    let (records, positions, processes) = tables;
+    let records = records.as_mut().map_err(|refusal| *refusal)?;
+    if let Line::Day(day) = line {
+        return move_day(records.header, *day).map(|_| ());
+    }
+    let positions = positions.as_mut().map_err(|refusal| *refusal)?;
     match line {
         Line::Trade(trade) => book_trade(records, positions, trade).map(|_| ()),
         Line::Separation(names, parts) => book_separation(records, names, parts).map(|_| ()),
@@ -149,5 +161,6 @@ fn book(tables: &mut Opened<(Records, Positions)>, processes: &mut Opened<Proces
             let processes = processes.as_mut().map_err(|refusal| *refusal)?;
             book_step(*step, records, positions, processes, names).map(|_| ())
         }
+        Line::Day(_) => unreachable!("it is booked above"),
     }
 }

@@ -1,11 +1,12 @@
-//! A lent table: cell 0 is the row count, the rows follow, sorted by their first two cells, or the processes by their first alone.
+//! A lent table: a header, of which cell 0 is the row count, then the rows, sorted by their first two cells, or the processes by their first alone. The
+//! header of the records has the current day after the count.
 
-pub type RecordRow = [i64; 13];
+pub type RecordRow = [i64; 14];
 pub type PositionRow = [i64; 7];
 pub type ProcessRow = [i64; 9];
-pub type Records<'a> = Table<'a, 13>;
-pub type Positions<'a> = Table<'a, 7>;
-pub type Processes<'a> = Table<'a, 9>;
+pub type Records<'a> = Table<'a, 2, 14>;
+pub type Positions<'a> = Table<'a, 1, 7>;
+pub type Processes<'a> = Table<'a, 1, 9>;
 
 /// Whether a row's key is below another's, by two cells.
 pub fn by_pair<const W: usize>(low: &[i64; W], high: &[i64; W]) -> bool {
@@ -17,16 +18,16 @@ pub fn by_first<const W: usize>(low: &[i64; W], high: &[i64; W]) -> bool {
     low[0] < high[0]
 }
 
-/// The rows that cell 0 counts, where the table is sound: one pass over them.
-pub fn sound_rows<const W: usize>(
+/// The header and the rows that its first cell counts, where each row is sound beside the header: one pass over them.
+pub fn sound_rows<const H: usize, const W: usize>(
     cells: &[i64],
     most: usize,
     rise: impl Fn(&[i64; W], &[i64; W]) -> bool,
-    is_sound: impl Fn(&[i64; W]) -> bool,
-) -> Option<&[[i64; W]]> {
-    let (count, cells) = cells.split_first()?;
+    is_sound: impl Fn(&[i64; H], &[i64; W]) -> bool,
+) -> Option<(&[i64; H], &[[i64; W]])> {
+    let (header, cells) = cells.split_first_chunk::<H>()?;
     let (rows, _) = cells.as_chunks::<W>();
-    let count = usize::try_from(*count).ok()?;
+    let count = usize::try_from(header[0]).ok()?;
     if count > rows.len().min(most) {
         return None;
     }
@@ -34,31 +35,36 @@ pub fn sound_rows<const W: usize>(
     let mut last: Option<&[i64; W]> = None;
     for row in rows {
         let rises = last.is_none_or(|last| rise(last, row));
-        if !rises || !is_sound(row) {
+        if !rises || !is_sound(header, row) {
             return None;
         }
         last = Some(row);
     }
-    Some(rows)
+    Some((header, rows))
 }
 
-/// A sound table that may be written: its count, and the rows that it has room for.
-pub struct Table<'a, const W: usize> {
-    count: &'a mut i64,
+/// A sound table that may be written: its header, and the rows that it has room for.
+pub struct Table<'a, const H: usize, const W: usize> {
+    pub header: &'a mut [i64; H],
     rows: &'a mut [[i64; W]],
 }
 
-impl<'a, const W: usize> Table<'a, W> {
-    pub fn open(cells: &'a mut [i64], most: usize, rise: impl Fn(&[i64; W], &[i64; W]) -> bool, is_sound: impl Fn(&[i64; W]) -> bool) -> Option<Self> {
+impl<'a, const H: usize, const W: usize> Table<'a, H, W> {
+    pub fn open(
+        cells: &'a mut [i64],
+        most: usize,
+        rise: impl Fn(&[i64; W], &[i64; W]) -> bool,
+        is_sound: impl Fn(&[i64; H], &[i64; W]) -> bool,
+    ) -> Option<Self> {
         sound_rows(cells, most, rise, is_sound)?;
-        let (count, cells) = cells.split_first_mut()?;
+        let (header, cells) = cells.split_first_chunk_mut::<H>()?;
         let (rows, _) = cells.as_chunks_mut::<W>();
         let room = rows.len().min(most);
-        Some(Table { count, rows: &mut rows[..room] })
+        Some(Table { header, rows: &mut rows[..room] })
     }
 
     fn len(&self) -> usize {
-        *self.count as usize
+        self.header[0] as usize
     }
 
     /// Whether so many more rows find no room.
@@ -89,7 +95,7 @@ impl<'a, const W: usize> Table<'a, W> {
     pub fn open_gap(&mut self, at: usize, more: usize) -> &mut [[i64; W]] {
         let len = self.len();
         self.rows.copy_within(at..len, at + more);
-        *self.count += more as i64;
+        self.header[0] += more as i64;
         &mut self.rows[at..at + more]
     }
 

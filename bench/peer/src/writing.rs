@@ -1,5 +1,6 @@
 //! The line of a request in a journal, written to a lent buffer. The widths are summed first, so that a short buffer stays as it was.
 
+use crate::days::is_day;
 use crate::give_up::is_step;
 use crate::{answer, is_merge, is_separation, is_trade, is_transfer, refuse_if, Outcome, Reply, Step};
 
@@ -81,6 +82,10 @@ pub fn write_transfer(text: &mut [u8], id: i64, suffix: i64, from: i64, to: i64,
 pub fn write_merge(text: &mut [u8], id: i64, account: i64, series: i64, pairs: &[i64]) -> Reply {
     let names = [id, account, series];
     answer(write_line(text, is_merge(&names, pairs), b"M", &names, pairs))
+}
+
+pub fn write_day(text: &mut [u8], day: i64) -> Reply {
+    answer(write_line(text, is_day(day), b"D", &[day], &[]))
 }
 
 /// A step of a give-up, by the number of its letter.

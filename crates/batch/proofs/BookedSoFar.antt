@@ -1,9 +1,9 @@
 -- The loop of a batch: what holds before each turn, after a trade that is booked, where a trade stops it, and at its end. Assumes nothing.
 use Prim.Native.Nat.{ℕ, suc, _+_, _-_, _*_, _%_, _≤_, _<_}
 use native.Mathlib.Omega.{arith}
-use mathlib.Core.Path.{_≡_, refl, sym, _∙_, ap, ap₂, subst}
-use mathlib.Core.Bool.{true, false, not, _&&_}
-use mathlib.Core.List.{List, [], _∷_, _++_, map, append-nil, append-assoc, map-append}
+use mathlib.Core.Path.{_≡_, refl, sym, _∙_, ap, ap₂}
+use mathlib.Core.Bool.{true, false, _&&_}
+use mathlib.Core.List.{List, [], _∷_, _++_, append-nil, append-assoc, map-append}
 use mathlib.Core.Option.{Option, none, some}
 use borrow.Author.Tests.{not-false, leb-true}
 use lib.Dec.{eqb, leb}
@@ -15,7 +15,7 @@ use Rattle.rules.specs.Request.{Request}
 use Rattle.rules.specs.Layout.{decode}
 use Rattle.rules.specs.Tables.{Tables, tablesOf, soundRecords, soundPositions}
 use Rattle.rules.specs.Handle.{refusalOf, handle}
-use Rattle.rules.specs.Left.{Left, left, leftBy, writtenTo}
+use Rattle.rules.specs.Left.{left, leftBy, writtenTo}
 use Rattle.rules.specs.Sequence.{Done, Sequence, goesOn, untilRefused}
 use Rattle.rules.specs.Batch.{tradeAt, tradeCount, tradesOf, batchFigures, excessOf, excessesOf, batchReply, batchAnswer}
 use Rattle.rules.specs.declared.Reply.{Reply}
@@ -28,7 +28,6 @@ use Rattle.history.proofs.Accepted.{accepted-none, refused-tables}
 use Rattle.history.proofs.Answers.{refusal-exactly, refused-not-accepted}
 use Rattle.batch.specs.Outcome.{outcomeOf}
 use Rattle.batch.specs.BookedSoundly.{BookedSoundly}
-use Rattle.batch.specs.declared.Outcome.{Outcome}
 use Rattle.batch.specs.declared.Outcome.the-variants.{Booked, Refused}
 
 -- Test 3 passed: so many trades at most, and a cell for each.
@@ -55,6 +54,7 @@ booked-reply (Reply.Written bytes) over h = (refl, cc)
 booked-reply (Reply.Replayed lines) over h = (refl, cc)
 booked-reply (Reply.BadLine line) over h = (refl, cc)
 booked-reply (Reply.LineRefused line number place) over h = (refl, cc)
+booked-reply (Reply.Listed records) over h = (refl, cc)
 
 refused-reply : (reply : Reply) (number place : ℤ) → Refused number place ≡ outcomeOf reply → reply ≡ Reply.Refused number place
 refused-reply (Reply.Booked rows residual) number place h = let z : _≡_ {A = ℕ} 0 1 = cc in absurd (omega arith)
@@ -69,6 +69,7 @@ refused-reply (Reply.Written bytes) number place h = let z : _≡_ {A = ℕ} 0 1
 refused-reply (Reply.Replayed lines) number place h = let z : _≡_ {A = ℕ} 0 1 = cc in absurd (omega arith)
 refused-reply (Reply.BadLine line) number place h = let z : _≡_ {A = ℕ} 0 1 = cc in absurd (omega arith)
 refused-reply (Reply.LineRefused line n p) number place h = let z : _≡_ {A = ℕ} 0 1 = cc in absurd (omega arith)
+refused-reply (Reply.Listed records) number place h = let z : _≡_ {A = ℕ} 0 1 = cc in absurd (omega arith)
 
 -- ---- the sequence so far, and its rest
 

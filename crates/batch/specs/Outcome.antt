@@ -1,6 +1,5 @@
 -- A trade of a batch, by its reply: refused, or booked with an excess. The answers of other calls are no trade's.
-use lib.IntN.{ℤ, pos}
-use Rattle.rules.specs.Batch.{excessOf}
+use lib.IntN.{pos}
 use Rattle.rules.specs.declared.Reply.{Reply}
 use Rattle.rules.specs.declared.Reply.the-variants as Reply
 use Rattle.batch.specs.declared.Outcome.{Outcome}
@@ -16,3 +15,4 @@ outcomeOf (Reply.Written bytes) = Booked (pos 0)
 outcomeOf (Reply.Replayed lines) = Booked (pos 0)
 outcomeOf (Reply.BadLine line) = Booked (pos 0)
 outcomeOf (Reply.LineRefused line number place) = Booked (pos 0)
+outcomeOf (Reply.Listed records) = Booked (pos 0)

@@ -56,6 +56,7 @@ fn outcome_of(reply: Reply) -> Outcome
         Reply::Replayed(lines) => Outcome::Booked(0),
         Reply::BadLine(line) => Outcome::Booked(0),
         Reply::LineRefused(line, number, place) => Outcome::Booked(0),
+        Reply::Listed(records) => Outcome::Booked(0),
     }
 }
 

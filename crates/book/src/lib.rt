@@ -1,6 +1,6 @@
-// The transaction book: the four requests and the one question of document 01, a batch of trades, the steps of a give-up, and the replay of a text, each on lent tables of any length and content and
-// with any figures. Each promise is one equation: the answer and the cells of the lent tables at the end are those of `handle` on the cells at entry and this request, of a batch and a replay those of `handleCall`. A
-// batch also writes to a lent output; its promise gives every cell of it. The process table is lent to the steps of a give-up and to a replay alone.
+// The transaction book: the four requests and the one question of document 01, a batch of trades, the steps of a give-up, the replay of a text, a new day and the reporting list, each on lent tables of any length and content and
+// with any figures. Each promise is one equation: the answer and the cells of the lent tables at the end are those of `handle` on the cells at entry and this request, of a batch, a replay and the list those of `handleCall`. A
+// batch and the list also write to a lent output; their promises give every cell of it. The process table is lent to the steps of a give-up and to a replay alone.
 use give_up_steps::Terms;
 use rules::Reply;
 use rules::Step;
@@ -136,6 +136,20 @@ pub fn lineage(records: &[i64], id: i64, suffix: i64) -> Reply
     lineage::lineage(records, id, suffix)
 }
 
+// A new day (document 02, K8): it is lent the records alone.
+pub fn day(records: &mut [i64], day: i64) -> Reply
+    ensures { λ r. ⌜ answered r (now (records .exit)) [] ≡ handle (tablesOf (now (records .entry)) []) (Request.newDay day) ⌝ }
+{
+    new_day::day(records, day)
+}
+
+// The end-of-day reporting list: the pairs, id and suffix, from the first cell on.
+pub fn reportable(records: &[i64], pairs: &mut [i64]) -> Reply
+    ensures { λ r. ⌜ left r (now (pairs .exit)) (now (records .entry)) [] ≡ leftBy (now (pairs .entry)) (handleCall (tablesOf (now (records .entry)) []) (Call.reportable (length (now (pairs .entry))))) ⌝ }
+{
+    reportable::reportable(records, pairs)
+}
+
 // Tests 1, 2 and 19: accepted where all three tables are sound.
 fn verdict_on_all_tables(records: &[i64], positions: &[i64], processes: &[i64]) -> Verdict
     ensures { λ r. ⌜ r ≡ verdictOnAllTables (now (records .entry)) (now (positions .entry)) (now (processes .entry)) ⌝ }
@@ -192,11 +206,18 @@ pub fn replay(
 ) -> Reply
     ensures { λ r. ⌜ answeredBy r (allTables (now (records .exit)) (now (positions .exit)) (now (processes .exit))) ≡ handleCall (allTables (now (records .entry)) (now (positions .entry)) (now (processes .entry))) (Call.replay (now (text .entry))) ⌝ }
 {
-    match verdict_on_tables(records, positions) {
-        Verdict::Refused(number, place) => replaying::each_line::on_unsound(text, number, place),
-        Verdict::Accepted => {
-            let processes_sound = scan::soundness::processes_sound(processes);
-            replaying::each_line::on_sound(records, positions, processes, processes_sound, text)
-        }
+    let records_sound = scan::soundness::records_sound(records);
+    if !records_sound {
+        return replaying::each_line::on_unsound_records(text);
     }
+    let positions_sound = scan::soundness::positions_sound(positions);
+    let processes_sound = scan::soundness::processes_sound(processes);
+    replaying::each_line::on_sound_records(
+        records,
+        positions,
+        processes,
+        positions_sound,
+        processes_sound,
+        text,
+    )
 }

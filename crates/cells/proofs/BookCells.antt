@@ -1,17 +1,15 @@
 -- Books written into the tables are the books read again; of two writings that never shrink the second alone is seen; sound tables are what their own books write.
 -- Assumes nothing.
 use Prim.Native.Nat.{_≤_}
-use mathlib.Core.Path.{_≡_, refl, sym, ap, _∙_}
+use mathlib.Core.Path.{_≡_, refl, sym, _∙_}
 use mathlib.Core.Bool.{true}
-use mathlib.Core.List.{List}
-use lib.IntN.{ℤ}
 use lib.ListN.{length}
 use Rattle.rules.specs.Books.{Books}
-use Rattle.rules.specs.Layout.{Layout, roomOf, rowsOf, countIsSound, write}
-use Rattle.rules.specs.Tables.{Tables, recordsLayout, positionsLayout, processesLayout, booksOf, writeBooks}
-use Rattle.cells.specs.Fitting.{Fitting, SameRooms, WithinRooms, Headers}
-use Rattle.cells.specs.Lawful.{Lawful}
-use Rattle.cells.proofs.Write.{length-write, room-write, rows-write, write-write, write-own}
+use Rattle.rules.specs.Layout.{roomOf, rowsOf, countIsSound, write}
+use Rattle.rules.specs.Tables.{Tables, recordsLayout, positionsLayout, processesLayout, currentDay, booksOf, writeBooks}
+use Rattle.cells.specs.Fitting.{Fitting, Headers}
+use Rattle.cells.proofs.Write.{room-write, rows-write, write-write, write-own}
+use Rattle.cells.proofs.DayCells.{day-kept}
 use Rattle.cells.proofs.RowCells.{records-lawful, positions-lawful, processes-lawful}
 
 module _ (t : Tables) where
@@ -39,6 +37,10 @@ module _ (t : Tables) where
   pub books-processes-room : booksOf t .processesRoom ≡ roomOf processesLayout (t .processes)
   unfolding booksOf
   books-processes-room = refl
+
+  pub books-day : booksOf t .day ≡ currentDay (t .records)
+  unfolding booksOf
+  books-day = refl
 
   -- The written tables, part by part.
   pub written-records : (b : Books) → writeBooks t b .records ≡ write recordsLayout (t .records) (b .records)
@@ -95,6 +97,7 @@ module _ (t : Tables) (b : Books) (fits : Fitting t b) where
     recordsRoom = records-room-kept i;
     positionsRoom = positions-room-kept i;
     processesRoom = processes-room-kept i;
+    day = (day-kept (t .records) (b .records) (fits .headers .records) ∙ sym (fits .day ∙ books-day t)) i;
   }
     where
       records-room-kept : roomOf recordsLayout (write recordsLayout (t .records) (b .records)) ≡ b .recordsRoom

@@ -6,6 +6,7 @@ pub mod Write
 pub mod Shift
 pub mod Sound
 pub mod RowCells
+pub mod DayCells
 pub mod SoundCells
 pub mod BookCells
 pub mod SoundBookCells

@@ -1,4 +1,4 @@
--- Books that can be written into the tables: each table has its header, the books' rooms are the tables', and the rows are within them.
+-- Books that can be written into the tables: each table has its header, the books' rooms and day are the tables', and the rows are within the rooms.
 use Prim.Native.Nat.{_≤_}
 use mathlib.Core.Path.{_≡_}
 use lib.ListN.{length}
@@ -27,3 +27,4 @@ pub record Fitting (t : Tables) (b : Books) : Type 0 where
   pub headers : Headers t
   pub rooms : SameRooms b (booksOf t)
   pub within : WithinRooms b
+  pub day : b .day ≡ booksOf t .day

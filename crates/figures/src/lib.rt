@@ -7,6 +7,7 @@ use rules::codes::DONE;
 use rules::codes::GIVE_UP;
 use rules::codes::GREATEST_SUFFIX;
 use rules::codes::INVERSE;
+use rules::codes::LAST_DAY;
 use rules::codes::MERGE;
 use rules::codes::MOST_QUANTITY;
 use rules::codes::ORIGINAL;
@@ -20,7 +21,7 @@ ghost use mathlib.Core.Path.{_≡_};
 ghost use mathlib.Core.Bool.{true};
 ghost use Rattle.integers.specs.Order.{inRange};
 ghost use Rattle.rules.specs.Figures as Figures;
-ghost use Rattle.rules.specs.Figures.{magnitudeAtMost, mostQuantity, validId, validSuffix, validAccount, validSeries, validQuantity, validPrice, validSide, isBuy, isToClose};
+ghost use Rattle.rules.specs.Figures.{magnitudeAtMost, mostQuantity, validId, validSuffix, validAccount, validSeries, validQuantity, validDay, validPrice, validSide, isBuy, isToClose};
 ghost use Rattle.rules.specs.Rows.{validKind, validStatus, validSignedQuantity, validBooked, validTotal, validInto, validParent};
 ghost use Rattle.rules.specs.ProcessRows.{validApproval, validStage};
 
@@ -61,6 +62,12 @@ pub fn valid_quantity(z: i64) -> bool
     ensures { λ r. ⌜ r ≡ validQuantity z ⌝ }
 {
     in_range(1, MOST_QUANTITY, z)
+}
+
+pub fn valid_day(z: i64) -> bool
+    ensures { λ r. ⌜ r ≡ validDay z ⌝ }
+{
+    in_range(1, LAST_DAY, z)
 }
 
 pub fn valid_price(z: i64) -> bool

@@ -152,30 +152,33 @@ fn cancelled(records: &mut [i64], positions: &mut [i64], processes: &mut [i64]) 
 
 // Room for three records, two positions and two processes; a cell that holds no row is -1.
 fn run_booked() {
-    let mut records = [-1; 40];
+    let mut records = [-1; 44];
     let mut positions = [-1; 15];
     let mut processes = [-1; 19];
     records[0] = 0;
+    records[1] = 0;
     positions[0] = 0;
     processes[0] = 0;
     booked(&mut records, &mut positions, &mut processes);
 }
 
 fn run_refused() {
-    let mut records = [-1; 40];
+    let mut records = [-1; 44];
     let mut positions = [-1; 15];
     let mut processes = [-1; 19];
     records[0] = 0;
+    records[1] = 0;
     positions[0] = 0;
     processes[0] = 0;
     refused(&mut records, &mut positions, &mut processes);
 }
 
 fn run_cancelled() {
-    let mut records = [-1; 40];
+    let mut records = [-1; 44];
     let mut positions = [-1; 15];
     let mut processes = [-1; 19];
     records[0] = 0;
+    records[1] = 0;
     positions[0] = 0;
     processes[0] = 0;
     cancelled(&mut records, &mut positions, &mut processes);

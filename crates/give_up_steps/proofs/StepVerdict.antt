@@ -1,45 +1,41 @@
 -- The verdict on a step in the shape in which code meets it: test by test up to the record, then the tests of the record, then the room of the process table or, where the step
 -- completes, the tests of what moves. On sound tables. Assumes nothing.
-use Prim.Native.Nat.{ℕ, _+_, _≤_}
+use Prim.Native.Nat.{_+_}
 use native.Mathlib.Omega.{arith}
 use mathlib.Core.Path.{_≡_, refl, sym, _∙_, ap, subst}
 use mathlib.Core.Bool.{Bool, true, false, cond, not, _&&_}
-use mathlib.Core.List.{List, [], _∷_, _++_, map}
+use mathlib.Core.List.{List, [], _∷_, _++_}
 use mathlib.Core.Option.{Option, none, some}
 use lib.Dec.{ltb}
 use lib.IntN.{ℤ, pos}
 use lib.ListN.{length}
 use borrow.Author.Tests.{le-ltb}
-use Rattle.integers.specs.Order.{eqZ}
-use Rattle.rules.specs.Figures.{isToClose, transferKind, underGiveUp, giveUpKind, takeUpKind}
+use Rattle.rules.specs.Figures.{isToClose, transferKind, giveUpKind, takeUpKind}
 use Rattle.rules.specs.Keyed.{isSome, find, greatest, absentFrom}
-use Rattle.rules.specs.Rows.{keyOf, recordKey, positionKey, orZeros, soundPosition}
+use Rattle.rules.specs.Rows.{keyOf, recordKey, positionKey, orZeros}
 use Rattle.rules.specs.ProcessRows.{processKey}
-use Rattle.rules.specs.NamedRecord.{theRecord, nextSuffix, isElsewhere, statusTest}
+use Rattle.rules.specs.NamedRecord.{theRecord, nextSuffix, isElsewhere}
 use Rattle.rules.specs.Refusal.{Test, test, anyOf, allOf, firstRefusal}
 use Rattle.rules.specs.Request.{Request, giveUp}
-use Rattle.rules.specs.Books.{Books, viewOf}
-use Rattle.rules.specs.Plan.{Effects, withProcessRow, suffixIsAbove, processRoomTest, bookingTests, planTests}
+use Rattle.rules.specs.Books.{viewOf}
+use Rattle.rules.specs.Plan.{withProcessRow, processRoomTest, bookingTests, planTests}
 use Rattle.rules.specs.Transfer.{holdsTooLittle}
-use Rattle.rules.specs.GiveUp.{giveUpFigures, isOpening, isOutOfTurn, stepped, isComplete, stepStatusTest, stepEffects, finished, giveUpEffects, processBefore, giveUpPlan}
+use Rattle.rules.specs.GiveUp.{giveUpFigures, isOutOfTurn, stepped, isComplete, stepStatusTest, stepEffects, finished, giveUpEffects, processBefore, giveUpPlan}
 use Rattle.rules.specs.Layout.{roomOf, rowsOf}
-use Rattle.rules.specs.Tables.{Tables, allTables, tablesOf, booksOf, recordsLayout, positionsLayout, processesLayout}
+use Rattle.rules.specs.Tables.{currentDay, Tables, allTables, tablesOf, booksOf, recordsLayout, positionsLayout, processesLayout}
 use Rattle.rules.specs.Handle.{planOf}
 use Rattle.rules.specs.declared.Record.{Record}
 use Rattle.rules.specs.declared.Position.{Position}
 use Rattle.rules.specs.declared.ProcessRow.{ProcessRow}
 use Rattle.rules.specs.declared.Step.{Step}
-use Rattle.keys.proofs.Clauses.{isSome-none, isSome-some, absentFrom-nil, absentFrom-new, absentFrom-old}
-use Rattle.keys.proofs.Greatest.{greatest-none}
-use Rattle.cells.proofs.SoundCells.{records-known, positions-known, processes-known}
+use Rattle.keys.proofs.Clauses.{isSome-none, isSome-some, absentFrom-nil, absentFrom-old}
+use Rattle.cells.proofs.SoundCells.{record-rows-sound, records-known, positions-known, processes-known}
 use Rattle.soundness.specs.SoundTables.{SoundTables}
 use Rattle.verdict.specs.Verdict.{verdictOf, verdictIn}
 use Rattle.verdict.specs.Moving.{movingEffects, movingVerdict}
-use Rattle.verdict.specs.declared.Verdict.{Verdict}
-use Rattle.verdict.specs.declared.Verdict.the-variants.{Accepted, Refused}
-use Rattle.verdict.proofs.Remaining.{verdictBy, Remaining, _past_, stops, ends}
+use Rattle.verdict.specs.declared.Verdict.the-variants.{Refused}
+use Rattle.verdict.proofs.Remaining.{verdictBy, Remaining, _past_, stops}
 use Rattle.verdict.proofs.Moving.{moving-step}
-use Rattle.give_up_steps.specs.StepTests.{openingTests, laterTests}
 
 -- Tests that pass at the end of a list change nothing.
 passing-end : (xs ys : List Test) → firstRefusal ys ≡ none → firstRefusal (xs ++ ys) ≡ firstRefusal xs
@@ -78,7 +74,7 @@ module _ (rs ps qs : List ℤ) (process id suffix giving taking series : ℤ) wh
 
   -- The tests from 12 on, and from 6 on, of the record r.
   abbrev pub tail : Step → Record → List Test
-  tail step r = test 12 (isComplete (after step) && holdsTooLittle r old) ∷ bookingTests (booksOf t) (giveUpEffects step r (after step) next taking old new)
+  tail step r = test 12 (isComplete (after step) && holdsTooLittle r old) ∷ bookingTests (booksOf t) (giveUpEffects step (currentDay rs) r (after step) next taking old new)
 
   abbrev pub fromRecord : Step → Record → List Test
   fromRecord step r = test 6 (isElsewhere giving series r) ∷ stepStatusTest step r ∷ test 8 (isToClose (r .side)) ∷ tail step r
@@ -134,7 +130,7 @@ module _ (rs ps qs : List ℤ) (process id suffix giving taking series : ℤ) wh
     unfolding giveUpEffects bookingTests booksOf test firstRefusal anyOf allOf
     step-tail step r h =
         let room : ltb (roomOf recordsLayout rs) (length (rowsOf recordsLayout rs) + 0) ≡ false =
-        le-ltb (roomOf recordsLayout rs) (length (rowsOf recordsLayout rs) + 0) (omega (arith, records-known rs (sound .records) .rows-fit)) in
+        le-ltb (roomOf recordsLayout rs) (length (rowsOf recordsLayout rs) + 0) (omega (arith, records-known rs (record-rows-sound rs (sound .records)) .rows-fit)) in
         let fits : ltb (roomOf positionsLayout ps) (length (rowsOf positionsLayout ps) + absentFrom positionKey (rowsOf positionsLayout ps) []) ≡ false =
         le-ltb (roomOf positionsLayout ps) (length (rowsOf positionsLayout ps) + absentFrom positionKey (rowsOf positionsLayout ps) [])
         (omega (arith, positions-known ps (sound .positions) .rows-fit, absentFrom-nil positionKey (rowsOf positionsLayout ps))) in

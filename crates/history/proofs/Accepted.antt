@@ -1,18 +1,19 @@
 -- A request on the tables, where it is accepted and where it is refused: a refused one changes no cell; an accepted one's answer and tables are those of its plan, and
--- its tests hold of the rows. Only a question is accepted where the records or the positions are not sound, and it writes nothing; a step of a give-up only where the processes
--- are sound too. Assumes nothing.
-use mathlib.Core.Path.{_≡_, refl, sym, _∙_, ap}
+-- its tests hold of the rows. Only a question and a new day are accepted where the positions are not sound; a question writes nothing, a new day the current day alone; a step of a give-up is accepted
+-- only where the processes are sound too. Assumes nothing.
+use mathlib.Core.Path.{_≡_, refl, sym, _∙_, ap, subst}
 use mathlib.Core.Bool.{true, false, not}
 use mathlib.Core.List.{List, [], _∷_}
 use mathlib.Core.Logic.{_⊎_, inl, inr}
 use mathlib.Core.Option.{Option, none, some}
 use borrow.Author.Tests.{not-true, not-false}
+use lib.IntN.{ℤ}
 use Rattle.rules.specs.Keyed.{isSome}
 use Rattle.rules.specs.Refusal.{Test, test, firstRefusal}
 use Rattle.rules.specs.Request.{Request}
 use Rattle.rules.specs.Reply.{refusedBy}
-use Rattle.rules.specs.Plan.{Effects, Plan, booking, question, planTests, planReply}
-use Rattle.rules.specs.Tables.{Tables, soundRecords, soundPositions, soundProcesses, booksOf}
+use Rattle.rules.specs.Plan.{Effects, Plan, booking, question, dayMove, planTests, planReply}
+use Rattle.rules.specs.Tables.{Tables, soundRecords, soundPositions, soundProcesses, withCurrentDay, booksOf}
 use Rattle.rules.specs.Handle.{soundProcessesTest, soundnessTests, refusals, planTables, answer, answeredBy, refusalOf, handle}
 use Rattle.rules.specs.declared.ProcessRow.{ProcessRow}
 use Rattle.soundness.specs.SoundBooks.{planOn, Accepts}
@@ -20,6 +21,7 @@ use Rattle.soundness.specs.SoundTables.{SoundTables}
 use Rattle.keys.proofs.Counts.{isSome-absent, isSome-present}
 use Rattle.keys.proofs.Clauses.{isSome-none}
 use Rattle.history.specs.History.{isAccepted}
+use Rattle.history.proofs.Effects.{LeavesDay}
 use Rattle.history.proofs.Refusals.{no-refusal, test-passes, rest-passes, passes-test, left-passes, right-passes, both-pass}
 
 -- Test 19, of a plan that puts a process row.
@@ -93,6 +95,7 @@ module _ (t : Tables) (r : Request) where
           passes-test 1 (not (soundRecords (t .records))) (test 2 (not (soundPositions (t .positions))) ∷ soundProcessesTest t (e .process)) (ap not (sound .records))
           (passes-test 2 (not (soundPositions (t .positions))) (soundProcessesTest t (e .process)) (ap not (sound .positions)) (nineteen-passes t (e .process) (sound .processes)))
       go (question tests reply) = passes-test 1 (not (soundRecords (t .records))) [] (ap not (sound .records)) no-refusal
+      go (dayMove tests day) = passes-test 1 (not (soundRecords (t .records))) [] (ap not (sound .records)) no-refusal
 
   -- A request that books is accepted on sound records and positions alone, and a step of a give-up on sound processes.
   pub booked-on-sound : (tests : List Test) (e : Effects) → planAt ≡ booking tests e → isAccepted t r ≡ true → BookedOn t (e .process)
@@ -106,11 +109,23 @@ module _ (t : Tables) (r : Request) where
         processes = nineteen-passed t (e .process) (rest-passes _ _ (rest-passes _ _ s));
       }
 
-  -- Where a request is accepted beside sound processes, all tables are sound or it leaves them as they were.
-  pub sound-or-same : soundProcesses (t .processes) ≡ true → isAccepted t r ≡ true → (SoundTables t) ⊎ (handle t r .tables ≡ t)
+  -- A new day is accepted on sound records alone, and writes the current day.
+  pub moved-on-sound : (tests : List Test) (day : ℤ) → planAt ≡ dayMove tests day → isAccepted t r ≡ true → soundRecords (t .records) ≡ true
+  unfolding refusals soundnessTests
+  moved-on-sound tests day q h =
+      not-false (soundRecords (t .records))
+      (test-passes 1 _ _ (ap (λ (p : Plan). firstRefusal (soundnessTests t p)) (sym q) ∙ left-passes (soundnessTests t planAt) (planTests (booksOf t) planAt) (accepted-none h)))
+
+  pub moved-tables : (tests : List Test) (day : ℤ) → planAt ≡ dayMove tests day → isAccepted t r ≡ true → handle t r .tables ≡ withCurrentDay day t
   unfolding planTables
-  sound-or-same processes h = go planAt refl
+  moved-tables tests day q h = accepted-tables h ∙ ap (λ (p : Plan). planTables p t) q
+
+  -- Where a request that leaves the current day is accepted beside sound processes, all tables are sound or it leaves them as they were.
+  pub sound-or-same : soundProcesses (t .processes) ≡ true → LeavesDay planAt → isAccepted t r ≡ true → (SoundTables t) ⊎ (handle t r .tables ≡ t)
+  unfolding planTables
+  sound-or-same processes stays h = go planAt refl
     where
       go : (p : Plan) → planAt ≡ p → (SoundTables t) ⊎ (handle t r .tables ≡ t)
       go (booking tests e) q = inl (all-sound t (e .process) (booked-on-sound tests e q h) processes)
       go (question tests reply) q = inr (accepted-tables h ∙ ap (λ (p : Plan). planTables p t) q)
+      go (dayMove tests day) q = absurd (subst (λ (p : Plan). LeavesDay p) q stays)

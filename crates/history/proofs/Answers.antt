@@ -7,7 +7,7 @@ use mathlib.Core.Option.{Option, none, some}
 use lib.IntN.{ℤ, pos}
 use Rattle.rules.specs.Refusal.{Test}
 use Rattle.rules.specs.Reply.{refusedBy}
-use Rattle.rules.specs.Request.{Request, trade, separate, transfer, merge, lineage, giveUp}
+use Rattle.rules.specs.Request.{Request, trade, separate, transfer, merge, lineage, giveUp, newDay}
 use Rattle.rules.specs.Books.{View, viewOf}
 use Rattle.rules.specs.Plan.{Effects, planReply}
 use Rattle.rules.specs.Trade.{tradeReply, tradePlan}
@@ -15,6 +15,7 @@ use Rattle.rules.specs.Separation.{separationPlan}
 use Rattle.rules.specs.Transfer.{transferPlan}
 use Rattle.rules.specs.Merge.{mergePlan}
 use Rattle.rules.specs.Lineage.{Origin, lineageReply, lineagePlan}
+use Rattle.rules.specs.Day.{dayPlan}
 use Rattle.rules.specs.GiveUp.{isComplete, giveUpEffects, giveUpPlan}
 use Rattle.rules.specs.Tables.{Tables, booksOf}
 use Rattle.rules.specs.Handle.{planOf, refusalOf, handle}
@@ -41,13 +42,14 @@ either-replies true e f h k = h
 either-replies false e f h k = k
 
 plan-replies : (v : View) (r : Request) → isRefusal (planReply (planOf v r)) ≡ false
-unfolding isRefusal planReply planOf tradePlan separationPlan transferPlan mergePlan lineagePlan giveUpPlan giveUpEffects
+unfolding isRefusal planReply planOf tradePlan separationPlan transferPlan mergePlan lineagePlan giveUpPlan giveUpEffects dayPlan
 plan-replies v (trade id account series side quantity price) = trade-replies _ _
 plan-replies v (separate id suffix account series parts) = refl
 plan-replies v (transfer id suffix from to series) = refl
 plan-replies v (merge id account series pairs) = refl
 plan-replies v (lineage id suffix) = lineage-replies _
 plan-replies v (giveUp step process id suffix giving taking series) = either-replies (isComplete _) _ _ refl refl
+plan-replies v (newDay day) = refl
 
 -- ---- the tie
 

@@ -21,13 +21,14 @@ use Rattle.rules.specs.Sequence.{Done, Sequence, goesOn, untilRefused}
 use Rattle.rules.specs.Batch.{tradeAt, tradeCount, tradesOf, batchRefusal, batchReply, batchAnswer, handleBatch}
 use Rattle.rules.specs.Reader.{readingOf}
 use Rattle.rules.specs.Replay.{replayAnswer, handleReplay}
-use Rattle.rules.specs.Call.{Call, one, trades, replay, handleCall}
+use Rattle.rules.specs.Call.{Call, one, trades, replay, reportable, handleCall}
 use Rattle.rules.specs.declared.Reply.{Reply}
 use Rattle.soundness.specs.RowsAnswered.{rowsAnswered}
 use Rattle.soundness.specs.SoundTables.{SoundTables}
 use Rattle.history.specs.History.{isAccepted}
 use Rattle.history.specs.RowsBooked.{rowsOfAll, rowsBooked}
 use Rattle.history.proofs.Accepted.{none-accepted, accepted-reply}
+use Rattle.history.proofs.DayAlone.{list-stays, list-adds-none}
 use Rattle.history.proofs.OnTables.{stays-sound, count-grows}
 use Rattle.history.proofs.Sequences.{DoneFrom, done-from}
 
@@ -50,6 +51,7 @@ calls-stay-sound t sound (trades figures cells) = go (batchRefusal t figures cel
 calls-stay-sound t sound (replay text) =
     let s : Sequence = untilRefused t (readingOf text .requests) in
     done-sound (s .done) t (s .tables) (done-from t (readingOf text .requests)) sound
+calls-stay-sound t sound (reportable cells) = subst (λ (u : Tables). SoundTables u) (sym (list-stays t cells)) sound
 
 -- ---- cell 0
 
@@ -113,3 +115,5 @@ calls-count-grows t (trades figures cells) = go (batchRefusal t figures cells)
 calls-count-grows t (replay text) =
     let s : Sequence = untilRefused t (readingOf text .requests) in
     done-grows (s .done) t (s .tables) (done-from t (readingOf text .requests))
+calls-count-grows t (reportable cells) =
+    ap (λ (u : Tables). countOf (u .records)) (list-stays t cells) ∙ sym (ap (λ (rows : ℤ). countOf (t .records) +ℤ rows) (list-adds-none t cells) ∙ +ℤ-idr (countOf (t .records)))

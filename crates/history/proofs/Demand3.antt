@@ -1,11 +1,12 @@
--- Demand 3. From any tables, sound or not, hand in any list of requests, batches of trades and replays of texts among them; a batch that stopped, and a replay, stands as the requests that it booked.
--- Take the accepted ones in any other order in which touching requests keep their order, and hand those in from the same tables: each is accepted again with the same whole answer, what it writes
--- to a lent output too, and every cell of all three tables is the same at the end, those past the last row too.
+-- Demand 3. From any tables, sound or not, hand in any list of requests, batches of trades, replays of texts and reporting lists among them; a batch that stopped, and a replay, stands as the requests
+-- that it booked. Take the accepted ones in any other order in which touching requests keep their order, and hand those in from the same tables: each is accepted again with the same whole answer, what it
+-- writes to a lent output too, and every cell of all three tables is the same at the end, those past the last row too.
 --
 -- The claim is about one list of any length. Refused requests may stand anywhere in the first list. Both runs are of `handle`, the rules of document 01: a program that always
 -- refuses, or does nothing, is shut out by the rules themselves (demand 2), and not by this theorem, which such a program would satisfy.
 --
 -- By the exchange of neighbours (TableExchange), carried to any reordering (Replay). Assumes nothing.
+use Prim.Native.Nat.{ℕ}
 use mathlib.Core.Path.{_≡_, refl, sym, _∙_, ap, ap₂, subst}
 use mathlib.Core.Bool.{Bool, true, false, cond}
 use mathlib.Core.List.{List, [], _∷_, _++_, map}
@@ -19,11 +20,12 @@ use Rattle.rules.specs.Sequence.{Done, Sequence, untilRefused}
 use Rattle.rules.specs.Batch.{tradesOf, batchRefusal, batchAnswer, handleBatch}
 use Rattle.rules.specs.Reader.{readingOf}
 use Rattle.rules.specs.Replay.{replayAnswer, handleReplay}
-use Rattle.rules.specs.Call.{Call, one, trades, replay, handleCall}
+use Rattle.rules.specs.Call.{Call, one, trades, replay, reportable, handleCall}
 use Rattle.rules.specs.Run.{afterReply, run}
 use Rattle.keys.proofs.Split.{split, cond-true, cond-false}
 use Rattle.history.specs.History.{callAccepted, Entry, callsOf, entryOf, asEntry, bookedBy, entriesOf, acceptedEntries, entriesTouch, Reordering}
 use Rattle.history.proofs.Accepted.{refused-tables}
+use Rattle.history.proofs.DayAlone.{list-stays}
 use Rattle.history.proofs.Replay.{Replays, replays-then, replay-reordered}
 use Rattle.history.proofs.Sequences.{DoneFrom, done-from, writes-nothing}
 use Rattle.history.proofs.Parts.{Does, next, entries-exchanged}
@@ -50,6 +52,7 @@ booked-replays t (trades figures cells) not-ok = go (batchRefusal t figures cell
 booked-replays t (replay text) not-ok =
     let s : Sequence = untilRefused t (readingOf text .requests) in
     as-entries (s .done) t (s .tables) (done-from t (readingOf text .requests))
+booked-replays t (reportable cells) not-ok = sym (list-stays t cells)
 
 -- A call, as it stands among the accepted ones, leads to the tables that it leaves.
 call-replays : (t : Tables) (c : Call) → Replays Does next t (entriesOf t c) (handleCall t c .tables)
@@ -99,3 +102,8 @@ pub demand-3 : (t : Tables) (calls : List Call) (new : List Entry) → Reorderin
 demand-3 t calls new order =
     replayed new t (run t calls .tables)
     (replay-reordered Does next entriesTouch entries-exchanged new (acceptedEntries t calls) t (run t calls .tables) order (history-replays t calls))
+
+-- So the reporting list (document 02, K8) that is asked for afterwards, at the day's end, is the same whichever of these orders the day's requests had: its reply, its pairs and every cell.
+pub list-at-day's-end : (t : Tables) (calls : List Call) (new : List Entry) → Reordering entriesTouch (acceptedEntries t calls) new → (cells : ℕ) →
+    handleCall (run t (callsOf new) .tables) (reportable cells) ≡ handleCall (run t calls .tables) (reportable cells)
+list-at-day's-end t calls new order cells = ap (λ (u : Tables). handleCall u (reportable cells)) (demand-3 t calls new order .1)

@@ -1,5 +1,5 @@
 -- Empty tables: they have no rows, are sound, and have the same books where they have the same rooms. Assumes nothing.
-use mathlib.Core.Path.{_≡_, sym, _∙_, ap}
+use mathlib.Core.Path.{_≡_, refl, sym, _∙_, ap}
 use mathlib.Core.Bool.{Bool, true}
 use mathlib.Core.List.{List, [], map}
 use native.Mathlib.Omega.{arith}
@@ -12,11 +12,12 @@ use Rattle.rules.specs.Rows.{recordKey, positionKey, soundRecord, soundPosition
 use Rattle.rules.specs.ProcessRows.{processNumber, soundProcess}
 use Rattle.rules.specs.Refusal.{allOf}
 use Rattle.rules.specs.Layout.{Layout, decode, countOf, roomOf, rowsOf, countIsSound}
-use Rattle.rules.specs.Tables.{Tables, recordsLayout, positionsLayout, processesLayout, soundTable, soundRecords, soundPositions, soundProcesses, booksOf}
+use Rattle.rules.specs.Tables.{Tables, recordsLayout, positionsLayout, processesLayout, soundTable, soundRecordRows, currentDay, soundDays, soundPositions, soundProcesses, booksOf}
 use Rattle.keys.proofs.Split.{and-intro}
 use Rattle.keys.proofs.Clauses.{allOf-nil, rising-nil}
 use Rattle.cells.proofs.Count.{pos-within}
 use Rattle.cells.proofs.Sound.{sound-table}
+use Rattle.cells.proofs.SoundCells.{records-sound}
 use Rattle.soundness.specs.SoundTables.{SoundTables}
 use Rattle.history.specs.EmptyTables.{EmptyTable, EmptyTables, SameRoom}
 
@@ -33,10 +34,15 @@ empty-sound {Row} l key soundRow cells e =
     sound-table l key soundRow cells (and-intro (le-leb (l .header) (length cells) (e .header-within)) in-room)
     (ap (rising key) rows ∙ rising-nil key) (ap (λ (r : List Row). allOf (map soundRow r)) rows ∙ allOf-nil)
 
+-- "Empty tables start at day 0"
+empty-days : (cells : List ℤ) → countOf cells ≡ pos 0 → currentDay cells ≡ pos 0 → soundDays (currentDay cells) (rowsOf recordsLayout cells) ≡ true
+unfolding soundDays inRange allOf
+empty-days cells no-row day = rw (day, no-rows recordsLayout cells no-row) refl
+
 pub empty-tables-sound : (t : Tables) → EmptyTables t → SoundTables t
-unfolding soundRecords soundPositions soundProcesses
+unfolding soundRecordRows soundPositions soundProcesses
 empty-tables-sound t e = record {
-  records = empty-sound recordsLayout recordKey soundRecord (t .records) (e .records);
+  records = records-sound (t .records) (empty-sound recordsLayout recordKey soundRecord (t .records) (e .records)) (empty-days (t .records) (e .records .no-row) (e .day));
   positions = empty-sound positionsLayout positionKey soundPosition (t .positions) (e .positions);
   processes = empty-sound processesLayout processNumber soundProcess (t .processes) (e .processes);
 }
@@ -54,4 +60,5 @@ empty-books t u e f room = λ i. record {
   recordsRoom = room .records i;
   positionsRoom = room .positions i;
   processesRoom = room .processes i;
+  day = (e .day ∙ sym (f .day)) i;
 }

@@ -10,6 +10,7 @@ pub mod Unseen
 pub mod Room
 pub mod Exchange
 pub mod Accepted
+pub mod DayAlone
 pub mod Step
 pub mod TableExchange
 pub mod Sequences

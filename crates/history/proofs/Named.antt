@@ -1,6 +1,6 @@
--- Two requests that don't touch name no id and no position in common, and the other way round; so touching is symmetric. By induction on what they name. Assumes nothing.
+-- Two requests that don't touch name no id and no position in common, neither touches everything, and the other way round; so touching is symmetric. By induction on what they name. Assumes nothing.
 use mathlib.Core.Path.{_≡_, refl, sym, subst}
-use mathlib.Core.Bool.{true, false}
+use mathlib.Core.Bool.{Bool, true, false, _||_}
 use mathlib.Core.List.{List, [], _∷_}
 use mathlib.Core.Logic.{_⊎_, inl, inr}
 use lib.IntN.{ℤ}
@@ -8,7 +8,7 @@ use Rattle.integers.specs.Order.{eqZ}
 use Rattle.rules.specs.Keyed.{Key, same}
 use Rattle.rules.specs.Merge.{isAmong}
 use Rattle.rules.specs.Request.{Request}
-use Rattle.rules.specs.Touching.{idsOf, positionsOf, isNamedIn, shareId, sharePosition, touch}
+use Rattle.rules.specs.Touching.{idsOf, positionsOf, isNamedIn, shareId, sharePosition, touchesAll, touch}
 use Rattle.keys.proofs.Split.{clash, is-false, is-true, both-ways, or-false, or-left, or-right, or-cases, or-false-left, or-false-right}
 use Rattle.keys.proofs.Equal.{eqZ-refl, eqZ-true}
 use Rattle.keys.proofs.KeyOrder.{same-refl, same-eq}
@@ -48,22 +48,33 @@ no-position-shared (x ∷ rest) ys h k n =
     go again (inl e) = subst (λ (z : Key). isAmong z ys ≡ false) (sym (same-eq k x e)) (or-false-left (isAmong x ys) (sharePosition rest ys) h)
     go again (inr e) = again e
 
--- What one request names, the other does not.
+-- What one request names, the other does not; and neither touches everything.
 pub record Apart (a b : Request) : Type 0 where
   pub ids : (id : ℤ) → isNamedIn id (idsOf a) ≡ true → isNamedIn id (idsOf b) ≡ false
   pub positions : (k : Key) → isAmong k (positionsOf a) ≡ true → isAmong k (positionsOf b) ≡ false
+  pub first-not-all : touchesAll a ≡ false
+  pub second-not-all : touchesAll b ≡ false
 
 pub untouched-apart : (a b : Request) → touch a b ≡ false → Apart a b
 unfolding touch
-untouched-apart a b h = record {
-  ids = no-id-shared (idsOf a) (idsOf b) (or-false-left (shareId (idsOf a) (idsOf b)) (sharePosition (positionsOf a) (positionsOf b)) h);
-  positions = no-position-shared (positionsOf a) (positionsOf b) (or-false-right (shareId (idsOf a) (idsOf b)) (sharePosition (positionsOf a) (positionsOf b)) h);
-}
+untouched-apart a b h =
+    let i : Bool = shareId (idsOf a) (idsOf b) in
+    let p : Bool = sharePosition (positionsOf a) (positionsOf b) in
+    let not-all : (touchesAll a || touchesAll b) ≡ false = or-false-left (touchesAll a || touchesAll b) (i || p) h in
+    let none-shared : (i || p) ≡ false = or-false-right (touchesAll a || touchesAll b) (i || p) h in
+    record {
+      ids = no-id-shared (idsOf a) (idsOf b) (or-false-left i p none-shared);
+      positions = no-position-shared (positionsOf a) (positionsOf b) (or-false-right i p none-shared);
+      first-not-all = or-false-left (touchesAll a) (touchesAll b) not-all;
+      second-not-all = or-false-right (touchesAll a) (touchesAll b) not-all;
+    }
 
 pub apart-turned : (a b : Request) → Apart a b → Apart b a
 apart-turned a b d = record {
   ids = λ id n. is-false (isNamedIn id (idsOf a)) (λ t. clash n (d .ids id t));
   positions = λ k n. is-false (isAmong k (positionsOf a)) (λ t. clash n (d .positions k t));
+  first-not-all = d .second-not-all;
+  second-not-all = d .first-not-all;
 }
 
 -- Requests that have nothing in common don't touch.
@@ -79,7 +90,9 @@ positions-unshared (x ∷ rest) ys h = or-false (h x (among-here x rest)) (posit
 
 pub apart-untouched : (a b : Request) → Apart a b → touch a b ≡ false
 unfolding touch
-apart-untouched a b d = or-false (ids-unshared (idsOf a) (idsOf b) (d .ids)) (positions-unshared (positionsOf a) (positionsOf b) (d .positions))
+apart-untouched a b d =
+    or-false (or-false (d .first-not-all) (d .second-not-all))
+    (or-false (ids-unshared (idsOf a) (idsOf b) (d .ids)) (positions-unshared (positionsOf a) (positionsOf b) (d .positions)))
 
 pub touch-symmetric : (a b : Request) → touch a b ≡ touch b a
 touch-symmetric a b = both-ways (touch a b) (touch b a) (turned a b) (turned b a)

@@ -7,7 +7,7 @@ use mathlib.Core.Logic.{_⊎_, inl, inr}
 use mathlib.Core.Option.{Option, none, some}
 use lib.IntN.{ℤ, pos, _+ℤ_, +ℤ-idr}
 use lib.ListN.{length}
-use Rattle.rules.specs.Request.{Request, trade, separate, transfer, merge, lineage, giveUp, isStep}
+use Rattle.rules.specs.Request.{Request, trade, separate, transfer, merge, lineage, giveUp, newDay, isStep}
 use Rattle.rules.specs.Books.{Books, viewOf}
 use Rattle.rules.specs.Plan.{planReply}
 use Rattle.rules.specs.Layout.{countOf}
@@ -15,14 +15,14 @@ use Rattle.rules.specs.Tables.{Tables, tablesOf, withProcesses, soundProcesses,
 use Rattle.rules.specs.Trade.{tradePlan}
 use Rattle.rules.specs.Separation.{separationPlan}
 use Rattle.rules.specs.Transfer.{transferPlan}
-use Rattle.rules.specs.Merge.{Source, pairsOf, sourcesOf, recordsOf, mergePlan}
+use Rattle.rules.specs.Merge.{Source, pairsOf, recordsOf, mergePlan}
 use Rattle.rules.specs.GiveUp.{giveUpEffects, giveUpPlan}
 use Rattle.rules.specs.Lineage.{Origin, lineageReply, lineagePlan}
 use Rattle.rules.specs.Reply.{refusedBy}
 use Rattle.rules.specs.Handle.{Answer, planOf, handle}
 use Rattle.rules.specs.declared.Record.{Record}
 use Rattle.rules.specs.declared.Reply.{Reply}
-use Rattle.cells.proofs.SoundCells.{records-known}
+use Rattle.cells.proofs.SoundCells.{record-rows-sound, records-known}
 use Rattle.cells.proofs.BookCells.{books-records}
 use Rattle.soundness.specs.RowsAnswered.{rowsAnswered}
 use Rattle.soundness.specs.SoundBooks.{planOn, after}
@@ -38,6 +38,7 @@ use Rattle.history.proofs.ProcessesApart.{withAnswer, apart-promised}
 use Rattle.history.proofs.TableExchange.{accepts-as, no-step, no-processes-sound}
 use Rattle.history.proofs.Answers.{not-accepted-refused}
 use Rattle.history.proofs.LineageAlone.{lineage-stays}
+use Rattle.history.proofs.DayAlone.{day-count, day-reply}
 use Rattle.history.proofs.Step.{sound-books, step-books, step-sound}
 
 -- From tables that pass tests 1, 2 and 19, whatever the request, the tables afterwards pass them.
@@ -50,7 +51,7 @@ stays-sound t sound r = go (split (isAccepted t r))
 
 -- Of a sound table, cell 0 is the number of its rows.
 count-is : (t : Tables) → SoundTables t → countOf (t .records) ≡ pos (length (booksOf t .records))
-count-is t sound = records-known (t .records) (sound .records) .count ∙ ap (λ (rows : List Record). pos (length rows)) (sym (books-records t))
+count-is t sound = records-known (t .records) (record-rows-sound (t .records) (sound .records)) .count ∙ ap (λ (rows : List Record). pos (length rows)) (sym (books-records t))
 
 abbrev Grown : Tables → Request → Type 0
 Grown t r = countOf (handle t r .tables .records) ≡ countOf (t .records) +ℤ rowsAnswered (handle t r .reply)
@@ -64,17 +65,17 @@ grows-on-sound t r sound ok =
     ∙ ap (λ (c : ℤ). c +ℤ rowsAnswered (planReply (planOn (booksOf t) r))) (sym (count-is t sound))
     ∙ ap (λ (reply : Reply). countOf (t .records) +ℤ rowsAnswered reply) (sym (accepted-reply t r ok))
 
--- Of a request that leaves the tables and whose answer names no row.
-grows-by-none : (t : Tables) (r : Request) → handle t r .tables ≡ t → rowsAnswered (handle t r .reply) ≡ pos 0 → Grown t r
+-- Of a request that leaves cell 0 and whose answer names no row.
+grows-by-none : (t : Tables) (r : Request) → countOf (handle t r .tables .records) ≡ countOf (t .records) → rowsAnswered (handle t r .reply) ≡ pos 0 → Grown t r
 grows-by-none t r stays no-row =
-    ap (λ (u : Tables). countOf (u .records)) stays ∙ sym (+ℤ-idr (countOf (t .records))) ∙ ap (λ (rows : ℤ). countOf (t .records) +ℤ rows) (sym no-row)
+    stays ∙ sym (+ℤ-idr (countOf (t .records))) ∙ ap (λ (rows : ℤ). countOf (t .records) +ℤ rows) (sym no-row)
 
 lineage-names-none : (o : Option Origin) → rowsAnswered (lineageReply o) ≡ pos 0
 unfolding lineageReply
 lineage-names-none none = refl
 lineage-names-none (some o) = refl
 
--- Beside sound processes: each request that books is accepted on sound tables alone; a lineage leaves the tables.
+-- Beside sound processes: each request that books is accepted on sound tables alone; a lineage leaves the tables, a new day cell 0.
 grows-beside-sound : (t : Tables) → soundProcesses (t .processes) ≡ true → (r : Request) → isAccepted t r ≡ true → Grown t r
 unfolding planOf tradePlan separationPlan transferPlan mergePlan lineagePlan giveUpPlan giveUpEffects planReply
 grows-beside-sound t h (trade id account series side quantity price) ok =
@@ -91,10 +92,11 @@ grows-beside-sound t h (merge id account series pairs) ok =
     grows-on-sound t r (all-sound t none (booked-on-sound t r _ _ refl ok) h) ok
 grows-beside-sound t h (lineage id suffix) ok =
     let r : Request = lineage id suffix in
-    grows-by-none t r (lineage-stays t id suffix) (ap (λ (reply : Reply). rowsAnswered reply) (accepted-reply t r ok) ∙ lineage-names-none _)
+    grows-by-none t r (ap (λ (u : Tables). countOf (u .records)) (lineage-stays t id suffix)) (ap (λ (reply : Reply). rowsAnswered reply) (accepted-reply t r ok) ∙ lineage-names-none _)
 grows-beside-sound t h (giveUp step process id suffix giving taking series) ok =
     let r : Request = giveUp step process id suffix giving taking series in
     grows-on-sound t r (all-sound t _ (booked-on-sound t r _ _ refl ok) h) ok
+grows-beside-sound t h (newDay day) ok = grows-by-none t (newDay day) (day-count t day ok) (ap (λ (reply : Reply). rowsAnswered reply) (day-reply t day ok))
 
 -- Beside other processes no step is accepted, and what others do is the same beside any.
 accepted-grows : (t : Tables) (r : Request) → isAccepted t r ≡ true → Grown t r
@@ -112,14 +114,14 @@ accepted-grows t r ok = go (split (soundProcesses (t .processes)))
         ∙ grows-beside-sound two no-processes-sound r (sym (accepts-as (t .processes) two r n) ∙ ok)
         ∙ ap (λ (a : Answer). countOf (t .records) +ℤ rowsAnswered (a .reply)) (sym e)
 
--- Whatever the tables and the request, cell 0 grows by the rows that the answer names: those of `booked`, 1 for a closing error, 0 for a lineage and for a refusal.
+-- Whatever the tables and the request, cell 0 grows by the rows that the answer names: those of `booked`, 1 for a closing error, 0 for a lineage, a new day and a refusal.
 pub count-grows : (t : Tables) (r : Request) → countOf (handle t r .tables .records) ≡ countOf (t .records) +ℤ rowsAnswered (handle t r .reply)
 unfolding refusedBy
 count-grows t r = go (split (isAccepted t r))
   where
     go : (isAccepted t r ≡ true) ⊎ (isAccepted t r ≡ false) → Grown t r
     go (inl ok) = accepted-grows t r ok
-    go (inr not-ok) = grows-by-none t r (refused-tables t r not-ok) (ap (λ (reply : Reply). rowsAnswered reply) (not-accepted-refused t r not-ok .2))
+    go (inr not-ok) = grows-by-none t r (ap (λ (u : Tables). countOf (u .records)) (refused-tables t r not-ok)) (ap (λ (reply : Reply). rowsAnswered reply) (not-accepted-refused t r not-ok .2))
 
 -- A merge books, so it is accepted on sound tables alone.
 merge-on-sound : (t : Tables) (id account series : ℤ) (pairs : List ℤ) → soundProcesses (t .processes) ≡ true → isAccepted t (merge id account series pairs) ≡ true → SoundTables t

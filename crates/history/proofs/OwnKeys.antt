@@ -3,7 +3,7 @@
 --
 -- What a new kind of request has to bring for demand 3: a clause of `local` (Locality), that its plan is the same in views that agree where it looks; a clause of `own-rows` below;
 -- and in the crate soundness that it adds as many rows as tests 14 and 15 counted and leaves sound books sound. All else is proved once, for every plan. A request that touches
--- every other is never exchanged: none of these is asked of it, and they are then stated of the other kinds.
+-- every other is never exchanged: a new day, which puts no row, has these clauses at once, and is left out where the current day must stay (`LeavesDay`, Effects).
 use mathlib.Core.Path.{_≡_, refl, sym, _∙_, ap, subst}
 use mathlib.Core.Bool.{Bool, true, false, cond, not}
 use mathlib.Core.List.{List, [], _∷_, _++_, map}
@@ -14,7 +14,7 @@ use Rattle.rules.specs.Keyed.{Key, isSome, find}
 use Rattle.rules.specs.Rows.{keyOf, recordKey, positionKey, orZeros, zeroPosition, moved, adjustedRecord, inverseRecord, adjustableRecord, newRecord}
 use Rattle.rules.specs.NamedRecord.{theRecord, nextSuffix}
 use Rattle.rules.specs.Refusal.{firstRefusal, anyOf}
-use Rattle.rules.specs.Request.{Request, trade, separate, transfer, merge, lineage, giveUp}
+use Rattle.rules.specs.Request.{Request, trade, separate, transfer, merge, lineage, giveUp, newDay}
 use Rattle.rules.specs.Books.{Books, View, viewOf}
 use Rattle.rules.specs.Plan.{Effects}
 use Rattle.rules.specs.Trade.{tradePlan}
@@ -25,6 +25,7 @@ use Rattle.rules.specs.Transfer.{transferEffects, transferPlan}
 use Rattle.rules.specs.GiveUp.{mayStep, isOutOfTurn, stepped, isComplete, recordAfter, stepEffects, giveUpEffects, processBefore, giveUpPlan}
 use Rattle.rules.specs.Merge.{Source, mergePlan, sourcesOf, pairsOf, isAmong, isMissing, recordsOf, mergeInverses, mergedRecord}
 use Rattle.rules.specs.Lineage.{lineagePlan}
+use Rattle.rules.specs.Day.{dayPlan}
 use Rattle.rules.specs.Touching.{idsOf, positionsOf, isNamedIn}
 use Rattle.rules.specs.Handle.{planOf}
 use Rattle.rules.specs.declared.Record.{Record}
@@ -115,10 +116,10 @@ each-append key p (row h more) k = row h (each-append key p more k)
 abbrev EachId : List ℤ → List Record → Type 0
 EachId ids rs = Each recordKey (λ (k : Key). isNamedIn (k .major) ids) rs
 
-parts-own : (ids : List ℤ) (r : Record) (suffix : ℤ) (parts : List ℤ) → isNamedIn (r .id) ids ≡ true → EachId ids (partRecords r suffix parts)
+parts-own : (today : ℤ) (ids : List ℤ) (r : Record) (suffix : ℤ) (parts : List ℤ) → isNamedIn (r .id) ids ≡ true → EachId ids (partRecords today r suffix parts)
 unfolding partRecords adjustableRecord
-parts-own ids r suffix [] h = done
-parts-own ids r suffix (q ∷ rest) h = row h (parts-own ids r (suffix +ℤ pos 1) rest h)
+parts-own today ids r suffix [] h = done
+parts-own today ids r suffix (q ∷ rest) h = row h (parts-own today ids r (suffix +ℤ pos 1) rest h)
 
 record OwnRows (r : Request) (e : Effects) : Type 0 where
   records : EachId (idsOf r) (e .changed ++ e .added)
@@ -135,10 +136,10 @@ unfolding recordsOf adjustedRecord
 changed-own ids no-source = done
 changed-own ids (source h k) = row h (changed-own ids k)
 
-inverses-own : (ids : List ℤ) (into : ℤ) (earlier : List ℤ) {sources : List Source} → NamedSources ids sources → EachId ids (mergeInverses into earlier sources)
+inverses-own : (today : ℤ) (ids : List ℤ) (into : ℤ) (earlier : List ℤ) {sources : List Source} → NamedSources ids sources → EachId ids (mergeInverses today into earlier sources)
 unfolding mergeInverses inverseRecord
-inverses-own ids into earlier no-source = done
-inverses-own ids into earlier (source {s = s} h k) = row h (inverses-own ids into (s .pair .major ∷ earlier) k)
+inverses-own today ids into earlier no-source = done
+inverses-own today ids into earlier (source {s = s} h k) = row h (inverses-own today ids into (s .pair .major ∷ earlier) k)
 
 module _ (v : View) (true-to : TrueToKeys v) where
   named-sources : (ids : List ℤ) (ks : List Key) → ((id : ℤ) → isNamedIn id (map (λ (k : Key). k .major) ks) ≡ true → isNamedIn id ids ≡ true) →
@@ -161,9 +162,9 @@ module _ (v : View) (true-to : TrueToKeys v) where
       subst (λ (x : ℤ). isNamedIn x (id ∷ []) ≡ true) (sym (named-id id (v .recordAt id suffix) (true-to .record-id id suffix) f)) (named-here id [])
 
   -- A give-up's rows, completed or not.
-  module _ (ids : List ℤ) (r : Record) (n : isNamedIn (r .id) ids ≡ true) (next to : ℤ) (old new : Position) where
-    give-up-records : (complete : Bool) (step : Step) → EachId ids (cond complete (transferEffects giveUpKind takeUpKind r next to old new) (stepEffects step r) .changed
-        ++ cond complete (transferEffects giveUpKind takeUpKind r next to old new) (stepEffects step r) .added)
+  module _ (ids : List ℤ) (r : Record) (n : isNamedIn (r .id) ids ≡ true) (today next to : ℤ) (old new : Position) where
+    give-up-records : (complete : Bool) (step : Step) → EachId ids (cond complete (transferEffects giveUpKind takeUpKind today r next to old new) (stepEffects step r) .changed
+        ++ cond complete (transferEffects giveUpKind takeUpKind today r next to old new) (stepEffects step r) .added)
     unfolding recordAfter adjustedRecord inverseRecord adjustableRecord
     give-up-records true step = row n (row n (row n done))
     give-up-records false Open = row n done
@@ -174,14 +175,14 @@ module _ (v : View) (true-to : TrueToKeys v) where
     give-up-records false ApproveTaker = done
 
     give-up-positions : (complete : Bool) (step : Step) (ks : List Key) → isAmong (positionKey old) ks ≡ true → isAmong (positionKey new) ks ≡ true
-        → Each positionKey (λ (k : Key). isAmong k ks) (cond complete (transferEffects giveUpKind takeUpKind r next to old new) (stepEffects step r) .positions)
+        → Each positionKey (λ (k : Key). isAmong k ks) (cond complete (transferEffects giveUpKind takeUpKind today r next to old new) (stepEffects step r) .positions)
     unfolding moved
     give-up-positions true step ks h k = row h (row k done)
     give-up-positions false step ks h k = done
 
   -- Each kind's rows, where its own tests pass.
   own-rows : (r : Request) → firstRefusal (ownTests (planOf v r)) ≡ none → OwnRows r (effectsOf (planOf v r))
-  unfolding planOf idsOf positionsOf tradePlan separationPlan transferPlan mergePlan lineagePlan giveUpPlan giveUpEffects newRecord adjustedRecord inverseRecord adjustableRecord mergedRecord moved
+  unfolding planOf idsOf positionsOf tradePlan separationPlan transferPlan mergePlan lineagePlan dayPlan giveUpPlan giveUpEffects newRecord adjustedRecord inverseRecord adjustableRecord mergedRecord moved
   own-rows (trade id account series side quantity price) h = record {
     records = row (named-here id []) done;
     positions = row (among-seen account series (keyOf account series ∷ []) (among-here (keyOf account series) [])) done;
@@ -190,7 +191,7 @@ module _ (v : View) (true-to : TrueToKeys v) where
   own-rows (separate id suffix account series parts) h =
       let n : isNamedIn (theRecord (v .recordAt id suffix) .id) (id ∷ []) ≡ true = named-seen id suffix (test-passes 5 _ _ (rest-passes _ _ h)) in
       record {
-        records = row n (row n (parts-own (id ∷ []) (theRecord (v .recordAt id suffix)) (nextSuffix (v .greatestSuffix id) +ℤ pos 1) parts n));
+        records = row n (row n (parts-own (v .day) (id ∷ []) (theRecord (v .recordAt id suffix)) (nextSuffix (v .greatestSuffix id) +ℤ pos 1) parts n));
         positions = done;
         process = tt;
       }
@@ -214,11 +215,12 @@ module _ (v : View) (true-to : TrueToKeys v) where
       record {
         records =
             each-append recordKey p (changed-own ids n)
-            (each-append recordKey p (inverses-own ids id [] n) (row (named-here id (map (λ (k : Key). k .major) (pairsOf pairs))) done));
+            (each-append recordKey p (inverses-own (v .day) ids id [] n) (row (named-here id (map (λ (k : Key). k .major) (pairsOf pairs))) done));
         positions = row (among-seen account series (keyOf account series ∷ []) (among-here (keyOf account series) [])) done;
         process = tt;
       }
   own-rows (lineage id suffix) h = record { records = done; positions = done; process = tt }
+  own-rows (newDay day) h = record { records = done; positions = done; process = tt }
   own-rows (giveUp step process id suffix giving taking series) h =
       let ids : List ℤ = process ∷ id ∷ [] in
       let ks : List Key = keyOf giving series ∷ keyOf taking series ∷ [] in
@@ -232,8 +234,8 @@ module _ (v : View) (true-to : TrueToKeys v) where
       let own-process : before .process ≡ process =
       before-process step process id suffix giving taking series (v .transactionOf process) (v .processAt process id) (true-to .process-key process id) (test-passes 18 _ _ (rest-passes _ _ h)) in
       record {
-        records = give-up-records ids r n next taking old new (isComplete (stepped step before)) step;
-        positions = give-up-positions ids r n next taking old new (isComplete (stepped step before)) step ks
+        records = give-up-records ids r n (v .day) next taking old new (isComplete (stepped step before)) step;
+        positions = give-up-positions ids r n (v .day) next taking old new (isComplete (stepped step before)) step ks
             (among-seen giving series ks (among-here (keyOf giving series) (keyOf taking series ∷ [])))
             (among-seen taking series ks (among-later (keyOf taking series) (keyOf giving series) (keyOf taking series ∷ []) (among-here (keyOf taking series) [])));
         process = subst (λ (x : ℤ). isNamedIn x ids ≡ true) (sym (ap (λ (k : Key). k .major) (stepped-key step before) ∙ own-process)) (named-here process (id ∷ []));

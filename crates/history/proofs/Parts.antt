@@ -5,28 +5,30 @@ use native.Mathlib.Omega.{arith}
 use mathlib.Core.Path.{_≡_, refl, sym, _∙_, ap, subst}
 use mathlib.Core.Bool.{true, false, not, _&&_}
 use mathlib.Core.List.{List, [], _∷_}
-use mathlib.Core.Option.{Option, none, some}
+use mathlib.Core.Option.{Option, none}
 use lib.Dec.{eqb, leb}
-use lib.IntN.{ℤ, pos}
+use lib.IntN.{ℤ}
 use lib.ListN.{length, getD}
 use borrow.Author.Tests.{not-true, not-false}
 use Rattle.rules.specs.Keyed.{isSome}
-use Rattle.rules.specs.Refusal.{Test, firstRefusal}
-use Rattle.rules.specs.Request.{Request, trade}
+use Rattle.rules.specs.Refusal.{Test}
+use Rattle.rules.specs.Request.{Request}
 use Rattle.rules.specs.Trade.{tradePlan}
-use Rattle.rules.specs.Tables.{Tables, soundRecords, soundPositions}
+use Rattle.rules.specs.Tables.{Tables}
 use Rattle.rules.specs.Layout.{decode}
 use Rattle.rules.specs.Handle.{Answer, answer, handle, planOf}
 use Rattle.rules.specs.Sequence.{Done, Sequence, untilRefused}
 use Rattle.rules.specs.Batch.{tradeAt, tradeCount, tradesOf, batchFigures, batchTests, batchRefusal, excessesOf, batchReply, batchAnswer, handleBatch}
-use Rattle.rules.specs.Call.{Call, one, trades, replay, handleCall, requestsOf}
+use Rattle.rules.specs.Call.{Call, one, trades, replay, reportable, handleCall, requestsOf}
+use Rattle.rules.specs.Touching.{callTouchesAll}
 use Rattle.rules.specs.declared.Reply.{Reply}
 use Rattle.keys.proofs.Split.{clash, and-left, and-right, and-intro}
 use Rattle.keys.proofs.Counts.{isSome-absent}
 use Rattle.keys.proofs.Clauses.{isSome-none}
 use Rattle.history.specs.History.{isAccepted, callAccepted, Entry, entryOf, entriesTouch}
 use Rattle.history.proofs.Accepted.{BookedOn, booked-on-sound}
-use Rattle.history.proofs.Apart.{doneTouch, calls-apart}
+use Rattle.history.proofs.Apart.{doneTouch, neither-all, calls-apart}
+use Rattle.history.proofs.DayAlone.{list-stays}
 use Rattle.history.proofs.Replay.{AllApart, lists-exchanged}
 use Rattle.history.proofs.Refusals.{no-refusal, test-passes, rest-passes, passes-test}
 use Rattle.history.proofs.Sequences.{DoesOne, nextOne, DoneFrom, requestsDone, whole, done-from, whole-list, done-whole, done-exchanged, writes-nothing}
@@ -39,11 +41,13 @@ abbrev pub next : Tables → Entry → Tables
 next t e = handleCall t (e .call) .tables
 
 -- What the answer of a call that is accepted as a whole says of its requests' replies; no tables are named. No replay is: it stands as the requests that it booked.
+-- The reporting list is made of no request, and touches everything: what it answers is asked of no other order.
 abbrev Made : Call → Reply → List ℤ → List Done → Type 0
 Made (one r) reply output done = (done ≡ record { request = r; reply = reply } ∷ []) × (output ≡ [])
 Made (trades figures cells) reply output done =
     (batchFigures figures cells ≡ true) × (requestsDone done ≡ tradesOf figures) × (reply ≡ batchReply (length done) none) × (output ≡ excessesOf done)
 Made (replay text) reply output done = ⊥
+Made (reportable cells) reply output done = done ≡ []
 
 -- An entry, done from these tables to those by its requests.
 pub record InParts (t : Tables) (e : Entry) (end : Tables) : Type 0 where
@@ -93,6 +97,7 @@ call-parts t (trades figures cells) ok =
       );
     }
 call-parts t (replay text) ok = clash ok refl
+call-parts t (reportable cells) ok = record { done = []; from = sym (list-stays t cells); made = refl }
 
 pub in-parts : (t : Tables) (e : Entry) → Does t e → InParts t e (next t e)
 in-parts t e h = subst (λ (x : Entry). InParts t x (next t e)) (h .1) (call-parts t (e .call) (h .0))
@@ -102,6 +107,7 @@ unfolding requestsOf
 made-requests (one r) reply output done m = ap requestsDone (m .0)
 made-requests (trades figures cells) reply output done m = m .1
 made-requests (replay text) reply output done m = absurd m
+made-requests (reportable cells) reply output done m = ap requestsDone m
 
 -- ---- and the other way round
 
@@ -136,13 +142,13 @@ batch-on-sound t end figures cells done ok these from = go done these from
         trade-on-sound t figures
         (subst (λ (r : Request). isAccepted t r ≡ true) (ap (λ (l : List Request). getD l 0 (d .request)) (e ∙ first .1)) (f .0 .0))
 
-whole-call : (t end : Tables) (c : Call) (reply : Reply) (output : List ℤ) (done : List Done) → DoneFrom t done end → Made c reply output done →
+whole-call : (t end : Tables) (c : Call) → callTouchesAll c ≡ false → (reply : Reply) (output : List ℤ) (done : List Done) → DoneFrom t done end → Made c reply output done →
     (callAccepted t c ≡ true) × (entryOf t c ≡ record { call = c; reply = reply; output = output }) × (handleCall t c .tables ≡ end)
-unfolding callAccepted handleCall handleBatch answer batchAnswer
-whole-call t end (one r) reply output done from made =
+unfolding callAccepted handleCall handleBatch answer batchAnswer callTouchesAll
+whole-call t end (one r) n reply output done from made =
     let f : DoneFrom t (record { request = r; reply = reply } ∷ []) end = subst (λ (d : List Done). DoneFrom t d end) (made .0) from in
     (f .0 .0, λ i. record { call = one r; reply = f .0 .1 i; output = (writes-nothing t r ∙ sym (made .1)) i }, f .1)
-whole-call t end (trades figures cells) reply output done from made =
+whole-call t end (trades figures cells) n reply output done from made =
     let sound : BookedOn t none = batch-on-sound t end figures cells done (made .0) (made .1) from in
     let passes : batchRefusal t figures cells ≡ none = batch-passes t figures cells sound (made .0) in
     let all : untilRefused t (tradesOf figures) ≡ whole done end = ap (λ (l : List Request). untilRefused t l) (sym (made .1)) ∙ done-whole done t end from in
@@ -156,7 +162,8 @@ whole-call t end (trades figures cells) reply output done from made =
       },
       ap (λ (a : Answer). a .tables) is,
     )
-whole-call t end (replay text) reply output done from made = absurd made
+whole-call t end (replay text) n reply output done from made = absurd made
+whole-call t end (reportable cells) n reply output done from made = clash refl n
 
 -- ---- the exchange
 
@@ -164,13 +171,14 @@ pub entries-exchanged : (t : Tables) (x y : Entry) → entriesTouch y x ≡ fals
     (Does t y) × (Does (next t y) x) × (next (next t y) x ≡ next (next t x) y)
 unfolding entriesTouch
 entries-exchanged t x y free ok-x ok-y =
+    let neither : (callTouchesAll (y .call) ≡ false) × (callTouchesAll (x .call) ≡ false) = neither-all (y .call) (x .call) free in
     let px : InParts t x (next t x) = in-parts t x ok-x in
     let py : InParts (next t x) y (next (next t x) y) = in-parts (next t x) y ok-y in
     let apart : AllApart doneTouch (py .done) (px .done) =
     calls-apart (y .call) (x .call) (py .done) (px .done) (made-requests _ _ _ _ (py .made)) (made-requests _ _ _ _ (px .made)) free in
     let v : (between : Tables) × (DoneFrom t (py .done) between) × (DoneFrom between (px .done) (next (next t x) y)) =
     lists-exchanged DoesOne nextOne doneTouch done-exchanged (py .done) (px .done) t (next t x) (next (next t x) y) apart (px .from) (py .from) in
-    let wy : (callAccepted t (y .call) ≡ true) × (entryOf t (y .call) ≡ y) × (next t y ≡ v .0) = whole-call t (v .0) (y .call) (y .reply) (y .output) (py .done) (v .1) (py .made) in
+    let wy : (callAccepted t (y .call) ≡ true) × (entryOf t (y .call) ≡ y) × (next t y ≡ v .0) = whole-call t (v .0) (y .call) (neither .0) (y .reply) (y .output) (py .done) (v .1) (py .made) in
     let wx : (callAccepted (v .0) (x .call) ≡ true) × (entryOf (v .0) (x .call) ≡ x) × (next (v .0) x ≡ next (next t x) y) =
-    whole-call (v .0) (next (next t x) y) (x .call) (x .reply) (x .output) (px .done) (v .2) (px .made) in
+    whole-call (v .0) (next (next t x) y) (x .call) (neither .1) (x .reply) (x .output) (px .done) (v .2) (px .made) in
     ((wy .0, wy .1), subst (λ (u : Tables). Does u x) (sym (wy .2)) (wx .0, wx .1), ap (λ (u : Tables). next u x) (wy .2) ∙ wx .2)

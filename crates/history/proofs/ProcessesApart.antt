@@ -1,25 +1,24 @@
 -- Requests that are no steps of a give-up neither read nor change the process table (document 02, K3: "read by these steps only"): whatever its cells, the answer is the same and
 -- they stay. So the calls of those requests are not lent it; they promise the answer of `handle` beside a process table without rows, and `apart-promised` says that
 -- this is the answer beside any, and so the one that demand 3 speaks of. Assumes nothing.
-use mathlib.Core.Path.{_≡_, refl, sym, _∙_, ap, ap₂}
-use mathlib.Core.Bool.{true, false, not}
-use mathlib.Core.List.{List, [], _∷_, _++_, map}
+use mathlib.Core.Path.{_≡_, refl, sym, _∙_, ap}
+use mathlib.Core.Bool.{false}
+use mathlib.Core.List.{List}
 use mathlib.Core.Option.{Option, none, some}
 use lib.IntN.{ℤ}
-use Rattle.rules.specs.Keyed.{Key}
 use Rattle.rules.specs.Refusal.{Test, firstRefusal}
-use Rattle.rules.specs.Request.{Request, trade, separate, transfer, merge, lineage, giveUp, isStep}
-use Rattle.rules.specs.Books.{Books, View, viewOf}
-use Rattle.rules.specs.Plan.{Plan, booking, question, Effects, processRoomTest, bookingTests, planTests, planReply, booked}
+use Rattle.rules.specs.Request.{Request, trade, separate, transfer, merge, lineage, giveUp, newDay, isStep}
+use Rattle.rules.specs.Books.{View, viewOf}
+use Rattle.rules.specs.Plan.{Plan, booking, question, dayMove, Effects, processRoomTest, bookingTests, planTests, planReply, booked}
 use Rattle.rules.specs.Trade.{tradePlan}
 use Rattle.rules.specs.Separation.{separationPlan}
 use Rattle.rules.specs.Transfer.{transferPlan}
-use Rattle.rules.specs.Merge.{Source, mergePlan, sourcesOf, pairsOf}
+use Rattle.rules.specs.Merge.{Source, mergePlan, pairsOf}
 use Rattle.rules.specs.Lineage.{lineagePlan}
+use Rattle.rules.specs.Day.{dayPlan}
 use Rattle.rules.specs.Tables.{Tables, tablesOf, withProcesses, booksOf, writeBooks}
 use Rattle.rules.specs.Handle.{Answer, answer, answeredBy, handle, planOf, soundProcessesTest, soundnessTests, refusals, writtenBy, planTables, refusalOf}
 use Rattle.rules.specs.declared.ProcessRow.{ProcessRow}
-use Rattle.rules.specs.declared.Reply.{Reply}
 use Rattle.keys.proofs.Split.{clash}
 use Rattle.history.proofs.Locality.{same-sources}
 
@@ -31,15 +30,17 @@ withAnswer processes a = record { reply = a .reply; output = a .output; tables =
 abbrev NoProcess : Plan → Type 0
 NoProcess (booking tests e) = e .process ≡ none
 NoProcess (question tests reply) = Unit {0}
+NoProcess (dayMove tests day) = Unit {0}
 
 no-process : (v : View) (r : Request) → isStep r ≡ false → NoProcess (planOf v r)
-unfolding planOf tradePlan separationPlan transferPlan mergePlan lineagePlan isStep
+unfolding planOf tradePlan separationPlan transferPlan mergePlan lineagePlan dayPlan isStep
 no-process v (trade id account series side quantity price) h = refl
 no-process v (separate id suffix account series parts) h = refl
 no-process v (transfer id suffix from to series) h = refl
 no-process v (merge id account series pairs) h = refl
 no-process v (lineage id suffix) h = tt
 no-process v (giveUp step process id suffix giving taking series) h = clash refl h
+no-process v (newDay day) h = tt
 
 module _ (processes : List ℤ) (t : Tables) where
   abbrev other : Tables
@@ -52,10 +53,11 @@ module _ (processes : List ℤ) (t : Tables) where
   plan-apart (separate id suffix account series parts) h = refl
   plan-apart (transfer id suffix from to series) h = refl
   plan-apart (merge id account series pairs) h =
-      ap (λ (s : List Source). mergePlan id account series pairs (viewOf (booksOf t) .greatestSuffix id) s (viewOf (booksOf t) .positionAt account series))
+      ap (λ (s : List Source). mergePlan (booksOf t .day) id account series pairs (viewOf (booksOf t) .greatestSuffix id) s (viewOf (booksOf t) .positionAt account series))
       (same-sources (viewOf (booksOf other)) (viewOf (booksOf t)) (pairsOf pairs) (record { record-at = λ id n suffix. refl; greatest-at = λ id n. refl }))
   plan-apart (lineage id suffix) h = refl
   plan-apart (giveUp step process id suffix giving taking series) h = clash refl h
+  plan-apart (newDay day) h = refl
 
   -- Neither 19 nor 23 is among its tests.
   nineteen-apart : (o : Option ProcessRow) → o ≡ none → soundProcessesTest other o ≡ soundProcessesTest t o
@@ -70,6 +72,7 @@ module _ (processes : List ℤ) (t : Tables) where
   unfolding refusals soundnessTests planTests bookingTests booksOf
   tests-apart (booking tests e) h = rw (nineteen-apart (e .process) h, room-apart (e .process) h)
   tests-apart (question tests reply) h = refl
+  tests-apart (dayMove tests day) h = refl
 
   -- What it writes leaves the process table.
   written-apart : (e : Effects) (o : Option ProcessRow) → o ≡ none → writtenBy o other (booked e (booksOf other)) ≡ withProcesses processes (writtenBy o t (booked e (booksOf t)))
@@ -81,6 +84,7 @@ module _ (processes : List ℤ) (t : Tables) where
   unfolding planTables
   tables-apart (booking tests e) h = written-apart e (e .process) h
   tables-apart (question tests reply) h = refl
+  tables-apart (dayMove tests day) h = refl
 
   answer-apart : (o : Option Test) (a b : Answer) → a ≡ withAnswer processes b → answer o other a ≡ withAnswer processes (answer o t b)
   unfolding answer

@@ -14,14 +14,15 @@ use Rattle.rules.specs.Keyed.{Key, same, isSome, find, upsert, upsertAll}
 use Rattle.rules.specs.NamedRecord.{isNotAdjustable}
 use Rattle.rules.specs.Rows.{keyOf, recordKey, adjustedRecord, newRecord, inverseRecord, adjustableRecord}
 use Rattle.rules.specs.Refusal.{anyOf}
-use Rattle.rules.specs.Request.{Request, trade, separate, transfer, merge, lineage, giveUp, isStep}
+use Rattle.rules.specs.Request.{Request, trade, separate, transfer, merge, lineage, giveUp, newDay, isStep}
 use Rattle.rules.specs.Books.{Books, viewOf}
-use Rattle.rules.specs.Plan.{Plan, booking, question, booked, planBooks}
+use Rattle.rules.specs.Plan.{Plan, booking, question, dayMove, booked, planBooks}
 use Rattle.rules.specs.Trade.{tradePlan}
 use Rattle.rules.specs.Separation.{partRecords, separationPlan}
 use Rattle.rules.specs.Transfer.{transferEffects, transferPlan}
 use Rattle.rules.specs.Merge.{Source, pairsOf, sourcesOf, recordsOf, mergeInverses, mergedRecord, mergePlan}
 use Rattle.rules.specs.Lineage.{lineagePlan}
+use Rattle.rules.specs.Day.{dayPlan}
 use Rattle.rules.specs.Handle.{planOf}
 use Rattle.rules.specs.declared.Record.{Record}
 use Rattle.rules.specs.declared.Position.{Position}
@@ -111,42 +112,42 @@ absent-none-under t rs h =
 
 -- ---- the rows of the rules: status 0, 1 or 2
 
-new-not-under : (id kind account series side quantity price long short : ℤ) → isUnder (newRecord id kind account series side quantity price long short) ≡ false
+new-not-under : (today id kind account series side quantity price long short : ℤ) → isUnder (newRecord today id kind account series side quantity price long short) ≡ false
 unfolding newRecord eqZ
-new-not-under id kind account series side quantity price long short = refl
+new-not-under today id kind account series side quantity price long short = refl
 
 pub adjusted-not-under : (r : Record) → isUnder (adjustedRecord r) ≡ false
 unfolding adjustedRecord eqZ
 adjusted-not-under r = refl
 
-inverse-not-under : (r : Record) (suffix kind long short into : ℤ) → isUnder (inverseRecord r suffix kind long short into) ≡ false
+inverse-not-under : (today : ℤ) (r : Record) (suffix kind long short into : ℤ) → isUnder (inverseRecord today r suffix kind long short into) ≡ false
 unfolding inverseRecord eqZ
-inverse-not-under r suffix kind long short into = refl
+inverse-not-under today r suffix kind long short into = refl
 
-adjustable-not-under : (r : Record) (suffix kind account quantity long short : ℤ) → isUnder (adjustableRecord r suffix kind account quantity long short) ≡ false
+adjustable-not-under : (today : ℤ) (r : Record) (suffix kind account quantity long short : ℤ) → isUnder (adjustableRecord today r suffix kind account quantity long short) ≡ false
 unfolding adjustableRecord eqZ
-adjustable-not-under r suffix kind account quantity long short = refl
+adjustable-not-under today r suffix kind account quantity long short = refl
 
-pub transfer-none-under : (inverseKind newKind : ℤ) (r : Record) (next to : ℤ) (old new : Position) → NoneUnder (transferEffects inverseKind newKind r next to old new .added)
-transfer-none-under inverseKind newKind r next to old new = (inverse-not-under r _ _ _ _ _, (adjustable-not-under r _ _ _ _ _ _, tt))
+pub transfer-none-under : (inverseKind newKind today : ℤ) (r : Record) (next to : ℤ) (old new : Position) → NoneUnder (transferEffects inverseKind newKind today r next to old new .added)
+transfer-none-under inverseKind newKind today r next to old new = (inverse-not-under today r _ _ _ _ _, (adjustable-not-under today r _ _ _ _ _ _, tt))
 
-parts-none-under : (r : Record) (suffix : ℤ) (parts : List ℤ) → NoneUnder (partRecords r suffix parts)
+parts-none-under : (today : ℤ) (r : Record) (suffix : ℤ) (parts : List ℤ) → NoneUnder (partRecords today r suffix parts)
 unfolding partRecords
-parts-none-under r suffix [] = tt
-parts-none-under r suffix (q ∷ rest) = (adjustable-not-under r _ _ _ _ _ _, parts-none-under r (suffix +ℤ pos 1) rest)
+parts-none-under today r suffix [] = tt
+parts-none-under today r suffix (q ∷ rest) = (adjustable-not-under today r _ _ _ _ _ _, parts-none-under today r (suffix +ℤ pos 1) rest)
 
 adjusted-none-under : (rs : List Record) → NoneUnder (map adjustedRecord rs)
 adjusted-none-under [] = tt
 adjusted-none-under (r ∷ rest) = (adjusted-not-under r, adjusted-none-under rest)
 
-inverses-none-under : (into : ℤ) (earlier : List ℤ) (sources : List Source) → NoneUnder (mergeInverses into earlier sources)
+inverses-none-under : (today into : ℤ) (earlier : List ℤ) (sources : List Source) → NoneUnder (mergeInverses today into earlier sources)
 unfolding mergeInverses
-inverses-none-under into earlier [] = tt
-inverses-none-under into earlier (s ∷ rest) = (inverse-not-under _ _ _ _ _ _, inverses-none-under into (s .pair .major ∷ earlier) rest)
+inverses-none-under today into earlier [] = tt
+inverses-none-under today into earlier (s ∷ rest) = (inverse-not-under today _ _ _ _ _ _, inverses-none-under today into (s .pair .major ∷ earlier) rest)
 
-merged-not-under : (id : ℤ) (sources : List Record) → isUnder (mergedRecord id sources) ≡ false
+merged-not-under : (today id : ℤ) (sources : List Record) → isUnder (mergedRecord today id sources) ≡ false
 unfolding mergedRecord
-merged-not-under id sources = new-not-under id _ _ _ _ _ _ _ _
+merged-not-under today id sources = new-not-under today id _ _ _ _ _ _ _ _
 
 -- ---- the records that a request adjusts: past test 7 their status is 0
 
@@ -177,17 +178,18 @@ sources-at b (k ∷ ks) n h =
 abbrev LeavesUnder : Books → Plan → Type 0
 LeavesUnder b (booking tests e) = (NoneUnder (e .changed)) × (NoneUnderAt (b .records) (e .changed)) × (NoneUnder (e .added))
 LeavesUnder b (question tests reply) = Unit {0}
+LeavesUnder b (dayMove tests day) = Unit {0}
 
 leaves-under : (b : Books) → SoundBooks b → (r : Request) → isStep r ≡ false → Accepts b r → LeavesUnder b (planOn b r)
-unfolding planOf tradePlan separationPlan transferPlan mergePlan lineagePlan viewOf isStep
-leaves-under b sound (trade id account series side quantity price) no-step a = (tt, allOf-nil, (new-not-under id _ _ _ _ _ _ _ _, tt))
+unfolding planOf tradePlan separationPlan transferPlan mergePlan lineagePlan dayPlan viewOf isStep
+leaves-under b sound (trade id account series side quantity price) no-step a = (tt, allOf-nil, (new-not-under (b .day) id _ _ _ _ _ _ _ _, tt))
 leaves-under b sound (separate id suffix account series parts) no-step a =
     let t : List Record = b .records in
     let k : Key = keyOf id suffix in
     let p : SeparationPassed t id suffix parts = separation-passed b id suffix account series parts a in (
       (adjusted-not-under (recordOf t k), tt),
       adjusted-at t k (named t k (sound .records-sound) (p .record-found) (p .record-adjustable)) (p .record-adjustable) [] allOf-nil,
-      (inverse-not-under (recordOf t k) _ _ _ _ _, parts-none-under (recordOf t k) _ parts),
+      (inverse-not-under (b .day) (recordOf t k) _ _ _ _ _, parts-none-under (b .day) (recordOf t k) _ parts),
     )
 leaves-under b sound (transfer id suffix from to series) no-step a =
     let t : List Record = b .records in
@@ -195,7 +197,7 @@ leaves-under b sound (transfer id suffix from to series) no-step a =
     let p : TransferPassed t id suffix from to = transfer-passed b id suffix from to series a in (
       (adjusted-not-under (recordOf t k), tt),
       adjusted-at t k (named t k (sound .records-sound) (p .record-found) (p .record-adjustable)) (p .record-adjustable) [] allOf-nil,
-      transfer-none-under _ _ (recordOf t k) _ _ (readAt from series (b .positions)) (readAt to series (b .positions)),
+      transfer-none-under _ _ (b .day) (recordOf t k) _ _ (readAt from series (b .positions)) (readAt to series (b .positions)),
     )
 leaves-under b sound (merge id account series pairs) no-step a =
     let ks : List Key = pairsOf pairs in
@@ -203,10 +205,11 @@ leaves-under b sound (merge id account series pairs) no-step a =
     let n : AllNamed (b .records) ks = all-named b ks (sound .records-sound) (p .sources-found) (p .sources-adjustable) in (
       adjusted-none-under (recordsAt b ks),
       sources-at b ks n (p .sources-adjustable),
-      none-under-append (mergeInverses id [] (sourcesOf (viewOf b) ks)) (mergedRecord id (recordsAt b ks) ∷ [])
-          (inverses-none-under id [] (sourcesOf (viewOf b) ks)) (merged-not-under id (recordsAt b ks), tt),
+      none-under-append (mergeInverses (b .day) id [] (sourcesOf (viewOf b) ks)) (mergedRecord (b .day) id (recordsAt b ks) ∷ [])
+          (inverses-none-under (b .day) id [] (sourcesOf (viewOf b) ks)) (merged-not-under (b .day) id (recordsAt b ks), tt),
     )
 leaves-under b sound (lineage id suffix) no-step a = tt
+leaves-under b sound (newDay day) no-step a = tt
 leaves-under b sound (giveUp step process id suffix giving taking series) no-step a = clash refl no-step
 
 pub under-stays : (b : Books) → SoundBooks b → (r : Request) → isStep r ≡ false → Accepts b r → (k : Key) → underAt k (after b r .records) ≡ underAt k (b .records)
@@ -218,3 +221,4 @@ under-stays b sound r no-step a k = go (planOn b r) (plan-facts b sound r a) (le
         puts-leave (e .changed ++ e .added) (b .records) (none-under-append (e .changed) (e .added) (s .0) (s .2))
         (only-append recordKey (λ (j : Key). not (underAt j (b .records))) (e .changed) (e .added) (s .1) (absent-none-under (b .records) (e .added) (f .added-absent))) k
     go (question tests reply) f s = refl
+    go (dayMove tests day) f s = refl

@@ -6,6 +6,7 @@ use mathlib.Core.Bool.{not}
 use mathlib.Core.List.{[], _∷_, map}
 use mathlib.Core.Option.{Option, none, some}
 use lib.Dec.{ltb}
+use lib.IntN.{pos}
 use lib.ListN.{length}
 use native.Mathlib.Omega.{arith}
 use borrow.Author.Tests.{le-ltb}
@@ -14,8 +15,10 @@ use Rattle.rules.specs.Rows.{positionKey, soundPosition}
 use Rattle.rules.specs.ProcessRows.{processKey}
 use Rattle.rules.specs.Refusal.{anyOf, allOf, firstRefusal}
 use Rattle.rules.specs.Books.{Books}
-use Rattle.rules.specs.Plan.{Plan, booking, question, Effects, suffixIsAbove, processRoomTest, bookingTests, planTests}
+use Rattle.rules.specs.Plan.{Plan, booking, question, dayMove, Effects, suffixIsAbove, processRoomTest, bookingTests, planTests}
 use Rattle.rules.specs.declared.ProcessRow.{ProcessRow}
+use Rattle.rules.specs.declared.Reply.{Reply}
+use Rattle.rules.specs.declared.Reply.the-variants.{Booked}
 use Rattle.soundness.specs.SoundBooks.{SoundBooks}
 use Rattle.keys.proofs.Clauses.{absentFrom-nil}
 use Rattle.soundness.proofs.Accepted.{BookingPassed, booking-passed}
@@ -35,16 +38,22 @@ pub own-pass : (b : Books) (p : Plan) → firstRefusal (planTests b p) ≡ none 
 unfolding planTests
 own-pass b (booking tests e) h = left-passes tests (bookingTests b e) h
 own-pass b (question tests reply) h = h
+own-pass b (dayMove tests day) h = h
+
+-- A plan that adds no row has room.
+none-needed : (b : Books) → SoundBooks b → (reply : Reply) → Room b (record { changed = []; added = []; positions = []; process = none; reply = reply })
+none-needed b sound reply = record {
+  records = omega (arith, sound .records-fit);
+  positions = omega (arith, sound .positions-fit, absentFrom-nil positionKey (b .positions));
+  processes = omega (arith, sound .processes-fit);
+}
 
 pub has-room : (b : Books) → SoundBooks b → (p : Plan) → firstRefusal (planTests b p) ≡ none → Room b (effectsOf p)
 has-room b sound (booking tests e) h =
     let w : BookingPassed b e = booking-passed b tests e h in
     record { records = w .records-room; positions = w .positions-room; processes = process-fits b sound (e .process) (w .process-room) }
-has-room b sound (question tests reply) h = record {
-  records = omega (arith, sound .records-fit);
-  positions = omega (arith, sound .positions-fit, absentFrom-nil positionKey (b .positions));
-  processes = omega (arith, sound .processes-fit);
-}
+has-room b sound (question tests reply) h = none-needed b sound reply
+has-room b sound (dayMove tests day) h = none-needed b sound (Booked (pos 0) (pos 0))
 
 -- Test 23 passes where there is room.
 process-passes : (c : Books) (o : Option ProcessRow) → length (c .processes) + absentProcess (c .processes) o ≤ c .processesRoom → firstRefusal (processRoomTest c o) ≡ none
@@ -62,3 +71,4 @@ accepted-with-room b c (booking tests e) h room =
     (passes-test 15 (ltb (c .positionsRoom) (length (c .positions) + absentFrom positionKey (c .positions) (e .positions))) _ (le-ltb _ _ (room .positions))
     (passes-test 16 (not (allOf (map soundPosition (e .positions)))) _ (ap not (w .positions-sound)) (process-passes c (e .process) (room .processes))))))
 accepted-with-room b c (question tests reply) h room = h
+accepted-with-room b c (dayMove tests day) h room = h

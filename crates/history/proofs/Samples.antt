@@ -1,5 +1,5 @@
--- The theorem is not hollow: a history of every kind, of batches and of replays, with refused requests, a batch that stops and lines that are refused or bad among them, has the accepted entries stated, another order of them is a reordering, and it goes through with
--- the same answers to the same cells. And a pair that touches does not: exchanged, it answers otherwise. By computation. Assumes nothing.
+-- The theorem is not hollow: a history of three days, of every kind, of batches, replays and reporting lists, with refused requests, a batch that stops and lines that are refused or bad among them, has
+-- the accepted entries stated, another order of them is a reordering, and it goes through with the same answers to the same cells. And a pair that touches does not: exchanged, it answers otherwise. By computation. Assumes nothing.
 use mathlib.Core.Path.{_≡_, refl, sym, subst}
 use mathlib.Core.Bool.{true}
 use mathlib.Core.List.{List, [], _∷_}
@@ -47,8 +47,8 @@ sample-cells-again = refl
 pub sample-by-demand-3 : (acceptedEntries start (callsOf another) ≡ another) × (run start (callsOf another) .tables ≡ run start history .tables)
 sample-by-demand-3 = demand-3 start history another (subst (λ (l : List Entry). Reordering entriesTouch l another) (sym sample-accepted) sample-order)
 
--- The third line is refused 4; in the other text the second is bad.
-pub replays-named : run start (upToRefused ∷ upToBad ∷ []) .replies ≡ LineRefused (pos 3) (pos 4) (pos 0) ∷ BadLine (pos 2) ∷ []
+-- The fourth line is refused 4; in the other text the second is bad.
+pub replays-named : run start (upToRefused ∷ upToBad ∷ []) .replies ≡ LineRefused (pos 4) (pos 4) (pos 0) ∷ BadLine (pos 2) ∷ []
 unfolding ComputedHistory
 replays-named = refl
 

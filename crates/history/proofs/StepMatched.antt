@@ -292,7 +292,7 @@ module _ (b : Books) (sound : SoundBooks b) (step : Step) (process id suffix giv
 
   -- The records: the named one is under give-up where the process is open afterwards.
   abbrev completing : Effects
-  completing = transferEffects giveUpKind takeUpKind r (nextOf t id) taking (readAt giving series (b .positions)) (readAt taking series (b .positions))
+  completing = transferEffects giveUpKind takeUpKind (b .day) r (nextOf t id) taking (readAt giving series (b .positions)) (readAt taking series (b .positions))
 
   abbrev effects : Bool → Effects
   effects c = cond c completing (stepEffects step r)
@@ -301,7 +301,7 @@ module _ (b : Books) (sound : SoundBooks b) (step : Step) (process id suffix giv
       underAt k (upsertAll recordKey (effects c .changed ++ effects c .added) t) ≡ cond (same j k) (isOpen (withStage (cond c done (next .stage)) next)) (underAt k t)
   records-under true h k =
       ap (underAt k) (upsertAll-cons recordKey (adjustedRecord r) (completing .added) t)
-      ∙ puts-leave (completing .added) (upsert recordKey (adjustedRecord r) t) (transfer-none-under giveUpKind takeUpKind r (nextOf t id) taking (readAt giving series (b .positions)) (readAt taking series (b .positions)))
+      ∙ puts-leave (completing .added) (upsert recordKey (adjustedRecord r) t) (transfer-none-under giveUpKind takeUpKind (b .day) r (nextOf t id) taking (readAt giving series (b .positions)) (readAt taking series (b .positions)))
       (absent-still-free t (adjustedRecord r) (adjusted-not-under r) (completing .added) h) k
       ∙ named-put t j (adjustedRecord r) false (adjusted-key r ∙ named-record .key) (adjusted-not-under r) k
       ∙ ap (λ (x : Bool). cond (same j k) x (underAt k t)) (sym (done-not-open next))

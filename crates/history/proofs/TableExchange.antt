@@ -1,6 +1,6 @@
 -- The exchange, on the tables, sound or not: of two neighbouring accepted requests that don't touch, each is accepted with the same answer in the other order, and every cell
 -- is the same at the end. On sound tables by the exchange on rows, what is written twice being what is written last; where records or positions are not sound both requests are
--- questions; where the processes are not sound neither is a step of a give-up, and what others do is the same beside any process table. Assumes nothing.
+-- questions (a new day, which is accepted there too, touches everything); where the processes are not sound neither is a step of a give-up, and what others do is the same beside any process table. Assumes nothing.
 use mathlib.Core.Path.{_≡_, refl, sym, _∙_, ap, subst}
 use mathlib.Core.Bool.{true, false, not}
 use mathlib.Core.List.{List}
@@ -9,12 +9,12 @@ use lib.IntN.{ℤ}
 use mathlib.Core.Logic.{_⊎_, inl, inr}
 use Rattle.rules.specs.Keyed.{isSome}
 use Rattle.rules.specs.Refusal.{Test}
-use Rattle.rules.specs.Request.{Request, trade, separate, transfer, merge, lineage, giveUp, isStep}
-use Rattle.rules.specs.Books.{Books}
+use Rattle.rules.specs.Request.{Request, trade, separate, transfer, merge, lineage, giveUp, newDay, isStep}
+use Rattle.rules.specs.Books.{Books, viewOf}
 use Rattle.rules.specs.Plan.{planReply}
 use Rattle.rules.specs.Tables.{Tables, tablesOf, noProcesses, withProcesses, soundProcesses, booksOf, writeBooks}
 use Rattle.rules.specs.GiveUp.{giveUpEffects, giveUpPlan}
-use Rattle.rules.specs.Touching.{touch}
+use Rattle.rules.specs.Touching.{touchesAll, touch}
 use Rattle.rules.specs.Handle.{Answer, handle, planOf}
 use Rattle.rules.proofs.Computed.{Computed}
 use Rattle.soundness.specs.SoundBooks.{planOn, Accepts, after}
@@ -25,6 +25,8 @@ use Rattle.cells.proofs.BookCells.{write-books-twice}
 use Rattle.history.specs.History.{isAccepted}
 use Rattle.history.proofs.Accepted.{accepted-reply, accepted-rows, rows-accepted, booked-on-sound, sound-or-same}
 use Rattle.history.proofs.ProcessesApart.{refusal-apart, processes-apart, processes-stay}
+use Rattle.history.proofs.Named.{Apart, untouched-apart}
+use Rattle.history.proofs.Effects.{leaves-day}
 use Rattle.history.proofs.Exchange.{Exchanged, exchange}
 use Rattle.history.proofs.Step.{sound-books, Later, later, step-tables, step-books, step-sound}
 
@@ -37,20 +39,21 @@ pub record TablesExchanged (t : Tables) (x y : Request) : Type 0 where
   pub same-tables : handle (handle t y .tables) x .tables ≡ handle (handle t x .tables) y .tables
 
 -- Two requests, one after the other, write what the second leaves.
-two-steps : (t : Tables) (sound : SoundTables t) (x y : Request) → isAccepted t x ≡ true → isAccepted (handle t x .tables) y ≡ true →
+two-steps : (t : Tables) (sound : SoundTables t) (x y : Request) → touchesAll x ≡ false → touchesAll y ≡ false → isAccepted t x ≡ true → isAccepted (handle t x .tables) y ≡ true →
     handle (handle t x .tables) y .tables ≡ writeBooks t (after (after (booksOf t) x) y)
-two-steps t sound x y ok-x ok-y =
+two-steps t sound x y x-not-all y-not-all ok-x ok-y =
     let b : Books = booksOf t in
     let grown : Later (after b x) (after (after b x) y) = later (after b x) (planOn (after b x) y) in
-    step-tables (handle t x .tables) (step-sound t sound x ok-x) y ok-y
+    step-tables (handle t x .tables) (step-sound t sound x ok-x) y ok-y (leaves-day (viewOf (booksOf (handle t x .tables))) y y-not-all)
     ∙ ap (λ (c : Books). writeBooks (handle t x .tables) (after c y)) (step-books t sound x ok-x)
-    ∙ ap (λ (u : Tables). writeBooks u (after (after b x) y)) (step-tables t sound x ok-x)
+    ∙ ap (λ (u : Tables). writeBooks u (after (after b x) y)) (step-tables t sound x ok-x (leaves-day (viewOf b) x x-not-all))
     ∙ write-books-twice t (after b x) (after (after b x) y) (sound-headers t (sound .records) (sound .positions) (sound .processes))
     (grown .more-records) (grown .more-positions) (grown .more-processes)
 
 on-sound : (t : Tables) → SoundTables t → (x y : Request) → touch y x ≡ false → isAccepted t x ≡ true → isAccepted (handle t x .tables) y ≡ true → TablesExchanged t x y
 on-sound t sound x y free ok-x ok-y =
     let b : Books = booksOf t in
+    let apart : Apart y x = untouched-apart y x free in
     let books-x : booksOf (handle t x .tables) ≡ after b x = step-books t sound x ok-x in
     let swapped : Exchanged b x y =
     exchange b (sound-books t sound) x y free (accepted-rows t x ok-x)
@@ -69,7 +72,7 @@ on-sound t sound x y free ok-x ok-y =
           accepted-reply (handle t y .tables) x later-x ∙ ap (λ (c : Books). planReply (planOn c x)) books-y ∙ ap planReply (swapped .plan-of-first)
           ∙ sym (accepted-reply t x ok-x);
       same-tables =
-          two-steps t sound y x first-y later-x ∙ ap (λ (c : Books). writeBooks t c) (swapped .same-end) ∙ sym (two-steps t sound x y ok-x ok-y);
+          two-steps t sound y x (apart .first-not-all) (apart .second-not-all) first-y later-x ∙ ap (λ (c : Books). writeBooks t c) (swapped .same-end) ∙ sym (two-steps t sound x y (apart .second-not-all) (apart .first-not-all) ok-x ok-y);
     }
 
 -- Two requests that leave the tables as they are.
@@ -85,7 +88,7 @@ both-same t x y ok-x ok-y same-x same-y = record {
 
 -- Beside sound processes.
 beside-sound : (t : Tables) → soundProcesses (t .processes) ≡ true → (x y : Request) → touch y x ≡ false → isAccepted t x ≡ true → isAccepted (handle t x .tables) y ≡ true → TablesExchanged t x y
-beside-sound t processes x y free ok-x ok-y = go (sound-or-same t x processes ok-x)
+beside-sound t processes x y free ok-x ok-y = go (sound-or-same t x processes (leaves-day (viewOf (booksOf t)) x (untouched-apart y x free .second-not-all)) ok-x)
   where
     rest : (at-once : isAccepted t y ≡ true) → handle t x .tables ≡ t → (SoundTables t) ⊎ (handle t y .tables ≡ t) → TablesExchanged t x y
     rest at-once same-x (inl sound) = on-sound t sound x y free ok-x ok-y
@@ -95,7 +98,7 @@ beside-sound t processes x y free ok-x ok-y = go (sound-or-same t x processes ok
     go (inl sound) = on-sound t sound x y free ok-x ok-y
     go (inr same-x) =
         let at-once : isAccepted t y ≡ true = subst (λ (u : Tables). isAccepted u y ≡ true) same-x ok-y in
-        rest at-once same-x (sound-or-same t y processes at-once)
+        rest at-once same-x (sound-or-same t y processes (leaves-day (viewOf (booksOf t)) y (untouched-apart y x free .first-not-all)) at-once)
 
 -- Requests that are no steps, on tables with another process table.
 module _ (processes : List ℤ) where
@@ -137,6 +140,7 @@ no-step t (separate id suffix account series parts) ok h = refl
 no-step t (transfer id suffix from to series) ok h = refl
 no-step t (merge id account series pairs) ok h = refl
 no-step t (lineage id suffix) ok h = refl
+no-step t (newDay day) ok h = refl
 no-step t (giveUp step process id suffix giving taking series) ok h =
     clash (booked-on-sound t (giveUp step process id suffix giving taking series) _ _ refl ok .processes) h
 

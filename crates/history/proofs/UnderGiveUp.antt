@@ -16,8 +16,9 @@ use Rattle.rules.specs.Figures.{underGiveUp}
 use Rattle.rules.specs.Keyed.{Key, find}
 use Rattle.rules.specs.Rows.{keyOf, recordKey}
 use Rattle.rules.specs.Refusal.{Test}
-use Rattle.rules.specs.Request.{Request, trade, separate, transfer, merge, lineage, giveUp, isStep}
-use Rattle.rules.specs.Books.{Books}
+use Rattle.rules.specs.Request.{Request, trade, separate, transfer, merge, lineage, giveUp, newDay, isStep}
+use Rattle.rules.specs.Books.{Books, viewOf}
+use Rattle.rules.specs.Touching.{touchesAll}
 use Rattle.rules.specs.GiveUp.{giveUpEffects, giveUpPlan}
 use Rattle.rules.specs.Layout.{countOf}
 use Rattle.rules.specs.Tables.{Tables, tablesOf, soundProcesses, recordsLayout, processesLayout, booksOf}
@@ -26,7 +27,7 @@ use Rattle.rules.specs.Sequence.{Done, Sequence, untilRefused}
 use Rattle.rules.specs.Batch.{tradesOf, batchRefusal, batchAnswer, handleBatch}
 use Rattle.rules.specs.Reader.{readingOf}
 use Rattle.rules.specs.Replay.{replayAnswer, handleReplay}
-use Rattle.rules.specs.Call.{Call, one, trades, replay, handleCall}
+use Rattle.rules.specs.Call.{Call, one, trades, replay, reportable, handleCall}
 use Rattle.rules.specs.Run.{afterReply, run}
 use Rattle.rules.specs.declared.Record.{Record}
 use Rattle.rules.specs.declared.ProcessRow.{ProcessRow}
@@ -37,6 +38,8 @@ use Rattle.soundness.specs.SoundTables.{SoundTables}
 use Rattle.history.specs.History.{isAccepted}
 use Rattle.history.specs.UnderGiveUp.{isOpenFor, openFor, isUnderGiveUp, Matched, JustOne}
 use Rattle.history.proofs.Accepted.{refused-tables, accepted-rows, all-sound, booked-on-sound, sound-or-same}
+use Rattle.history.proofs.Effects.{leaves-day}
+use Rattle.history.proofs.DayAlone.{day-books, list-stays}
 use Rattle.history.proofs.Step.{sound-books, step-books}
 use Rattle.history.proofs.ProcessesApart.{apart-promised}
 use Rattle.history.proofs.TableExchange.{accepts-as, no-processes-sound}
@@ -49,25 +52,25 @@ use Rattle.history.proofs.StepMatched.{step-matched}
 -- ---- one request
 
 -- One that is no step, beside sound processes: no record comes under give-up, and none ceases to be.
-under-same : (t : Tables) → soundProcesses (t .processes) ≡ true → (r : Request) → isStep r ≡ false → isAccepted t r ≡ true → (k : Key) →
+under-same : (t : Tables) → soundProcesses (t .processes) ≡ true → (r : Request) → isStep r ≡ false → touchesAll r ≡ false → isAccepted t r ≡ true → (k : Key) →
     underAt k (booksOf (handle t r .tables) .records) ≡ underAt k (booksOf t .records)
-under-same t h r no-step ok k = go (sound-or-same t r h ok)
+under-same t h r no-step not-all ok k = go (sound-or-same t r h (leaves-day (viewOf (booksOf t)) r not-all) ok)
   where
     go : (SoundTables t) ⊎ (handle t r .tables ≡ t) → underAt k (booksOf (handle t r .tables) .records) ≡ underAt k (booksOf t .records)
     go (inl sound) = ap (λ (b : Books). underAt k (b .records)) (step-books t sound r ok) ∙ under-stays (booksOf t) (sound-books t sound) r no-step (accepted-rows t r ok) k
     go (inr same) = ap (λ (u : Tables). underAt k (booksOf u .records)) same
 
 -- Beside any: its answer is that beside no rows, and every process stays.
-other-matched : (t : Tables) (r : Request) → isStep r ≡ false → isAccepted t r ≡ true → Matched (booksOf t) → Matched (booksOf (handle t r .tables))
+other-matched : (t : Tables) (r : Request) → isStep r ≡ false → touchesAll r ≡ false → isAccepted t r ≡ true → Matched (booksOf t) → Matched (booksOf (handle t r .tables))
 unfolding booksOf
-other-matched t r no-step ok m =
+other-matched t r no-step not-all ok m =
     let two : Tables = tablesOf (t .records) (t .positions) in
     subst (λ (a : Answer). Matched (booksOf (a .tables))) (sym (apart-promised t r no-step))
     (record {
       at = λ id suffix.
           m .at id suffix
           ∙ ap (λ (u : Bool). cond u 1 0)
-          (sym (under-same two no-processes-sound r no-step (sym (accepts-as (t .processes) two r no-step) ∙ ok) (keyOf id suffix)));
+          (sym (under-same two no-processes-sound r no-step not-all (sym (accepts-as (t .processes) two r no-step) ∙ ok) (keyOf id suffix)));
     })
 
 give-up-matched : (t : Tables) (step : Step) (process id suffix giving taking series : ℤ) → isAccepted t (giveUp step process id suffix giving taking series) ≡ true →
@@ -79,13 +82,14 @@ give-up-matched t step process id suffix giving taking series ok m =
     subst Matched (sym (step-books t sound r ok)) (step-matched (booksOf t) (sound-books t sound) step process id suffix giving taking series (accepted-rows t r ok) m)
 
 accepted-matched : (t : Tables) (r : Request) → isAccepted t r ≡ true → Matched (booksOf t) → Matched (booksOf (handle t r .tables))
-unfolding isStep
-accepted-matched t (trade id account series side quantity price) ok m = other-matched t (trade id account series side quantity price) refl ok m
-accepted-matched t (separate id suffix account series parts) ok m = other-matched t (separate id suffix account series parts) refl ok m
-accepted-matched t (transfer id suffix from to series) ok m = other-matched t (transfer id suffix from to series) refl ok m
-accepted-matched t (merge id account series pairs) ok m = other-matched t (merge id account series pairs) refl ok m
-accepted-matched t (lineage id suffix) ok m = other-matched t (lineage id suffix) refl ok m
+unfolding isStep touchesAll
+accepted-matched t (trade id account series side quantity price) ok m = other-matched t (trade id account series side quantity price) refl refl ok m
+accepted-matched t (separate id suffix account series parts) ok m = other-matched t (separate id suffix account series parts) refl refl ok m
+accepted-matched t (transfer id suffix from to series) ok m = other-matched t (transfer id suffix from to series) refl refl ok m
+accepted-matched t (merge id account series pairs) ok m = other-matched t (merge id account series pairs) refl refl ok m
+accepted-matched t (lineage id suffix) ok m = other-matched t (lineage id suffix) refl refl ok m
 accepted-matched t (giveUp step process id suffix giving taking series) ok m = give-up-matched t step process id suffix giving taking series ok m
+accepted-matched t (newDay day) ok m = subst Matched (sym (day-books t day ok)) (record { at = m .at })
 
 -- "from tables in which it holds", whatever the tables and the request, refused or accepted
 pub request-matched : (t : Tables) (r : Request) → Matched (booksOf t) → Matched (booksOf (handle t r .tables))
@@ -115,6 +119,7 @@ call-matched t (trades figures cells) m = go (batchRefusal t figures cells)
 call-matched t (replay text) m =
     let s : Sequence = untilRefused t (readingOf text .requests) in
     done-matched (s .done) t (s .tables) (done-from t (readingOf text .requests)) m
+call-matched t (reportable cells) m = subst (λ (u : Tables). Matched (booksOf u)) (sym (list-stays t cells)) m
 
 -- "and after any list of requests of every kind"
 pub calls-matched : (t : Tables) (calls : List Call) → Matched (booksOf t) → Matched (booksOf (run t calls .tables))

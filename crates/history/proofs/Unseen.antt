@@ -86,6 +86,7 @@ module _ (b : Books) (a r : Request) (apart : Apart r a) (e : Effects) (own : Ow
         (sym (find-upsertAll-other positionKey (λ (k : Key). isAmong k (positionsOf a)) (keyOf account series) (e .positions) (b .positions) (own .positions) (apart .positions (keyOf account series) n)));
     at-processes = λ process n id. sym (find-process-other (idsOf a) (e .process) (b .processes) (own .process) process id (apart .ids process n));
     transaction-of = λ process n. sym (greatest-process-other (idsOf a) (e .process) (b .processes) (own .process) process (apart .ids process n));
+    day = refl;
   }
 
   module _ (f : Effects) (also : OwnKeys r f) where
@@ -110,4 +111,5 @@ module _ (b : Books) (a r : Request) (apart : Apart r a) (e : Effects) (own : Ow
       recordsRoom = b .recordsRoom;
       positionsRoom = b .positionsRoom;
       processesRoom = b .processesRoom;
+      day = b .day;
     }

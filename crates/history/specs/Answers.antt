@@ -1,7 +1,7 @@
--- Which answers are refusals of a request. No request is answered as a batch that stopped, a writing or a replay is.
+-- Which answers are refusals of a request. No request is answered as a batch that stopped, a writing, a replay or the list is.
 use mathlib.Core.Bool.{Bool, true, false}
 use Rattle.rules.specs.declared.Reply.{Reply}
-use Rattle.rules.specs.declared.Reply.the-variants.{Booked, ClosingError, Lineage, Refused, Stopped, Written, Replayed, BadLine, LineRefused}
+use Rattle.rules.specs.declared.Reply.the-variants.{Booked, ClosingError, Lineage, Refused, Stopped, Written, Replayed, BadLine, LineRefused, Listed}
 
 unfoldable pub isRefusal : Reply → Bool
 isRefusal (Booked rows residual) = false
@@ -13,3 +13,4 @@ isRefusal (Written bytes) = false
 isRefusal (Replayed lines) = false
 isRefusal (BadLine line) = false
 isRefusal (LineRefused line number place) = false
+isRefusal (Listed records) = false

@@ -13,7 +13,8 @@ use Rattle.rules.specs.Handle.{refusalOf}
 use Rattle.rules.specs.Sequence.{Done, untilRefused}
 use Rattle.rules.specs.Batch.{tradesOf, batchRefusal}
 use Rattle.rules.specs.Reader.{readingOf}
-use Rattle.rules.specs.Call.{Call, one, trades, replay, handleCall}
+use Rattle.rules.specs.Reportable.{reportableRefusal}
+use Rattle.rules.specs.Call.{Call, one, trades, replay, reportable, handleCall}
 use Rattle.rules.specs.Touching.{callsTouch}
 use Rattle.rules.specs.declared.Reply.{Reply}
 
@@ -22,11 +23,12 @@ unfoldable pub isAccepted : Tables → Request → Bool
 isAccepted t r = not (isSome (refusalOf t r))
 
 -- "a batch is accepted only when all its trades are": it is not refused itself, and no trade stops it. "For demand 3 a replay is the requests it books" (K5): those stand in the list, and never
--- the replay itself.
+-- the replay itself. The reporting list (K8) is accepted where none of its refusals applies.
 unfoldable pub callAccepted : Tables → Call → Bool
 callAccepted t (one r) = isAccepted t r
 callAccepted t (trades figures cells) = not (isSome (batchRefusal t figures cells)) && not (isSome (untilRefused t (tradesOf figures) .stop))
 callAccepted t (replay text) = false
+callAccepted t (reportable cells) = not (isSome (reportableRefusal t cells))
 
 -- An accepted call with its whole answer: the reply, and what is written to a lent output.
 pub record Entry : Type 0 where
@@ -50,6 +52,7 @@ unfoldable pub bookedBy : Tables → Call → List Entry
 bookedBy t (one r) = []
 bookedBy t (trades figures cells) = cond (isSome (batchRefusal t figures cells)) [] (map asEntry (untilRefused t (tradesOf figures) .done))
 bookedBy t (replay text) = map asEntry (untilRefused t (readingOf text .requests) .done)
+bookedBy t (reportable cells) = []
 
 -- How a call stands in the list of the accepted ones: as itself, or as what it booked.
 unfoldable pub entriesOf : Tables → Call → List Entry

@@ -4,7 +4,7 @@ use lib.IntN.{ℤ, pos, _+ℤ_}
 use Rattle.rules.specs.Tables.{Tables}
 use Rattle.rules.specs.Sequence.{Done, untilRefused}
 use Rattle.rules.specs.Reader.{readingOf}
-use Rattle.rules.specs.Call.{Call, one, trades, replay, handleCall}
+use Rattle.rules.specs.Call.{Call, one, trades, replay, reportable, handleCall}
 use Rattle.soundness.specs.RowsAnswered.{rowsAnswered}
 
 unfoldable pub rowsOfAll : List Done → ℤ
@@ -15,3 +15,4 @@ unfoldable pub rowsBooked : Tables → Call → ℤ
 rowsBooked t (one r) = rowsAnswered (handleCall t (one r) .reply)
 rowsBooked t (trades figures cells) = rowsAnswered (handleCall t (trades figures cells) .reply)
 rowsBooked t (replay text) = rowsOfAll (untilRefused t (readingOf text .requests) .done)
+rowsBooked t (reportable cells) = rowsAnswered (handleCall t (reportable cells) .reply)

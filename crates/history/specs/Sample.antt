@@ -1,17 +1,17 @@
--- A history of every kind of request, of batches and of replays, with three refused requests, a batch that stops, a replay up to a refused line and one up to a bad line, another order of its
--- accepted ones, and a touching pair that may not be exchanged.
+-- A history of three days, of every kind of request, of batches, of replays and of reporting lists, with four refused requests, a batch that stops, a replay up to a refused line and one up to a bad
+-- line, another order of its accepted ones, in which each day keeps its requests, and a touching pair that may not be exchanged.
 use Prim.Native.Nat.{ℕ}
 use mathlib.Core.List.{List, [], _∷_, _++_}
 use lib.IntN.{ℤ, pos, negℤ}
 use lib.ListN.{replicate}
-use Rattle.rules.specs.Request.{Request, trade, separate, transfer, merge, lineage, giveUp}
+use Rattle.rules.specs.Request.{Request, trade, separate, transfer, merge, lineage, giveUp, newDay}
 use Rattle.rules.specs.Line.{lineOf}
-use Rattle.rules.specs.Call.{Call, one, trades, replay}
+use Rattle.rules.specs.Call.{Call, one, trades, replay, reportable}
 use Rattle.rules.specs.Tables.{Tables, allTables}
 use Rattle.rules.specs.declared.Step.{Step}
 use Rattle.rules.specs.declared.Step.the-variants.{Open, Claim, Cancel, ApproveGiver, ApproveTaker}
 use Rattle.rules.specs.declared.Reply.{Reply}
-use Rattle.rules.specs.declared.Reply.the-variants.{Booked, Lineage}
+use Rattle.rules.specs.declared.Reply.the-variants.{Booked, Lineage, Listed}
 use Rattle.history.specs.History.{Entry, entriesTouch}
 use Rattle.history.specs.ByPlaces.{inOrder}
 
@@ -19,12 +19,13 @@ use Rattle.history.specs.ByPlaces.{inOrder}
 abbrev pub blank : ℕ → List ℤ
 blank cells = pos 0 ∷ replicate cells (negℤ (pos 1))
 
+-- Records begin at day 0.
 abbrev pub start : Tables
-start = allTables (blank 290) (blank 65) (blank 20)
+start = allTables (pos 0 ∷ blank 312) (blank 65) (blank 20)
 
 -- Tables with as much room and other cells.
 abbrev pub otherCells : Tables
-otherCells = allTables (pos 0 ∷ replicate 294 (pos 8)) (pos 0 ∷ replicate 63 (pos 8)) (pos 0 ∷ replicate 26 (pos 8))
+otherCells = allTables (pos 0 ∷ pos 0 ∷ replicate 316 (pos 8)) (pos 0 ∷ replicate 63 (pos 8)) (pos 0 ∷ replicate 26 (pos 8))
 
 -- Trades 1 and 2, the first separated; trade 3, transferred; the parts of 1 merged into 5.
 abbrev pub trade1 : Request
@@ -71,9 +72,12 @@ separate21 = separate (pos 21) (pos 0) (pos 50) (pos 6) (pos 12 ∷ pos 18 ∷ [
 abbrev pub trade22 : Request
 trade22 = trade (pos 22) (pos 51) (pos 6) (pos 2) (pos 9) (pos 3)
 
--- Four lines: trade 21 and its separation, then trade 21 again, where it stops, and trade 22, which is not tried.
+abbrev pub day1 : Request
+day1 = newDay (pos 1)
+
+-- Five lines: day 1, trade 21 and its separation, then trade 21 again, where it stops, and trade 22, which is not tried.
 abbrev pub upToRefused : Call
-upToRefused = replay (lineOf trade21 ++ (lineOf separate21 ++ (lineOf trade21 ++ lineOf trade22)))
+upToRefused = replay (lineOf day1 ++ (lineOf trade21 ++ (lineOf separate21 ++ (lineOf trade21 ++ lineOf trade22))))
 
 -- Three lines: trade 22, then an empty line, where it stops, and trade 23, which is not read.
 abbrev pub upToBad : Call
@@ -83,14 +87,29 @@ upToBad = replay (lineOf trade22 ++ (10 ∷ lineOf (trade (pos 23) (pos 51) (pos
 abbrev pub giveUp2 : Step → Request
 giveUp2 step = giveUp step (pos 90) (pos 2) (pos 0) (pos 20) (pos 21) (pos 5)
 
--- Trade 1 a second time is refused, and so is the lineage of an id that is not there, and the taker's approval before the claim.
+abbrev pub day4 : Request
+day4 = newDay (pos 4)
+
+-- The list, with twenty cells lent for it.
+abbrev pub list : Call
+list = reportable 20
+
+-- Trade 1 a second time is refused, and so is the lineage of an id that is not there, the taker's approval before the claim, and day 1 a second time. The first day ends with the list, and so does the
+-- last; the replay begins the second.
 abbrev pub history : List Call
 history =
     one trade1 ∷ one trade1 ∷ one trade2 ∷ one separate1 ∷ one (giveUp2 Open) ∷ batch ∷ one lineage2 ∷ one (lineage (pos 9) (pos 0)) ∷ one (giveUp2 ApproveTaker) ∷ one trade3
-    ∷ one (giveUp2 Claim) ∷ stopping ∷ upToRefused ∷ one (giveUp2 ApproveGiver) ∷ one transfer3 ∷ one merge1 ∷ upToBad ∷ one (giveUp2 ApproveTaker) ∷ []
+    ∷ one (giveUp2 Claim) ∷ stopping ∷ list ∷ upToRefused ∷ one day1 ∷ one (giveUp2 ApproveGiver) ∷ one transfer3 ∷ one merge1 ∷ one day4 ∷ upToBad ∷ one (giveUp2 ApproveTaker) ∷ list ∷ []
 
 abbrev pub entry : Request → Reply → Entry
 entry request reply = record { call = one request; reply = reply; output = [] }
+
+-- The first day's records of status 0 and 3; of the last day the inverse of trade 2, whose parent is of the first day, and two of status 0.
+abbrev pub firstList : List ℤ
+firstList = pos 1 ∷ pos 2 ∷ pos 1 ∷ pos 3 ∷ pos 2 ∷ pos 0 ∷ pos 3 ∷ pos 0 ∷ pos 11 ∷ pos 0 ∷ pos 12 ∷ pos 0 ∷ pos 13 ∷ pos 0 ∷ []
+
+abbrev pub lastList : List ℤ
+lastList = pos 2 ∷ pos 1 ∷ pos 2 ∷ pos 2 ∷ pos 22 ∷ pos 0 ∷ []
 
 -- The batch that stopped stands as the trade that it booked, each replay as the requests that it booked.
 abbrev pub accepted : List Entry
@@ -100,12 +119,19 @@ accepted =
     ∷ record { call = batch; reply = Booked (pos 2) (pos 0); output = pos 0 ∷ pos 5 ∷ [] }
     ∷ entry lineage2 (Lineage (pos 9) (pos 0)) ∷ entry trade3 (Booked (pos 1) (pos 0))
     ∷ entry (giveUp2 Claim) (Booked (pos 0) (pos 0)) ∷ entry trade13 (Booked (pos 1) (pos 0))
+    ∷ record { call = list; reply = Listed (pos 7); output = firstList }
+    ∷ entry day1 (Booked (pos 0) (pos 0))
     ∷ entry trade21 (Booked (pos 1) (pos 0)) ∷ entry separate21 (Booked (pos 3) (pos 0)) ∷ entry (giveUp2 ApproveGiver) (Booked (pos 0) (pos 0))
-    ∷ entry transfer3 (Booked (pos 2) (pos 0)) ∷ entry merge1 (Booked (pos 3) (pos 0)) ∷ entry trade22 (Booked (pos 1) (pos 0)) ∷ entry (giveUp2 ApproveTaker) (Booked (pos 2) (pos 0)) ∷ []
+    ∷ entry transfer3 (Booked (pos 2) (pos 0)) ∷ entry merge1 (Booked (pos 3) (pos 0))
+    ∷ entry day4 (Booked (pos 0) (pos 0))
+    ∷ entry trade22 (Booked (pos 1) (pos 0)) ∷ entry (giveUp2 ApproveTaker) (Booked (pos 2) (pos 0))
+    ∷ record { call = list; reply = Listed (pos 3); output = lastList }
+    ∷ []
 
--- Trade 3, trade 22, the batch, trade 2, the opening, trade 21, trade 1, the transfer, the lineage, the claim, the giver's approval, the taker's, trade 13, the separations of 1 and of 21, the merge.
+-- Trade 3, the batch, trade 2, the opening, trade 1, the lineage, the claim, trade 13, the separation of 1, the list; day 1, the transfer, trade 21, the giver's approval, the merge, the separation of 21;
+-- day 4, the taker's approval, trade 22, the list.
 abbrev pub places : List ℕ
-places = 6 ∷ 14 ∷ 4 ∷ 1 ∷ 3 ∷ 9 ∷ 0 ∷ 12 ∷ 5 ∷ 7 ∷ 11 ∷ 15 ∷ 8 ∷ 2 ∷ 10 ∷ 13 ∷ []
+places = 6 ∷ 4 ∷ 1 ∷ 3 ∷ 0 ∷ 5 ∷ 7 ∷ 8 ∷ 2 ∷ 9 ∷ 10 ∷ 14 ∷ 11 ∷ 13 ∷ 15 ∷ 12 ∷ 16 ∷ 18 ∷ 17 ∷ 19 ∷ []
 
 -- An entry past the end, which no place needs.
 abbrev pub past : Entry
@@ -115,9 +141,9 @@ abbrev pub another : List Entry
 another = inOrder entriesTouch past accepted places
 
 -- Both orders end in these rows, after which come the cells that were there.
-abbrev pub row : (id suffix parent kind status account series side quantity price long short into : ℤ) → List ℤ
-row id suffix parent kind status account series side quantity price long short into =
-    id ∷ suffix ∷ parent ∷ kind ∷ status ∷ account ∷ series ∷ side ∷ quantity ∷ price ∷ long ∷ short ∷ into ∷ []
+abbrev pub row : (id suffix parent kind status account series side quantity price long short into day : ℤ) → List ℤ
+row id suffix parent kind status account series side quantity price long short into day =
+    id ∷ suffix ∷ parent ∷ kind ∷ status ∷ account ∷ series ∷ side ∷ quantity ∷ price ∷ long ∷ short ∷ into ∷ day ∷ []
 
 abbrev pub position : (account series long short cash quantity value : ℤ) → List ℤ
 position account series long short cash quantity value = account ∷ series ∷ long ∷ short ∷ cash ∷ quantity ∷ value ∷ []
@@ -126,27 +152,28 @@ abbrev pub rowsThen : (pastRecords pastPositions pastProcesses : List ℤ) → T
 rowsThen pastRecords pastPositions pastProcesses = record {
   records =
       pos 21
-      ∷ row (pos 1) (pos 0) (pos 0) (pos 0) (pos 1) (pos 10) (pos 5) (pos 1) (pos 100) (pos 7) (pos 100) (pos 0) (pos 0)
-      ++ row (pos 1) (pos 1) (pos 0) (pos 6) (pos 2) (pos 10) (pos 5) (pos 1) (negℤ (pos 100)) (pos 7) (pos 0) (pos 0) (pos 0)
-      ++ row (pos 1) (pos 2) (pos 0) (pos 6) (pos 1) (pos 10) (pos 5) (pos 1) (pos 40) (pos 7) (pos 0) (pos 0) (pos 0)
-      ++ row (pos 1) (pos 3) (pos 0) (pos 6) (pos 1) (pos 10) (pos 5) (pos 1) (pos 60) (pos 7) (pos 0) (pos 0) (pos 0)
-      ++ row (pos 1) (pos 4) (pos 2) (pos 901) (pos 2) (pos 10) (pos 5) (pos 1) (negℤ (pos 40)) (pos 7) (pos 0) (pos 0) (pos 5)
-      ++ row (pos 1) (pos 5) (pos 3) (pos 901) (pos 2) (pos 10) (pos 5) (pos 1) (negℤ (pos 60)) (pos 7) (pos 0) (pos 0) (pos 5)
-      ++ row (pos 2) (pos 0) (pos 0) (pos 0) (pos 1) (pos 20) (pos 5) (pos 2) (pos 50) (pos 9) (pos 0) (pos 50) (pos 0)
-      ++ row (pos 2) (pos 1) (pos 0) (pos 20) (pos 2) (pos 20) (pos 5) (pos 2) (negℤ (pos 50)) (pos 9) (pos 0) (negℤ (pos 50)) (pos 0)
-      ++ row (pos 2) (pos 2) (pos 0) (pos 30) (pos 0) (pos 21) (pos 5) (pos 2) (pos 50) (pos 9) (pos 0) (pos 50) (pos 0)
-      ++ row (pos 3) (pos 0) (pos 0) (pos 0) (pos 1) (pos 30) (pos 6) (pos 1) (pos 5) (negℤ (pos 4)) (pos 5) (pos 0) (pos 0)
-      ++ row (pos 3) (pos 1) (pos 0) (pos 4) (pos 2) (pos 30) (pos 6) (pos 1) (negℤ (pos 5)) (negℤ (pos 4)) (negℤ (pos 5)) (pos 0) (pos 0)
-      ++ row (pos 3) (pos 2) (pos 0) (pos 4) (pos 0) (pos 31) (pos 6) (pos 1) (pos 5) (negℤ (pos 4)) (pos 5) (pos 0) (pos 0)
-      ++ row (pos 5) (pos 0) (pos 0) (pos 901) (pos 0) (pos 10) (pos 5) (pos 1) (pos 100) (pos 7) (pos 0) (pos 0) (pos 0)
-      ++ row (pos 11) (pos 0) (pos 0) (pos 0) (pos 0) (pos 40) (pos 6) (pos 1) (pos 10) (pos 3) (pos 10) (pos 0) (pos 0)
-      ++ row (pos 12) (pos 0) (pos 0) (pos 10) (pos 0) (pos 40) (pos 6) (pos 4) (pos 15) (pos 3) (negℤ (pos 10)) (pos 5) (pos 0)
-      ++ row (pos 13) (pos 0) (pos 0) (pos 0) (pos 0) (pos 42) (pos 6) (pos 2) (pos 8) (pos 2) (pos 0) (pos 8) (pos 0)
-      ++ row (pos 21) (pos 0) (pos 0) (pos 0) (pos 1) (pos 50) (pos 6) (pos 1) (pos 30) (pos 4) (pos 30) (pos 0) (pos 0)
-      ++ row (pos 21) (pos 1) (pos 0) (pos 6) (pos 2) (pos 50) (pos 6) (pos 1) (negℤ (pos 30)) (pos 4) (pos 0) (pos 0) (pos 0)
-      ++ row (pos 21) (pos 2) (pos 0) (pos 6) (pos 0) (pos 50) (pos 6) (pos 1) (pos 12) (pos 4) (pos 0) (pos 0) (pos 0)
-      ++ row (pos 21) (pos 3) (pos 0) (pos 6) (pos 0) (pos 50) (pos 6) (pos 1) (pos 18) (pos 4) (pos 0) (pos 0) (pos 0)
-      ++ row (pos 22) (pos 0) (pos 0) (pos 0) (pos 0) (pos 51) (pos 6) (pos 2) (pos 9) (pos 3) (pos 0) (pos 9) (pos 0)
+      ∷ pos 4
+      ∷ row (pos 1) (pos 0) (pos 0) (pos 0) (pos 1) (pos 10) (pos 5) (pos 1) (pos 100) (pos 7) (pos 100) (pos 0) (pos 0) (pos 0)
+      ++ row (pos 1) (pos 1) (pos 0) (pos 6) (pos 2) (pos 10) (pos 5) (pos 1) (negℤ (pos 100)) (pos 7) (pos 0) (pos 0) (pos 0) (pos 0)
+      ++ row (pos 1) (pos 2) (pos 0) (pos 6) (pos 1) (pos 10) (pos 5) (pos 1) (pos 40) (pos 7) (pos 0) (pos 0) (pos 0) (pos 0)
+      ++ row (pos 1) (pos 3) (pos 0) (pos 6) (pos 1) (pos 10) (pos 5) (pos 1) (pos 60) (pos 7) (pos 0) (pos 0) (pos 0) (pos 0)
+      ++ row (pos 1) (pos 4) (pos 2) (pos 901) (pos 2) (pos 10) (pos 5) (pos 1) (negℤ (pos 40)) (pos 7) (pos 0) (pos 0) (pos 5) (pos 1)
+      ++ row (pos 1) (pos 5) (pos 3) (pos 901) (pos 2) (pos 10) (pos 5) (pos 1) (negℤ (pos 60)) (pos 7) (pos 0) (pos 0) (pos 5) (pos 1)
+      ++ row (pos 2) (pos 0) (pos 0) (pos 0) (pos 1) (pos 20) (pos 5) (pos 2) (pos 50) (pos 9) (pos 0) (pos 50) (pos 0) (pos 0)
+      ++ row (pos 2) (pos 1) (pos 0) (pos 20) (pos 2) (pos 20) (pos 5) (pos 2) (negℤ (pos 50)) (pos 9) (pos 0) (negℤ (pos 50)) (pos 0) (pos 4)
+      ++ row (pos 2) (pos 2) (pos 0) (pos 30) (pos 0) (pos 21) (pos 5) (pos 2) (pos 50) (pos 9) (pos 0) (pos 50) (pos 0) (pos 4)
+      ++ row (pos 3) (pos 0) (pos 0) (pos 0) (pos 1) (pos 30) (pos 6) (pos 1) (pos 5) (negℤ (pos 4)) (pos 5) (pos 0) (pos 0) (pos 0)
+      ++ row (pos 3) (pos 1) (pos 0) (pos 4) (pos 2) (pos 30) (pos 6) (pos 1) (negℤ (pos 5)) (negℤ (pos 4)) (negℤ (pos 5)) (pos 0) (pos 0) (pos 1)
+      ++ row (pos 3) (pos 2) (pos 0) (pos 4) (pos 0) (pos 31) (pos 6) (pos 1) (pos 5) (negℤ (pos 4)) (pos 5) (pos 0) (pos 0) (pos 1)
+      ++ row (pos 5) (pos 0) (pos 0) (pos 901) (pos 0) (pos 10) (pos 5) (pos 1) (pos 100) (pos 7) (pos 0) (pos 0) (pos 0) (pos 1)
+      ++ row (pos 11) (pos 0) (pos 0) (pos 0) (pos 0) (pos 40) (pos 6) (pos 1) (pos 10) (pos 3) (pos 10) (pos 0) (pos 0) (pos 0)
+      ++ row (pos 12) (pos 0) (pos 0) (pos 10) (pos 0) (pos 40) (pos 6) (pos 4) (pos 15) (pos 3) (negℤ (pos 10)) (pos 5) (pos 0) (pos 0)
+      ++ row (pos 13) (pos 0) (pos 0) (pos 0) (pos 0) (pos 42) (pos 6) (pos 2) (pos 8) (pos 2) (pos 0) (pos 8) (pos 0) (pos 0)
+      ++ row (pos 21) (pos 0) (pos 0) (pos 0) (pos 1) (pos 50) (pos 6) (pos 1) (pos 30) (pos 4) (pos 30) (pos 0) (pos 0) (pos 1)
+      ++ row (pos 21) (pos 1) (pos 0) (pos 6) (pos 2) (pos 50) (pos 6) (pos 1) (negℤ (pos 30)) (pos 4) (pos 0) (pos 0) (pos 0) (pos 1)
+      ++ row (pos 21) (pos 2) (pos 0) (pos 6) (pos 0) (pos 50) (pos 6) (pos 1) (pos 12) (pos 4) (pos 0) (pos 0) (pos 0) (pos 1)
+      ++ row (pos 21) (pos 3) (pos 0) (pos 6) (pos 0) (pos 50) (pos 6) (pos 1) (pos 18) (pos 4) (pos 0) (pos 0) (pos 0) (pos 1)
+      ++ row (pos 22) (pos 0) (pos 0) (pos 0) (pos 0) (pos 51) (pos 6) (pos 2) (pos 9) (pos 3) (pos 0) (pos 9) (pos 0) (pos 4)
       ++ pastRecords;
   positions =
       pos 9
@@ -164,10 +191,10 @@ rowsThen pastRecords pastPositions pastProcesses = record {
 }
 
 abbrev pub finish : Tables
-finish = rowsThen (replicate 17 (negℤ (pos 1))) (replicate 2 (negℤ (pos 1))) (replicate 11 (negℤ (pos 1)))
+finish = rowsThen (replicate 18 (negℤ (pos 1))) (replicate 2 (negℤ (pos 1))) (replicate 11 (negℤ (pos 1)))
 
 abbrev pub finishElsewhere : Tables
-finishElsewhere = rowsThen (replicate 21 (pos 8)) [] (replicate 17 (pos 8))
+finishElsewhere = rowsThen (replicate 22 (pos 8)) [] (replicate 17 (pos 8))
 
 -- A give-up of trade 2 that is claimed, and one that is cancelled.
 abbrev pub underWay : List Call

@@ -1,5 +1,5 @@
--- What a request's own call promises, as what booking a line does (RequestBooked): the verdict by the reply; beside a process table that the request does not read; and a step of a give-up, beside
--- sound processes and beside others. Assumes nothing.
+-- What a request's own call promises, as what booking a line does (RequestBooked): the verdict by the reply; beside a process table that the request does not read; a step of a give-up, beside
+-- sound processes and beside others; and a day. Assumes nothing.
 use Prim.Native.Nat.{ℕ}
 use mathlib.Core.Path.{_≡_, refl, sym, _∙_, ap, subst}
 use mathlib.Core.Bool.{true, false, not}
@@ -10,7 +10,7 @@ use lib.IntN.{ℤ, pos}
 use lib.ListN.{length}
 use Rattle.rules.specs.Refusal.{Test, test, firstRefusal}
 use Rattle.rules.specs.Reply.{refusedBy}
-use Rattle.rules.specs.Request.{Request, giveUp, isStep}
+use Rattle.rules.specs.Request.{Request, giveUp, newDay, isStep}
 use Rattle.rules.specs.Line.{passesTest3}
 use Rattle.rules.specs.Reader.{hasItsFigures, requestNamed, isValidLine}
 use Rattle.rules.specs.Tables.{Tables, tablesOf, allTables, soundRecords, soundPositions, soundProcesses}
@@ -19,6 +19,7 @@ use Rattle.rules.specs.declared.Reply.{Reply}
 use Rattle.rules.specs.declared.Reply.the-variants as Reply
 use Rattle.rules.specs.declared.Step.{Step}
 use Rattle.rules.specs.declared.Heading.{Heading}
+use Rattle.rules.specs.declared.Heading.the-variants.{Day}
 use Rattle.keys.proofs.Split.{split, clash, and-left}
 use Rattle.history.specs.History.{isAccepted}
 use Rattle.history.specs.Answers.{isRefusal}
@@ -29,9 +30,11 @@ use Rattle.verdict.specs.Verdict.{verdictOf, verdictOnTables}
 use Rattle.verdict.specs.HandledSoundly.{HandledSoundly}
 use Rattle.verdict.specs.declared.Verdict.{Verdict}
 use Rattle.verdict.specs.declared.Verdict.the-variants as Verdict
+use Rattle.soundness.specs.SoundTables.{SoundTables}
 use Rattle.give_up_steps.specs.HandledIn.{HandledIn}
+use Rattle.new_day.specs.DayHandled.{DayHandled}
 use Rattle.give_up_steps.proofs.OnAllTables.{third-refuses, unsound-refused}
-use Rattle.journal_booking.specs.RequestBooked.{RequestBooked, verdictOfReply}
+use Rattle.journal_booking.specs.RequestBooked.{RequestBooked, BookedBeside, verdictOfReply}
 
 -- A reply that is no refusal.
 not-refused : (reply : Reply) → isRefusal reply ≡ false → verdictOfReply reply ≡ Verdict.Accepted
@@ -45,6 +48,7 @@ not-refused (Reply.Written bytes) h = refl
 not-refused (Reply.Replayed lines) h = refl
 not-refused (Reply.BadLine line) h = refl
 not-refused (Reply.LineRefused line number place) h = refl
+not-refused (Reply.Listed records) h = refl
 
 -- The verdict by the reply is the one by the first refusal.
 pub reply-verdict : (t : Tables) (r : Request) → verdictOfReply (handle t r .reply) ≡ verdictOf (refusalOf t r)
@@ -58,13 +62,13 @@ reply-verdict t r = go (split (isAccepted t r))
         ap verdictOfReply (w .2) ∙ sym (ap verdictOf (w .1))
 
 -- A request on two tables.
-pub two-booked : {rs ps rs′ ps′ : List ℤ} {r : Request} {reply : Reply} {v : Verdict} → HandledSoundly rs ps r (answered reply rs′ ps′) → v ≡ verdictOfReply reply →
+pub two-booked : {rs ps rs′ ps′ : List ℤ} {r : Request} {reply : Reply} {v : Verdict} → soundPositions ps ≡ true → HandledSoundly rs ps r (answered reply rs′ ps′) → v ≡ verdictOfReply reply →
     RequestBooked (tablesOf rs ps) r v (tablesOf rs′ ps′)
-two-booked {rs} {ps} {r = r} h judged = record {
+two-booked {rs} {ps} {r = r} sound h judged = record {
   verdict = judged ∙ ap (λ (a : Answer). verdictOfReply (a .reply)) (h .handled) ∙ reply-verdict (tablesOf rs ps) r;
   tables = ap (λ (a : Answer). a .tables) (h .handled);
   records-sound = h .records-sound;
-  positions-sound = h .positions-sound;
+  positions-sound = h .positions-sound ∙ sym sound;
   processes-sound = refl;
 }
 
@@ -82,24 +86,23 @@ beside-processes qs {rs} {ps} {rs′} {ps′} {r} no-step b = record {
 }
 
 -- A step on sound tables.
-pub step-booked : {t after : Tables} {r : Request} {reply : Reply} {v : Verdict} → soundProcesses (t .processes) ≡ true → HandledIn t r (answeredBy reply after) → v ≡ verdictOfReply reply →
+pub step-booked : {t after : Tables} {r : Request} {reply : Reply} {v : Verdict} → SoundTables t → HandledIn t r (answeredBy reply after) → v ≡ verdictOfReply reply →
     RequestBooked t r v after
-step-booked {t} {after} {r} sound h judged = record {
+step-booked {t} {after} {r} before h judged = record {
   verdict = judged ∙ ap (λ (a : Answer). verdictOfReply (a .reply)) (h .handled) ∙ reply-verdict t r;
   tables = ap (λ (a : Answer). a .tables) (h .handled);
   records-sound = h .sound .records;
-  positions-sound = h .sound .positions;
-  processes-sound = h .sound .processes ∙ sym sound;
+  positions-sound = h .sound .positions ∙ sym (before .positions);
+  processes-sound = h .sound .processes ∙ sym (before .processes);
 }
 
 -- An answer that is a refusal leaves the tables.
-pub refused-booked : {t : Tables} {r : Request} (number place : ℤ) → answeredBy (Reply.Refused number place) t ≡ handle t r → soundRecords (t .records) ≡ true → soundPositions (t .positions) ≡ true →
-    RequestBooked t r (Verdict.Refused number place) t
-refused-booked {t} {r} number place h records positions = record {
+pub refused-booked : {t : Tables} {r : Request} (number place : ℤ) → answeredBy (Reply.Refused number place) t ≡ handle t r → soundRecords (t .records) ≡ true → RequestBooked t r (Verdict.Refused number place) t
+refused-booked {t} {r} number place h records = record {
   verdict = ap (λ (a : Answer). verdictOfReply (a .reply)) h ∙ reply-verdict t r;
   tables = ap (λ (a : Answer). a .tables) h;
   records-sound = records;
-  positions-sound = positions;
+  positions-sound = refl;
   processes-sound = refl;
 }
 
@@ -110,13 +113,27 @@ unfolding verdictOnTables firstRefusal test verdictOf
 step-refused rs ps qs step process id suffix giving taking series h k unsound =
     let accepted : verdictOnTables rs ps ≡ Verdict.Accepted = rw (h, k) refl in
     refused-booked (pos 19) (pos 0)
-    (unsound-refused rs ps qs (sym (third-refuses rs ps qs accepted unsound)) step process id suffix giving taking series (pos 19) (pos 0) refl) h k
+    (unsound-refused rs ps qs (sym (third-refuses rs ps qs accepted unsound)) step process id suffix giving taking series (pos 19) (pos 0) refl) h
+
+-- A day, beside any positions and processes.
+pub day-booked : {before after : List ℤ} {day : ℤ} {reply : Reply} {v : Verdict} → DayHandled before day reply after → v ≡ verdictOfReply reply → BookedBeside before (newDay day) v after
+day-booked {before} {day = day} h judged positions processes = record {
+  verdict = judged ∙ ap (λ (a : Answer). verdictOfReply (a .reply)) (h .handled positions processes) ∙ reply-verdict (allTables before positions processes) (newDay day);
+  tables = ap (λ (a : Answer). a .tables) (h .handled positions processes);
+  records-sound = h .records-sound;
+  positions-sound = refl;
+  processes-sound = refl;
+}
 
 -- The same of the request that a line names, whose heading is this.
 pub line-beside : (qs : List ℤ) {rs ps rs′ ps′ : List ℤ} {v : Verdict} {heading : Heading} (kind : Heading) (figures : List ℤ) → heading ≡ kind → isStep (requestNamed kind figures) ≡ false →
     RequestBooked (tablesOf rs ps) (requestNamed kind figures) v (tablesOf rs′ ps′) → RequestBooked (allTables rs ps qs) (requestNamed heading figures) v (allTables rs′ ps′ qs)
 line-beside qs {rs} {ps} {rs′} {ps′} {v} kind figures is no-step b =
     subst (λ (h : Heading). RequestBooked (allTables rs ps qs) (requestNamed h figures) v (allTables rs′ ps′ qs)) (sym is) (beside-processes qs no-step b)
+
+pub day-beside : {before after : List ℤ} {v : Verdict} {heading : Heading} → heading ≡ Day → (figures : List ℤ) → BookedBeside before (requestNamed Day figures) v after →
+    BookedBeside before (requestNamed heading figures) v after
+day-beside {before} {after} {v} is figures b = subst (λ (h : Heading). BookedBeside before (requestNamed h figures) v after) (sym is) b
 
 -- A line of this kind has its figures.
 pub its-figures : {heading : Heading} (kind : Heading) (count : ℕ) → heading ≡ kind → hasItsFigures heading count ≡ true → hasItsFigures kind count ≡ true

@@ -1,4 +1,5 @@
-// The request that a line of a journal names, booked on sound records and positions (document 02, K5). Whether the process table is sound is told; a step of a give-up beside one that is not is refused 19.
+// The request that a line of a journal names, booked on sound records (document 02, K5). Whether the positions and the process table are sound is told: beside positions that are not every request is
+// refused 2 but a new day (K8), and a step of a give-up beside processes that are not is refused 19.
 use give_up_steps::Terms;
 use rules::Heading;
 use rules::Reply;
@@ -11,7 +12,7 @@ ghost use lib.ListN.{length};
 ghost use Rattle.rules.specs.Reader.{hasItsFigures, requestNamed};
 ghost use Rattle.rules.specs.Tables.{allTables, tablesOf, soundRecords, soundPositions, soundProcesses};
 ghost use Rattle.rules.specs.declared.Heading.the-variants as Heading;
-ghost use Rattle.journal_booking.specs.RequestBooked.{RequestBooked, verdictOfReply};
+ghost use Rattle.journal_booking.specs.RequestBooked.{RequestBooked, BookedBeside, verdictOfReply, isDay};
 
 // Whether a reply is a refusal, and which.
 fn verdict_of(reply: Reply) -> Verdict
@@ -31,6 +32,7 @@ fn verdict_of(reply: Reply) -> Verdict
         Reply::Replayed(lines) => Verdict::Accepted,
         Reply::BadLine(line) => Verdict::Accepted,
         Reply::LineRefused(line, number, place) => Verdict::Accepted,
+        Reply::Listed(records) => Verdict::Accepted,
     }
 }
 
@@ -128,7 +130,17 @@ fn book_step(
     verdict_of(give_up::on_sound(records, positions, processes, step, g))
 }
 
-pub fn book_line(
+// A day neither reads nor changes the other tables.
+fn book_day(records: &mut [i64], figures: &[i64]) -> Verdict
+    requires { ⌜ (soundRecords (now records) ≡ true) × (length (now figures) ≡ 1) ⌝ }
+    ensures { λ r. ⌜ BookedBeside (now (records .entry)) (requestNamed Heading.Day (now (figures .entry))) r (now (records .exit)) ⌝ }
+{
+    let day = figures[0];
+    verdict_of(new_day::on_sound(records, day))
+}
+
+// On sound positions.
+fn book_on_positions(
     records: &mut [i64],
     positions: &mut [i64],
     processes: &mut [i64],
@@ -145,5 +157,41 @@ pub fn book_line(
         Heading::Transfer => book_transfer(records, positions, figures),
         Heading::Merge => book_merge(records, positions, figures),
         Heading::GiveUp(step) => book_step(records, positions, processes, sound, step, figures),
+        Heading::Day => book_day(records, figures),
     }
+}
+
+fn is_day(heading: Heading) -> bool
+    ensures { λ r. ⌜ r ≡ isDay heading ⌝ }
+{
+    match heading {
+        Heading::Trade => false,
+        Heading::Separation => false,
+        Heading::Transfer => false,
+        Heading::Merge => false,
+        Heading::GiveUp(_) => false,
+        Heading::Day => true,
+    }
+}
+
+// `passes2` tells whether the positions pass test 2, `passes19` whether the processes pass test 19.
+pub fn book_line(
+    records: &mut [i64],
+    positions: &mut [i64],
+    processes: &mut [i64],
+    passes2: bool,
+    passes19: bool,
+    heading: Heading,
+    figures: &[i64],
+) -> Verdict
+    requires { ⌜ (soundRecords (now records) ≡ true) × (passes2 ≡ soundPositions (now positions)) × (passes19 ≡ soundProcesses (now processes)) × (hasItsFigures heading (length (now figures)) ≡ true) ⌝ }
+    ensures { λ r. ⌜ RequestBooked (allTables (now (records .entry)) (now (positions .entry)) (now (processes .entry))) (requestNamed heading (now (figures .entry))) r (allTables (now (records .exit)) (now (positions .exit)) (now (processes .exit))) ⌝ }
+{
+    if passes2 {
+        return book_on_positions(records, positions, processes, passes19, heading, figures);
+    }
+    if is_day(heading) {
+        return book_day(records, figures);
+    }
+    Verdict::Refused(2, 0)
 }

@@ -79,6 +79,16 @@ fn step_valid(figures: &[i64]) -> bool
     give_up_steps::figures_valid(g)
 }
 
+// A day's range alone: whether it lies after the current day is asked where it is booked.
+fn day_valid(figures: &[i64]) -> bool
+    ensures { λ r. ⌜ r ≡ isValidLine Heading.Day (now (figures .entry)) ⌝ }
+{
+    if figures.len() != 1 {
+        return false;
+    }
+    figures::valid_day(figures[0])
+}
+
 pub fn line_valid(heading: Heading, figures: &[i64]) -> bool
     ensures { λ r. ⌜ r ≡ isValidLine heading (now (figures .entry)) ⌝ }
 {
@@ -88,5 +98,6 @@ pub fn line_valid(heading: Heading, figures: &[i64]) -> bool
         Heading::Transfer => transfer_valid(figures),
         Heading::Merge => merge_valid(figures),
         Heading::GiveUp(step) => step_valid(figures),
+        Heading::Day => day_valid(figures),
     }
 }

@@ -148,3 +148,14 @@ pub fn write_give_up(
     }
     Reply::Refused(3, 0)
 }
+
+// Of a day its range alone is test 3: no table is read.
+pub fn write_day(text: &mut [u8], day: i64) -> Reply
+    ensures { λ r. ⌜ textLeft r (now (text .exit)) ≡ writeRequest (Request.newDay day) (now (text .entry)) ⌝ }
+{
+    if !figures::valid_day(day) {
+        return Reply::Refused(3, 0);
+    }
+    let figures = [day];
+    write_figures(text, Heading::Day, &figures)
+}

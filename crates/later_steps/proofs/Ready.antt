@@ -1,8 +1,8 @@
 -- What is known of a later step past tests 1 to 8, in the shape in which its booking asks for it: the record is under give-up, and the process in its place. Assumes nothing.
 use Prim.Native.Nat.{ℕ}
 use mathlib.Core.Path.{_≡_, refl, sym, _∙_, ap, subst}
-use mathlib.Core.Bool.{true, false, not}
-use mathlib.Core.List.{List, [], _∷_, map}
+use mathlib.Core.Bool.{true, false}
+use mathlib.Core.List.{List}
 use lib.IntN.{ℤ}
 use borrow.Author.Tests.{not-false}
 use Rattle.integers.specs.Order.{eqZ}
@@ -10,7 +10,7 @@ use Rattle.integers.proofs.Parts.{eqZ-true}
 use Rattle.rules.specs.Figures.{validAccount, adjustable, inverse, underGiveUp, giveUpKind, takeUpKind}
 use Rattle.rules.specs.Rows.{keyOf, recordKey, withStatus, soundRecord, validKind}
 use Rattle.rules.specs.ProcessRows.{processKey, rowOfProcess, soundProcess}
-use Rattle.rules.specs.Refusal.{test, allOf, firstRefusal}
+use Rattle.rules.specs.Refusal.{test, firstRefusal}
 use Rattle.rules.specs.GiveUp.{stepped, finished}
 use Rattle.rules.specs.Layout.{rowAt, rowsOf}
 use Rattle.rules.specs.Tables.{recordsLayout, processesLayout}
@@ -19,7 +19,7 @@ use Rattle.rules.specs.declared.ProcessRow.{ProcessRow}
 use Rattle.rules.specs.declared.Record.{Record}
 use Rattle.rules.specs.declared.Step.{Step}
 use Rattle.keys.proofs.Lookup.{find-all}
-use Rattle.cells.proofs.SoundCells.{records-known, processes-known}
+use Rattle.cells.proofs.SoundCells.{record-rows-sound, records-known, processes-known}
 use Rattle.soundness.proofs.Accepted.{passed}
 use Rattle.soundness.proofs.SoundRecord.{record-sound}
 use Rattle.soundness.proofs.SoundRows.{under-give-up-open, adjustable-again-sound}
@@ -47,7 +47,7 @@ module _ (rs ps qs : List ℤ) (step : Step) (g : Terms) (at : ℕ) (p : Process
 
   record-is-sound : soundRecord r ≡ true
   record-is-sound =
-      find-all recordKey soundRecord (keyOf (g .id) (g .suffix)) (rowsOf recordsLayout rs) r (records-known rs (k .ready .sound .records) .rows-sound) (k .record-known .found)
+      find-all recordKey soundRecord (keyOf (g .id) (g .suffix)) (rowsOf recordsLayout rs) r (records-known rs (record-rows-sound rs (k .ready .sound .records)) .rows-sound) (k .record-known .found)
 
   -- It is sound with status 0.
   pub adjustable-again : soundRecord (withStatus adjustable (rowAt recordsLayout rs (named .row))) ≡ true

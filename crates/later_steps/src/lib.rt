@@ -23,7 +23,7 @@ ghost use Rattle.rules.specs.ProcessRows.{rowOfProcess};
 ghost use Rattle.rules.specs.Refusal.{firstRefusal};
 ghost use Rattle.rules.specs.GiveUp.{isOpening, hasFigures, hasTurn, stepped, isComplete, recordAfter};
 ghost use Rattle.rules.specs.Layout.{rowAt, rowsOf, write};
-ghost use Rattle.rules.specs.Tables.{allTables, recordsLayout, soundRecords};
+ghost use Rattle.rules.specs.Tables.{allTables, recordsLayout, soundRecordRows};
 ghost use Rattle.rules.specs.Handle.{answeredBy};
 ghost use Rattle.soundness.specs.SoundTables.{SoundTables};
 ghost use Rattle.verdict.specs.Verdict.{verdictOf};
@@ -60,7 +60,7 @@ fn verdict(r: Record, giving: i64, series: i64) -> Verdict
 
 // Cancelled or refused sets the record back to status 0; the other steps leave it.
 fn restate(records: &mut [i64], row: usize, step: Step)
-    requires { ⌜ (soundRecords (now records) ≡ true) × (row < length (rowsOf recordsLayout (now records))) × (soundRecord (withStatus adjustable (rowAt recordsLayout (now records) row)) ≡ true) × (isOpening step ≡ false) ⌝ }
+    requires { ⌜ (soundRecordRows (now records) ≡ true) × (row < length (rowsOf recordsLayout (now records))) × (soundRecord (withStatus adjustable (rowAt recordsLayout (now records) row)) ≡ true) × (isOpening step ≡ false) ⌝ }
     ensures { λ done. ⌜ now (records .exit) ≡ write recordsLayout (now (records .entry)) (upsertAll recordKey (recordAfter step (rowAt recordsLayout (now (records .entry)) row)) (rowsOf recordsLayout (now (records .entry)))) ⌝ }
 {
     match step {

@@ -12,7 +12,7 @@ use Rattle.integers.specs.Order.{eqZ}
 use Rattle.integers.proofs.Linear.{zarith, abs-lin}
 use Rattle.rules.specs.Figures.{validSuffix, greatestOfSuffixes}
 use Rattle.rules.specs.Lineage.{Origin, oneMoreLink}
-use Rattle.rules.specs.Tables.{soundRecords}
+use Rattle.rules.specs.Tables.{soundRecordRows}
 use Rattle.rules.specs.declared.Record.{Record}
 use Rattle.soundness.proofs.FigureRanges.{suffix-range}
 use Rattle.verdict.proofs.Lineage.{origin-missing, origin-first, origin-parent}
@@ -55,7 +55,7 @@ module _ (rs : List ℤ) (id suffix : ℤ) where
     unfolding originFound tracedTo
     step-first z = sym (ap tracedTo (origin-first (recordsOfId rs id) (natAbs suffix) suffix r named z))
 
-    module _ (sound : soundRecords rs ≡ true) (z : eqZ suffix (pos 0) ≡ false) where
+    module _ (sound : soundRecordRows rs ≡ true) (z : eqZ suffix (pos 0) ≡ false) where
       onward : originFound rs id suffix ≡ tracedTo (oneMoreLink (originIn rs id (r .parent)))
       unfolding originFound
       onward = ap tracedTo (origin-parent (recordsOfId rs id) (descending rs sound id) suffix r named z)
@@ -76,7 +76,7 @@ module _ (rs : List ℤ) (id suffix : ℤ) where
 
 -- ---- how many links
 
-pub links-few : (rs : List ℤ) → soundRecords rs ≡ true → (id suffix price links : ℤ) → validSuffix suffix ≡ true → originFound rs id suffix ≡ From price links
+pub links-few : (rs : List ℤ) → soundRecordRows rs ≡ true → (id suffix price links : ℤ) → validSuffix suffix ≡ true → originFound rs id suffix ≡ From price links
     → (pos 0 ≤ℤ links) × (links ≤ℤ greatestOfSuffixes)
 links-few rs sound id suffix price links v e =
     let range : (pos 0 ≤ℤ links) × (links ≤ℤ suffix) = links-range rs sound id suffix (record { price = price; links = links }) v (found-from rs id suffix price links e) in

@@ -7,7 +7,7 @@ ghost use mathlib.Core.Bool.{true};
 ghost use mathlib.Core.List.{[]};
 ghost use Rattle.rules.specs.Figures.{validSuffix};
 ghost use Rattle.rules.specs.Request as Request;
-ghost use Rattle.rules.specs.Tables.{soundRecords, tablesOf};
+ghost use Rattle.rules.specs.Tables.{soundRecordRows, tablesOf};
 ghost use Rattle.rules.specs.Handle.{handle};
 ghost use Rattle.lineage.specs.Origin.{originFound};
 
@@ -19,7 +19,7 @@ pub enum Traced {
 
 // From a suffix to its parent, which is below it, until suffix 0.
 fn origin(records: &[i64], id: i64, suffix: i64) -> Traced
-    requires { ⌜ (soundRecords (now records) ≡ true) × (validSuffix suffix ≡ true) ⌝ }
+    requires { ⌜ (soundRecordRows (now records) ≡ true) × (validSuffix suffix ≡ true) ⌝ }
     ensures { λ r. ⌜ r ≡ originFound (now (records .entry)) id suffix ⌝ }
 {
     let Sought::Present(row, greatest, next) = records::look_up(records, id, suffix) else {

@@ -14,7 +14,7 @@ use Rattle.rules.specs.Reader.{stepOfLetter, stepHeading, takeStep, takeHeading
 use Rattle.rules.specs.declared.Step.{Step}
 use Rattle.rules.specs.declared.Step.the-variants.{Open, Claim, Cancel, Refuse, ApproveGiver, ApproveTaker}
 use Rattle.rules.specs.declared.Heading.{Heading}
-use Rattle.rules.specs.declared.Heading.the-variants.{Trade, Separation, Transfer, Merge, GiveUp}
+use Rattle.rules.specs.declared.Heading.the-variants.{Trade, Separation, Transfer, Merge, GiveUp, Day}
 use Rattle.lines.proofs.Chosen.{chosen, chosen-only}
 
 -- ---- written is taken
@@ -31,6 +31,7 @@ heading-taken (GiveUp Cancel) rest = refl
 heading-taken (GiveUp Refuse) rest = refl
 heading-taken (GiveUp ApproveGiver) rest = refl
 heading-taken (GiveUp ApproveTaker) rest = refl
+heading-taken Day rest = refl
 
 -- ---- taken is written
 
@@ -89,5 +90,8 @@ heading-written (b ∷ rest) t h =
     heading-tried b rest 83 Separation _ t refl h λ h.
     heading-tried b rest 65 Transfer _ t refl h λ h.
     heading-tried b rest 77 Merge _ t refl h λ h.
-    let (e, g) = chosen-only (eqb b 71) (takeStep rest) t h in
-    ap (λ (b : ℕ). b ∷ rest) (eqb-true b 71 e) ∙ give-up-written rest t g
+    step-or-day (chosen (eqb b 71) (takeStep rest) _ t h)
+  where
+    step-or-day : ((eqb b 71 ≡ true) × (takeStep rest ≡ some t)) ⊎ ((eqb b 71 ≡ false) × (cond (eqb b 68) (some (taken Day rest)) none ≡ some t)) → Written (b ∷ rest) t
+    step-or-day (inl g) = ap (λ (b : ℕ). b ∷ rest) (eqb-true b 71 (g .0)) ∙ give-up-written rest t (g .1)
+    step-or-day (inr g) = heading-tried b rest 68 Day none t refl (g .1) λ h. absurd (Option·none-ne-some t h)

@@ -19,13 +19,13 @@ use Rattle.rules.specs.Transfer.{transferFigures}
 use Rattle.rules.specs.Merge.{pairsOf, validPair, mergeFigures}
 use Rattle.rules.specs.GiveUp.{giveUpFigures}
 use Rattle.rules.specs.Refusal.{allOf}
-use Rattle.rules.specs.Request.{Request, trade, separate, transfer, merge, lineage, giveUp}
+use Rattle.rules.specs.Request.{Request, trade, separate, transfer, merge, lineage, giveUp, newDay}
 use Rattle.rules.specs.Line.{lineText, lineOf, isJournalled, passesTest3}
 use Rattle.rules.specs.Reader.{figureAt, mostFigures, hasItsFigures, requestNamed}
 use Rattle.rules.specs.declared.Heading.{Heading}
-use Rattle.rules.specs.declared.Heading.the-variants.{Trade, Separation, Transfer, Merge, GiveUp}
+use Rattle.rules.specs.declared.Heading.the-variants.{Trade, Separation, Transfer, Merge, GiveUp, Day}
 use Rattle.keys.proofs.Split.{and-left, and-right}
-use Rattle.lines.proofs.ShortFigures.{id-short, suffix-short, account-short, series-short, side-short, quantity-short, price-short, count-most, parts-short, pairs-short, pairs-count}
+use Rattle.lines.proofs.ShortFigures.{id-short, suffix-short, account-short, series-short, side-short, quantity-short, price-short, day-short, count-most, parts-short, pairs-short, pairs-count}
 
 -- ---- from a line to its request
 
@@ -52,6 +52,7 @@ named-written Separation f h = ap (lineText Separation) (by-place 4 0 f (drop 4 
 named-written Transfer f h = ap (lineText Transfer) (all-by-place 5 f h)
 named-written Merge f h = ap (lineText Merge) (by-place 3 0 f (drop 3 f) (leb-true 3 (length f) h) refl)
 named-written (GiveUp step) f h = ap (lineText (GiveUp step)) (all-by-place 6 f h)
+named-written Day f h = ap (lineText Day) (all-by-place 1 f h)
 
 pub named-journalled : (heading : Heading) (figures : List ℤ) → isJournalled (requestNamed heading figures) ≡ true
 unfolding requestNamed isJournalled
@@ -60,6 +61,7 @@ named-journalled Separation f = refl
 named-journalled Transfer f = refl
 named-journalled Merge f = refl
 named-journalled (GiveUp step) f = refl
+named-journalled Day f = refl
 
 -- ---- from a request to its line
 
@@ -148,3 +150,4 @@ its-line (giveUp step process id suffix giving taking series) j h =
         transfer-short id suffix giving taking series (and-right (validId process) (transferFigures id suffix giving taking series) h),
       );
     }
+its-line (newDay day) j h = record { heading = Day; figures = day ∷ []; written = refl; named = refl; has-its-figures = refl; few = omega arith; short = (day-short day h, tt) }

@@ -14,7 +14,7 @@ use Rattle.integers.proofs.Linear.{zarith, abs-lin}
 use Rattle.integers.proofs.Order.{inRange-true}
 use Rattle.integers.proofs.Products.{≤-natAbs}
 use Rattle.text.proofs.WrittenTaken.{AllShort}
-use Rattle.rules.specs.Figures.{magnitudeAtMost, validId, validSuffix, validAccount, validSeries, validSide, validQuantity, validPrice, validCount}
+use Rattle.rules.specs.Figures.{magnitudeAtMost, validId, validSuffix, validAccount, validSeries, validSide, validQuantity, validPrice, validDay, validCount}
 use Rattle.rules.specs.Merge.{pairsOf, validPair}
 use Rattle.rules.specs.Refusal.{allOf}
 use Rattle.keys.proofs.Split.{and-left, and-right}
@@ -54,6 +54,10 @@ unfolding validPrice magnitudeAtMost
 price-short z h =
     let (above, below) = inRange-true (negℤ (pos 1000000000000)) (pos 1000000000000) z h in
     omega (arith, ≤-natAbs z 1000000000000 above below)
+
+pub day-short : (z : ℤ) → validDay z ≡ true → natAbs z < 10 ^ 13
+unfolding validDay
+day-short z h = in-short-range 1 99999 z (omega arith) h
 
 -- ---- lists of figures
 

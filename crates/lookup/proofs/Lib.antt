@@ -11,4 +11,5 @@ pub mod RowBefore
 pub mod LookedUp
 pub mod TableLookup
 pub mod TableSought
+pub mod FirstRows
 pub mod KeysKept

@@ -173,7 +173,7 @@ fn row_by_distance(end: usize, greatest: i64, minor: i64) -> usize
 }
 
 // The row with a key among the first `end` rows. Tables that the book has made have an id's suffixes one by one, so the first look finds it; in others it is searched.
-fn find_by_distance(
+pub fn find_by_distance(
     cells: &[i64],
     header: usize,
     width: usize,

@@ -31,9 +31,9 @@ use Rattle.margin.specs.Margin.{marginOf, marginOfAll, MergeKeepsMargin}
 use Rattle.margin.proofs.OneSide.{margin-of-buy, margin-of-sell, margin-of-buys, margin-of-sells}
 
 -- The merged record and the residual of sources on one side have their margin.
-same-margin : (s id : ℤ) (rs : List Record) → anyOf (map (sideDiffers (firstOf rs)) rs) ≡ false → marginOfAll s rs ≡ marginOf s (mergedRecord id rs) +ℤ mergeResidual rs
+same-margin : (today s id : ℤ) (rs : List Record) → anyOf (map (sideDiffers (firstOf rs)) rs) ≡ false → marginOfAll s rs ≡ marginOf s (mergedRecord today id rs) +ℤ mergeResidual rs
 unfolding mergedRecord newRecord mergeResidual
-same-margin s id rs h = go (split (isBuy (firstOf rs .side)))
+same-margin today s id rs h = go (split (isBuy (firstOf rs .side)))
   where
     q : ℤ
     q = sumOfQuantities rs
@@ -41,15 +41,15 @@ same-margin s id rs h = go (split (isBuy (firstOf rs .side)))
     v : ℤ
     v = sumOfValues rs
 
-    go : (isBuy (firstOf rs .side) ≡ true) ⊎ (isBuy (firstOf rs .side) ≡ false) → marginOfAll s rs ≡ marginOf s (mergedRecord id rs) +ℤ mergeResidual rs
+    go : (isBuy (firstOf rs .side) ≡ true) ⊎ (isBuy (firstOf rs .side) ≡ false) → marginOfAll s rs ≡ marginOf s (mergedRecord today id rs) +ℤ mergeResidual rs
     go (inl e) =
         margin-of-buys s (firstOf rs) rs e h ∙ sym (margin-kept-buy s v q)
-        ∙ ap (λ (z : ℤ). z +ℤ residualOf true v q) (sym (margin-of-buy s (mergedRecord id rs) e))
-        ∙ ap (λ (t : Bool). marginOf s (mergedRecord id rs) +ℤ residualOf t v q) (sym e)
+        ∙ ap (λ (z : ℤ). z +ℤ residualOf true v q) (sym (margin-of-buy s (mergedRecord today id rs) e))
+        ∙ ap (λ (t : Bool). marginOf s (mergedRecord today id rs) +ℤ residualOf t v q) (sym e)
     go (inr e) =
         margin-of-sells s (firstOf rs) rs e h ∙ sym (margin-kept-sell s v q)
-        ∙ ap (λ (z : ℤ). z +ℤ residualOf false v q) (sym (margin-of-sell s (mergedRecord id rs) e))
-        ∙ ap (λ (t : Bool). marginOf s (mergedRecord id rs) +ℤ residualOf t v q) (sym e)
+        ∙ ap (λ (z : ℤ). z +ℤ residualOf false v q) (sym (margin-of-sell s (mergedRecord today id rs) e))
+        ∙ ap (λ (t : Bool). marginOf s (mergedRecord today id rs) +ℤ residualOf t v q) (sym e)
 
 -- A row that is put last is found at its key.
 found-last : (xs ys t : List Record) (r : Record) → find recordKey (recordKey r) (upsertAll recordKey (xs ++ (ys ++ (r ∷ []))) t) ≡ some r
@@ -70,11 +70,11 @@ merge-keeps-margin b id account series pairs accepted =
     let rs : List Record = recordsOf sources in
     let old : Position = readAt account series (b .positions) in
     record {
-      merged = mergedRecord id rs;
+      merged = mergedRecord (b .day) id rs;
       rows = pos (length sources) +ℤ pos 1;
       residual = mergeResidual rs;
-      stands = found-last (map adjustedRecord rs) (mergeInverses id [] sources) (b .records) (mergedRecord id rs);
+      stands = found-last (map adjustedRecord rs) (mergeInverses (b .day) id [] sources) (b .records) (mergedRecord (b .day) id rs);
       answered = refl;
       grown = ap (λ (p : Position). p .cash) (read-put account series (moved old (byResidual (mergeResidual rs))) (b .positions) (read-key account series (b .positions)));
-      kept = λ s. same-margin s id rs (merge-passed b id account series pairs accepted .sources-on-one-side);
+      kept = λ s. same-margin (b .day) s id rs (merge-passed b id account series pairs accepted .sources-on-one-side);
     }

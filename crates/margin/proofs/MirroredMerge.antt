@@ -46,9 +46,9 @@ first-side (r ∷ rest) = refl
 
 -- ---- the merge
 
-pub merged-mirrored : (id : ℤ) (rs : List Record) → mergedRecord id (map mirrored rs) ≡ mirrored (mergedRecord id rs)
+pub merged-mirrored : (today id : ℤ) (rs : List Record) → mergedRecord today id (map mirrored rs) ≡ mirrored (mergedRecord today id rs)
 unfolding mergedRecord newRecord mirrored
-merged-mirrored id rs =
+merged-mirrored today id rs =
     rw (first-account rs, first-series rs, first-side rs, value-negated rs, quantities-stay rs, average-negℤ (sumOfValues rs) (sumOfQuantities rs)) refl
 
 pub residual-mirrored : (rs : List Record) → mergeResidual (map mirrored rs) ≡ negℤ (mergeResidual rs)

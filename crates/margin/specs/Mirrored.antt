@@ -17,4 +17,5 @@ mirrored r = record {
   long = r .long;
   short = r .short;
   into = r .into;
+  day = r .day;
 }

@@ -24,7 +24,7 @@ ghost use Rattle.rules.specs.NamedRecord.{isElsewhere, isNotAdjustable};
 ghost use Rattle.rules.specs.Refusal.{anyOf};
 ghost use Rattle.rules.specs.Request as Request;
 ghost use Rattle.rules.specs.Layout.{rowsOf};
-ghost use Rattle.rules.specs.Tables.{recordsLayout, soundRecords, soundPositions};
+ghost use Rattle.rules.specs.Tables.{recordsLayout, soundRecordRows, soundRecords, soundPositions};
 ghost use Rattle.rules.specs.Handle.{answered};
 ghost use Rattle.rules.specs.Merge.{mergeFigures, pairsOf, closes, sideDiffers, firstOf};
 ghost use Rattle.requests.specs.KnownPosition.{KnownPosition};
@@ -54,7 +54,7 @@ pub fn verdict(
     rows: &mut [u16],
     suffixes: &mut [u16],
 ) -> Verdict
-    requires { ⌜ (soundRecords (now records) ≡ true) × (soundPositions (now positions) ≡ true) × KnownPosition (now positions) account series held × (1000 ≤ length (now rows)) × (1000 ≤ length (now suffixes)) ⌝ }
+    requires { ⌜ (soundRecordRows (now records) ≡ true) × (soundPositions (now positions) ≡ true) × KnownPosition (now positions) account series held × (1000 ≤ length (now rows)) × (1000 ≤ length (now suffixes)) ⌝ }
     ensures { λ r. ⌜ (r ≡ verdictOn (now (records .entry)) (now (positions .entry)) (Request.merge id account series (now (pairs .entry)))) × (r ≡ Accepted → rowsKnown (now (records .entry)) (now (pairs .entry)) (now (rows .exit))) ⌝ }
 {
     if !pairs::figures_valid(id, account, series, pairs) {
@@ -94,7 +94,7 @@ fn verdict_on_sources(
     rows: &[u16],
     suffixes: &[u16],
 ) -> Verdict
-    requires { ⌜ (soundRecords (now records) ≡ true) × (soundPositions (now positions) ≡ true) × KnownPosition (now positions) account series held × rowsKnown (now records) (now pairs) (now rows) × suffixesKnown (now records) (now pairs) (now suffixes) ⌝ }
+    requires { ⌜ (soundRecordRows (now records) ≡ true) × (soundPositions (now positions) ≡ true) × KnownPosition (now positions) account series held × rowsKnown (now records) (now pairs) (now rows) × suffixesKnown (now records) (now pairs) (now suffixes) ⌝ }
     requires { ⌜ (mergeFigures id account series (now pairs) ≡ true) × (greatest recordKey id (rowsOf recordsLayout (now records)) ≡ none) × (allFound (now records) (now pairs) ≡ true) ⌝ }
     ensures { λ r. ⌜ r ≡ verdictOn (now (records .entry)) (now (positions .entry)) (Request.merge id account series (now (pairs .entry))) ⌝ }
 {
@@ -150,7 +150,7 @@ fn verdict_on_sums(
     suffixes: &[u16],
     buy: bool,
 ) -> Verdict
-    requires { ⌜ (soundRecords (now records) ≡ true) × (soundPositions (now positions) ≡ true) × KnownPosition (now positions) account series held × rowsKnown (now records) (now pairs) (now rows) × suffixesKnown (now records) (now pairs) (now suffixes) ⌝ }
+    requires { ⌜ (soundRecordRows (now records) ≡ true) × (soundPositions (now positions) ≡ true) × KnownPosition (now positions) account series held × rowsKnown (now records) (now pairs) (now rows) × suffixesKnown (now records) (now pairs) (now suffixes) ⌝ }
     requires { ⌜ (mergeFigures id account series (now pairs) ≡ true) × (greatest recordKey id (rowsOf recordsLayout (now records)) ≡ none) × (allFound (now records) (now pairs) ≡ true) ⌝ }
     requires { ⌜ (anyOf (map (isElsewhere account series) (sourceRecords (now records) (now pairs))) ≡ false) × (anyOf (map isNotAdjustable (sourceRecords (now records) (now pairs))) ≡ false) × (anyOf (map closes (sourceRecords (now records) (now pairs))) ≡ false) ⌝ }
     requires { ⌜ (anyOf (repeatsFrom [] (pairsOf (now pairs))) ≡ false) × (anyOf (map (sideDiffers (firstOf (sourceRecords (now records) (now pairs)))) (sourceRecords (now records) (now pairs))) ≡ false) × (buy ≡ isBuy ((firstOf (sourceRecords (now records) (now pairs))) .side)) ⌝ }

@@ -21,7 +21,7 @@ ghost use Rattle.rules.specs.NamedRecord.{isNotAdjustable};
 ghost use Rattle.rules.specs.Refusal.{anyOf};
 ghost use Rattle.rules.specs.Plan.{suffixIsAbove};
 ghost use Rattle.rules.specs.Layout.{rowsOf};
-ghost use Rattle.rules.specs.Tables.{recordsLayout, soundRecords};
+ghost use Rattle.rules.specs.Tables.{recordsLayout, soundRecordRows};
 ghost use Rattle.rules.specs.Merge.{isMissing, sumOfQuantities, sumOfValues, mergeInverses};
 ghost use Rattle.merge_sources.specs.Sources.{sourcesIn, placeOf, failsTest, allFound, sourceRecords};
 ghost use Rattle.merge_sources.specs.Pairs.{pairAt};
@@ -30,7 +30,7 @@ ghost use Rattle.merge_sources.specs.declared.Place.the-variants.{Nowhere};
 
 // 5: the first source that has no record. Where there is none, the row of each is kept, and the greatest suffix of its id.
 pub fn locate(records: &[i64], pairs: &[i64], rows: &mut [u16], suffixes: &mut [u16]) -> Place
-    requires { ⌜ (soundRecords (now records) ≡ true) × (length (now pairs) ≤ 2 * length (now rows)) × (length (now pairs) ≤ 2 * length (now suffixes)) ⌝ }
+    requires { ⌜ (soundRecordRows (now records) ≡ true) × (length (now pairs) ≤ 2 * length (now rows)) × (length (now pairs) ≤ 2 * length (now suffixes)) ⌝ }
     ensures { λ r. ⌜ (r ≡ placeOf (map isMissing (sourcesIn (now (records .entry)) (now (pairs .entry))))) × (r ≡ Nowhere → rowsKnown (now (records .entry)) (now (pairs .entry)) (now (rows .exit)) × suffixesKnown (now (records .entry)) (now (pairs .entry)) (now (suffixes .exit))) ⌝ }
 {
     let count = pairs.len() / 2;
@@ -52,7 +52,7 @@ pub fn locate(records: &[i64], pairs: &[i64], rows: &mut [u16], suffixes: &mut [
 
 // The record of the source at a place, by its row.
 pub fn source_record(records: &[i64], pairs: &[i64], rows: &[u16], place: usize) -> Record
-    requires { ⌜ (soundRecords (now records) ≡ true) × rowsKnown (now records) (now pairs) (now rows) × (2 * place + 2 ≤ length (now pairs)) ⌝ }
+    requires { ⌜ (soundRecordRows (now records) ≡ true) × rowsKnown (now records) (now pairs) (now rows) × (2 * place + 2 ≤ length (now pairs)) ⌝ }
     ensures { λ r. ⌜ find recordKey (pairAt (now (pairs .entry)) place) (rowsOf recordsLayout (now (records .entry))) ≡ some r ⌝ }
 {
     records::read_record(records, rows[place] as usize)
@@ -87,7 +87,7 @@ pub fn first_failing(
     series: i64,
     buy: bool,
 ) -> Place
-    requires { ⌜ (soundRecords (now records) ≡ true) × rowsKnown (now records) (now pairs) (now rows) ⌝ }
+    requires { ⌜ (soundRecordRows (now records) ≡ true) × rowsKnown (now records) (now pairs) (now rows) ⌝ }
     ensures { λ r. ⌜ r ≡ placeOf (map (failsTest number account series buy) (sourceRecords (now (records .entry)) (now (pairs .entry)))) ⌝ }
 {
     let count = pairs.len() / 2;
@@ -109,7 +109,7 @@ pub fn first_failing(
 
 // Q.
 pub fn sum_of_quantities(records: &[i64], pairs: &[i64], rows: &[u16]) -> i64
-    requires { ⌜ (soundRecords (now records) ≡ true) × rowsKnown (now records) (now pairs) (now rows) × (allFound (now records) (now pairs) ≡ true) × (length (now pairs) ≤ 2000) ⌝ }
+    requires { ⌜ (soundRecordRows (now records) ≡ true) × rowsKnown (now records) (now pairs) (now rows) × (allFound (now records) (now pairs) ≡ true) × (length (now pairs) ≤ 2000) ⌝ }
     ensures { λ r. ⌜ r ≡ sumOfQuantities (sourceRecords (now (records .entry)) (now (pairs .entry))) ⌝ }
 {
     let count = pairs.len() / 2;
@@ -125,7 +125,7 @@ pub fn sum_of_quantities(records: &[i64], pairs: &[i64], rows: &[u16]) -> i64
 
 // V, once Q is known to be at most 1,000,000 and every quantity to be positive.
 pub fn sum_of_values(records: &[i64], pairs: &[i64], rows: &[u16]) -> i64
-    requires { ⌜ (soundRecords (now records) ≡ true) × rowsKnown (now records) (now pairs) (now rows) × (allFound (now records) (now pairs) ≡ true) × (length (now pairs) ≤ 2000) × (anyOf (map isNotAdjustable (sourceRecords (now records) (now pairs))) ≡ false) × (sumOfQuantities (sourceRecords (now records) (now pairs)) ≤ℤ pos mostQuantity) ⌝ }
+    requires { ⌜ (soundRecordRows (now records) ≡ true) × rowsKnown (now records) (now pairs) (now rows) × (allFound (now records) (now pairs) ≡ true) × (length (now pairs) ≤ 2000) × (anyOf (map isNotAdjustable (sourceRecords (now records) (now pairs))) ≡ false) × (sumOfQuantities (sourceRecords (now records) (now pairs)) ≤ℤ pos mostQuantity) ⌝ }
     ensures { λ r. ⌜ r ≡ sumOfValues (sourceRecords (now (records .entry)) (now (pairs .entry))) ⌝ }
 {
     let count = pairs.len() / 2;
@@ -141,8 +141,8 @@ pub fn sum_of_values(records: &[i64], pairs: &[i64], rows: &[u16]) -> i64
 
 // 13: whether an inverse would need a suffix above 65,535.
 pub fn suffix_above(records: &[i64], pairs: &[i64], suffixes: &[u16]) -> bool
-    requires { ⌜ (soundRecords (now records) ≡ true) × (length (now pairs) ≤ 2000) × suffixesKnown (now records) (now pairs) (now suffixes) ⌝ }
-    ensures { λ r. ⌜ r ≡ anyOf (map suffixIsAbove (mergeInverses (pos 0) [] (sourcesIn (now (records .entry)) (now (pairs .entry))))) ⌝ }
+    requires { ⌜ (soundRecordRows (now records) ≡ true) × (length (now pairs) ≤ 2000) × suffixesKnown (now records) (now pairs) (now suffixes) ⌝ }
+    ensures { λ r. ⌜ r ≡ anyOf (map suffixIsAbove (mergeInverses (pos 0) (pos 0) [] (sourcesIn (now (records .entry)) (now (pairs .entry))))) ⌝ }
 {
     let count = pairs.len() / 2;
     let mut i = 0;

@@ -13,7 +13,7 @@ use Rattle.rules.specs.Rows.{recordKey, soundRecord, adjustedRecord}
 use Rattle.rules.specs.NamedRecord.{noRecord, isNotAdjustable}
 use Rattle.rules.specs.Refusal.{anyOf}
 use Rattle.rules.specs.Layout.{rowAt, rowsOf, write}
-use Rattle.rules.specs.Tables.{recordsLayout, soundRecords}
+use Rattle.rules.specs.Tables.{recordsLayout, soundRecordRows}
 use Rattle.rules.specs.Merge.{pairsOf}
 use Rattle.rules.specs.declared.Record.{Record}
 use Rattle.cells.proofs.RowCells.{records-lawful}
@@ -39,10 +39,10 @@ pub record AdjustedSoFar (cells pairs now : List ℤ) (i : ℕ) : Type 0 where
   pub same-size : length now ≡ length cells
   pub put : now ≡ write recordsLayout cells (rowsAdjusted cells pairs i)
   pub rows-stand : (k : Key) → foundIn recordsLayout k now ≡ foundIn recordsLayout k cells
-  pub sound : soundRecords now ≡ true
+  pub sound : soundRecordRows now ≡ true
 
 module _ (cells pairs : List ℤ) where
-  pub adjusted-start : soundRecords cells ≡ true → AdjustedSoFar cells pairs cells 0
+  pub adjusted-start : soundRecordRows cells ≡ true → AdjustedSoFar cells pairs cells 0
   adjusted-start sound = record {
     within = omega arith;
     same-size = refl;
@@ -52,7 +52,7 @@ module _ (cells pairs : List ℤ) where
   }
 
   pub adjusted-end : (now : List ℤ) (i : ℕ) → length pairs / 2 ≤ i → AdjustedSoFar cells pairs now i →
-      (now ≡ write recordsLayout cells (upsertAll recordKey (map adjustedRecord (sourceRecords cells pairs)) (rowsOf recordsLayout cells))) × (soundRecords now ≡ true)
+      (now ≡ write recordsLayout cells (upsertAll recordKey (map adjustedRecord (sourceRecords cells pairs)) (rowsOf recordsLayout cells))) × (soundRecordRows now ≡ true)
   adjusted-end now i h a =
       (cells-at-last recordKey recordsLayout records-lawful cells (adjustedSources cells pairs) i now (omega (arith, adjusted-count cells pairs)) (a .put), a .sound)
 
@@ -84,7 +84,7 @@ module _ (cells pairs : List ℤ) where
         adjusted-sound source (record-sound source (find-all recordKey soundRecord (pairAt pairs i) (rowsOf recordsLayout now) source (records-known now (a .sound) .rows-sound) found-now))
         (adjustable-open (source .status) (source-adjustable cells pairs i h free))
 
-    pub adjust-ready : (soundRecords now ≡ true) × (row < length (rowsOf recordsLayout now)) × (soundRecord (adjustedRecord (rowAt recordsLayout now row)) ≡ true)
+    pub adjust-ready : (soundRecordRows now ≡ true) × (row < length (rowsOf recordsLayout now)) × (soundRecord (adjustedRecord (rowAt recordsLayout now row)) ≡ true)
     adjust-ready = (a .sound, row-within now pairs i row row-now, ap (λ (r : Record). soundRecord (adjustedRecord r)) same-record ∙ adjusted-stays)
 
     -- The record stands under its own key.
@@ -95,7 +95,7 @@ module _ (cells pairs : List ℤ) where
         ∙ found-now
 
     pub adjust-next : (next : List ℤ) → next ≡ write recordsLayout now (upsert recordKey (adjustedRecord (rowAt recordsLayout now row)) (rowsOf recordsLayout now)) →
-        soundRecords next ≡ true → length next ≡ length now → AdjustedSoFar cells pairs next (i + 1)
+        soundRecordRows next ≡ true → length next ≡ length now → AdjustedSoFar cells pairs next (i + 1)
     adjust-next next e sound size = record {
       within = omega arith;
       same-size = size ∙ a .same-size;

@@ -46,15 +46,15 @@ module _ (cells after pairs : List ℤ)
       ∙ ap (λ (ss : List Source). not (anyOf (map isMissing ss))) (sym (sources-map t (pairsOf pairs)))
       ∙ all
 
-  pub inverses-alike : (into : ℤ) → mergeInverses into [] (sourcesIn after pairs) ≡ mergeInverses into [] (sourcesIn cells pairs)
-  inverses-alike into =
-      ext-getD noRecord (mergeInverses into [] (sourcesIn after pairs)) (mergeInverses into [] (sourcesIn cells pairs))
+  pub inverses-alike : (today into : ℤ) → mergeInverses today into [] (sourcesIn after pairs) ≡ mergeInverses today into [] (sourcesIn cells pairs)
+  inverses-alike today into =
+      ext-getD noRecord (mergeInverses today into [] (sourcesIn after pairs)) (mergeInverses today into [] (sourcesIn cells pairs))
       (many after ∙ sym (many cells))
       (λ i h.
-      inverse-at into after pairs i noRecord (omega (arith, many after))
-      ∙ ap (λ (z : ℤ). inverseRecord (recordOf u (pairAt pairs i)) (z +ℤ timesEarlier pairs i) mergeKind (pos 0) (pos 0) into) (next-alike t u alike (pairAt pairs i .major))
-      ∙ inverse-alike t u alike (pairAt pairs i) _ mergeKind (pos 0) (pos 0) into
-      ∙ sym (inverse-at into cells pairs i noRecord (omega (arith, many after))))
+      inverse-at today into after pairs i noRecord (omega (arith, many after))
+      ∙ ap (λ (z : ℤ). inverseRecord today (recordOf u (pairAt pairs i)) (z +ℤ timesEarlier pairs i) mergeKind (pos 0) (pos 0) into) (next-alike t u alike (pairAt pairs i .major))
+      ∙ inverse-alike t u alike today (pairAt pairs i) _ mergeKind (pos 0) (pos 0) into
+      ∙ sym (inverse-at today into cells pairs i noRecord (omega (arith, many after))))
     where
-      many : (xs : List ℤ) → length (mergeInverses into [] (sourcesIn xs pairs)) ≡ length pairs / 2
-      many xs = inverse-count into [] (sourcesIn xs pairs) ∙ source-count xs pairs
+      many : (xs : List ℤ) → length (mergeInverses today into [] (sourcesIn xs pairs)) ≡ length pairs / 2
+      many xs = inverse-count today into [] (sourcesIn xs pairs) ∙ source-count xs pairs

@@ -53,51 +53,51 @@ next-with t r id m i e = go (split (eqZ id m))
         ∙ ap (λ (z : ℤ). n +ℤ z) (sym (cond-false (pos 1) (pos 0) h))
 
 -- The rows with the inverses of the first so many sources.
-abbrev pub rowsInverted : ℤ → List ℤ → List ℤ → ℕ → List Record
-rowsInverted into cells pairs i = upsertAll recordKey (take i (mergeInverses into [] (sourcesIn cells pairs))) (rowsOf recordsLayout cells)
+abbrev pub rowsInverted : (today into : ℤ) → List ℤ → List ℤ → ℕ → List Record
+rowsInverted today into cells pairs i = upsertAll recordKey (take i (mergeInverses today into [] (sourcesIn cells pairs))) (rowsOf recordsLayout cells)
 
-module _ (into : ℤ) (cells pairs : List ℤ) (all : allFound cells pairs ≡ true) where
+module _ (today into : ℤ) (cells pairs : List ℤ) (all : allFound cells pairs ≡ true) where
   abbrev rows : List Record
   rows = rowsOf recordsLayout cells
 
   abbrev soFar : ℕ → List Record
-  soFar = rowsInverted into cells pairs
+  soFar = rowsInverted today into cells pairs
 
   abbrev inverses : List Record
-  inverses = mergeInverses into [] (sourcesIn cells pairs)
+  inverses = mergeInverses today into [] (sourcesIn cells pairs)
 
   pub inverses-count : length inverses ≡ length pairs / 2
-  inverses-count = inverse-count into [] (sourcesIn cells pairs) ∙ source-count cells pairs
+  inverses-count = inverse-count today into [] (sourcesIn cells pairs) ∙ source-count cells pairs
 
   -- ---- the row at a place
 
-  pub inverse-id : (i : ℕ) → i < length pairs / 2 → inverseAt into rows pairs i .id ≡ pairAt pairs i .major
+  pub inverse-id : (i : ℕ) → i < length pairs / 2 → inverseAt today into rows pairs i .id ≡ pairAt pairs i .major
   unfolding inverseRecord
   inverse-id i h = ap (λ (k : Key). k .major) (source-key cells pairs all i h)
 
-  pub inverse-suffix : (i : ℕ) → inverseAt into rows pairs i .suffix ≡ nextOf rows (pairAt pairs i .major) +ℤ timesEarlier pairs i
+  pub inverse-suffix : (i : ℕ) → inverseAt today into rows pairs i .suffix ≡ nextOf rows (pairAt pairs i .major) +ℤ timesEarlier pairs i
   unfolding inverseRecord
   inverse-suffix i = refl
 
   -- Its key is absent at the start.
-  absent-first : (i : ℕ) → i < length pairs / 2 → find recordKey (recordKey (inverseAt into rows pairs i)) rows ≡ none
+  absent-first : (i : ℕ) → i < length pairs / 2 → find recordKey (recordKey (inverseAt today into rows pairs i)) rows ≡ none
   absent-first i h =
       let m : ℤ = pairAt pairs i .major in
       let low : pos 0 ≤ℤ timesEarlier pairs i = subst (λ (z : ℤ). pos 0 ≤ℤ z) (sym (times-earlier pairs i)) (times-range pairs i m .0) in
       let above : nextOf rows m ≤ℤ (nextOf rows m +ℤ timesEarlier pairs i) = omega (zarith, +-lin (nextOf rows m) (timesEarlier pairs i)) in
-      let reached : nextOf rows (inverseAt into rows pairs i .id) ≤ℤ inverseAt into rows pairs i .suffix =
+      let reached : nextOf rows (inverseAt today into rows pairs i .id) ≤ℤ inverseAt today into rows pairs i .suffix =
       rw (inverse-id i h, inverse-suffix i) above in
-      free-from-next rows (inverseAt into rows pairs i .id) (inverseAt into rows pairs i .suffix) reached
+      free-from-next rows (inverseAt today into rows pairs i .id) (inverseAt today into rows pairs i .suffix) reached
 
   -- ---- while they are inserted
 
   pub inverted-none : soFar 0 ≡ rows
   inverted-none = put-none recordKey inverses rows
 
-  pub inverted-more : (i : ℕ) → i < length pairs / 2 → soFar (i + 1) ≡ upsert recordKey (inverseAt into rows pairs i) (soFar i)
+  pub inverted-more : (i : ℕ) → i < length pairs / 2 → soFar (i + 1) ≡ upsert recordKey (inverseAt today into rows pairs i) (soFar i)
   inverted-more i h =
       put-one-more recordKey inverses rows i noRecord (omega (arith, inverses-count))
-      ∙ ap (λ (r : Record). upsert recordKey r (soFar i)) (inverse-at into cells pairs i noRecord h)
+      ∙ ap (λ (r : Record). upsert recordKey r (soFar i)) (inverse-at today into cells pairs i noRecord h)
 
   -- The next suffix of every id, and of the source's.
   next-so-far : (i : ℕ) (m : ℤ) → i ≤ length pairs / 2 → nextOf (soFar i) m ≡ nextOf rows m +ℤ timesIn (earlierIds pairs i) m
@@ -111,7 +111,7 @@ module _ (into : ℤ) (cells pairs : List ℤ) (all : allFound cells pairs ≡ t
       let times : ℤ = timesIn (earlierIds pairs i) m in
       let one : ℤ = cond (eqZ id m) (pos 1) (pos 0) in
       ap (λ (t : List Record). nextOf t m) (ap soFar (sym (add-one i)) ∙ inverted-more i here)
-      ∙ next-with (soFar i) (inverseAt into rows pairs i) id m (inverse-id i here)
+      ∙ next-with (soFar i) (inverseAt today into rows pairs i) id m (inverse-id i here)
       (inverse-suffix i ∙ ap (λ (z : ℤ). nextOf rows id +ℤ z) (times-earlier pairs i) ∙ sym (next-so-far i id (omega arith)))
       ∙ ap (λ (z : ℤ). z +ℤ one) (next-so-far i m (omega arith))
       ∙ omega (zarith, +-lin (n +ℤ times) one, +-lin n times, +-lin n (one +ℤ times), +-lin one times)
@@ -121,9 +121,9 @@ module _ (into : ℤ) (cells pairs : List ℤ) (all : allFound cells pairs ≡ t
     pub next-by-now : nextOf (soFar i) (pairAt pairs i .major) ≡ nextOf rows (pairAt pairs i .major) +ℤ timesEarlier pairs i
     next-by-now = next-so-far i (pairAt pairs i .major) (omega arith) ∙ ap (λ (z : ℤ). nextOf rows (pairAt pairs i .major) +ℤ z) (sym (times-earlier pairs i))
 
-    pub inverse-absent : find recordKey (recordKey (inverseAt into rows pairs i)) (soFar i) ≡ none
+    pub inverse-absent : find recordKey (recordKey (inverseAt today into rows pairs i)) (soFar i) ≡ none
     inverse-absent =
-        let r : Record = inverseAt into rows pairs i in
+        let r : Record = inverseAt today into rows pairs i in
         let id : ℤ = pairAt pairs i .major in
         free-from-next (soFar i) (r .id) (r .suffix)
         (rw (inverse-id i h) (subst (λ (z : ℤ). nextOf (soFar i) id ≤ℤ z) (next-by-now ∙ sym (inverse-suffix i)) (≤ℤ-refl (nextOf (soFar i) id))))
@@ -133,7 +133,7 @@ module _ (into : ℤ) (cells pairs : List ℤ) (all : allFound cells pairs ≡ t
         let lacks : Key → Bool = λ k. not (isSome (find recordKey k rows)) in
         find-upsertAll-other recordKey lacks (pairAt pairs i) (take i inverses) rows
         (only-first recordKey lacks inverses i noRecord (omega (arith, inverses-count))
-        (λ j k. ap (λ (r : Record). lacks (recordKey r)) (inverse-at into cells pairs j noRecord (omega arith))
+        (λ j k. ap (λ (r : Record). lacks (recordKey r)) (inverse-at today into cells pairs j noRecord (omega arith))
         ∙ ap (λ (o : Option Record). not (isSome o)) (absent-first j (omega arith)) ∙ ap not (isSome-none Record)))
         (ap (λ (o : Option Record). not (isSome o)) (source-found cells pairs i h all) ∙ ap not (isSome-some (recordOf rows (pairAt pairs i))))
         ∙ source-found cells pairs i h all
@@ -143,5 +143,5 @@ module _ (into : ℤ) (cells pairs : List ℤ) (all : allFound cells pairs ≡ t
   inverted-length (suc i) h =
       let again : length (soFar i) ≡ length rows + i = inverted-length i (omega arith) in
       ap (λ (t : List Record). length t) (ap soFar (sym (add-one i)) ∙ inverted-more i (omega arith))
-      ∙ upsert-adds recordKey (inverseAt into rows pairs i) (soFar i) (inverse-absent i (omega arith))
+      ∙ upsert-adds recordKey (inverseAt today into rows pairs i) (soFar i) (inverse-absent i (omega arith))
       ∙ omega arith

@@ -14,7 +14,7 @@ use Rattle.rules.specs.Rows.{recordKey, inverseRecord, soundRecord}
 use Rattle.rules.specs.NamedRecord.{noRecord}
 use Rattle.rules.specs.Refusal.{allOf}
 use Rattle.rules.specs.Layout.{roomOf, rowsOf, write}
-use Rattle.rules.specs.Tables.{recordsLayout, soundRecords}
+use Rattle.rules.specs.Tables.{recordsLayout, soundRecordRows}
 use Rattle.rules.specs.Merge.{pairsOf, mergeInverses}
 use Rattle.rules.specs.declared.Record.{Record}
 use Rattle.cells.proofs.Count.{room-by-length}
@@ -33,17 +33,17 @@ use Rattle.merge_sources.proofs.InTurn.{cells-at-first, cells-next, cel
 use Rattle.merge_sources.proofs.Inserting.{rowsInverted, inverses-count, next-by-now, found-by-now, inverted-length}
 
 -- The cells with the inverses of the first so many sources.
-pub record InvertedSoFar (into : ℤ) (cells pairs now : List ℤ) (i : ℕ) : Type 0 where
+pub record InvertedSoFar (today into : ℤ) (cells pairs now : List ℤ) (i : ℕ) : Type 0 where
   pub within : i ≤ length pairs / 2
   pub same-size : length now ≡ length cells
-  pub put : now ≡ write recordsLayout cells (rowsInverted into cells pairs i)
-  pub sound : soundRecords now ≡ true
+  pub put : now ≡ write recordsLayout cells (rowsInverted today into cells pairs i)
+  pub sound : soundRecordRows now ≡ true
 
-module _ (into : ℤ) (cells pairs : List ℤ) (all : allFound cells pairs ≡ true) where
+module _ (today into : ℤ) (cells pairs : List ℤ) (all : allFound cells pairs ≡ true) where
   abbrev inverses : List Record
-  inverses = mergeInverses into [] (sourcesIn cells pairs)
+  inverses = mergeInverses today into [] (sourcesIn cells pairs)
 
-  pub inverted-start : soundRecords cells ≡ true → InvertedSoFar into cells pairs cells 0
+  pub inverted-start : soundRecordRows cells ≡ true → InvertedSoFar today into cells pairs cells 0
   inverted-start sound = record {
     within = omega arith;
     same-size = refl;
@@ -51,55 +51,55 @@ module _ (into : ℤ) (cells pairs : List ℤ) (all : allFound cells pairs ≡ t
     sound = sound;
   }
 
-  pub inverted-end : (now : List ℤ) (i : ℕ) → length pairs / 2 ≤ i → InvertedSoFar into cells pairs now i →
-      (now ≡ write recordsLayout cells (upsertAll recordKey (mergeInverses into [] (sourcesIn cells pairs)) (rowsOf recordsLayout cells))) × (soundRecords now ≡ true)
+  pub inverted-end : (now : List ℤ) (i : ℕ) → length pairs / 2 ≤ i → InvertedSoFar today into cells pairs now i →
+      (now ≡ write recordsLayout cells (upsertAll recordKey (mergeInverses today into [] (sourcesIn cells pairs)) (rowsOf recordsLayout cells))) × (soundRecordRows now ≡ true)
   inverted-end now i h a =
-      (cells-at-last recordKey recordsLayout records-lawful cells inverses i now (omega (arith, inverses-count into cells pairs all)) (a .put), a .sound)
+      (cells-at-last recordKey recordsLayout records-lawful cells inverses i now (omega (arith, inverses-count today into cells pairs all)) (a .put), a .sound)
 
   -- ---- the next source
 
-  module _ (right : allOf (map soundRecord (mergeInverses into [] (sourcesIn cells pairs))) ≡ true)
+  module _ (right : allOf (map soundRecord (mergeInverses today into [] (sourcesIn cells pairs))) ≡ true)
       (room : length (rowsOf recordsLayout cells) + length (pairsOf pairs) ≤ roomOf recordsLayout cells)
-      (now : List ℤ) (i : ℕ) (a : InvertedSoFar into cells pairs now i) (h : i < length pairs / 2) where
+      (now : List ℤ) (i : ℕ) (a : InvertedSoFar today into cells pairs now i) (h : i < length pairs / 2) where
     headed : recordsLayout .header ≤ length cells
     headed = omega (arith, records-known now (a .sound) .header-within, a .same-size)
 
-    rows-now : rowsOf recordsLayout now ≡ rowsInverted into cells pairs i
-    rows-now = ap (λ (xs : List ℤ). rowsOf recordsLayout xs) (a .put) ∙ rows-write recordsLayout records-lawful cells (rowsInverted into cells pairs i) headed
+    rows-now : rowsOf recordsLayout now ≡ rowsInverted today into cells pairs i
+    rows-now = ap (λ (xs : List ℤ). rowsOf recordsLayout xs) (a .put) ∙ rows-write recordsLayout records-lawful cells (rowsInverted today into cells pairs i) headed
 
     found-now : find recordKey (pairAt pairs i) (rowsOf recordsLayout now) ≡ some (recordOf (rowsOf recordsLayout cells) (pairAt pairs i))
-    found-now = ap (λ (t : List Record). find recordKey (pairAt pairs i) t) rows-now ∙ found-by-now into cells pairs all i h
+    found-now = ap (λ (t : List Record). find recordKey (pairAt pairs i) t) rows-now ∙ found-by-now today into cells pairs all i h
 
-    same-inverse : inverseNamed now (pairAt pairs i) into ≡ getD inverses i noRecord
+    same-inverse : inverseNamed today now (pairAt pairs i) into ≡ getD inverses i noRecord
     same-inverse =
         let id : ℤ = pairAt pairs i .major in
-        ap (λ (z : ℤ). inverseRecord (recordNamed now (pairAt pairs i)) z mergeKind (pos 0) (pos 0) into)
-        (ap (λ (t : List Record). nextOf t id) rows-now ∙ next-by-now into cells pairs all i h)
-        ∙ ap (λ (r : Record). inverseRecord r (nextOf (rowsOf recordsLayout cells) id +ℤ timesEarlier pairs i) mergeKind (pos 0) (pos 0) into)
+        ap (λ (z : ℤ). inverseRecord today (recordNamed now (pairAt pairs i)) z mergeKind (pos 0) (pos 0) into)
+        (ap (λ (t : List Record). nextOf t id) rows-now ∙ next-by-now today into cells pairs all i h)
+        ∙ ap (λ (r : Record). inverseRecord today r (nextOf (rowsOf recordsLayout cells) id +ℤ timesEarlier pairs i) mergeKind (pos 0) (pos 0) into)
         (found-record (find recordKey (pairAt pairs i) (rowsOf recordsLayout now)) (recordOf (rowsOf recordsLayout cells) (pairAt pairs i)) found-now)
-        ∙ sym (inverse-at into cells pairs i noRecord h)
+        ∙ sym (inverse-at today into cells pairs i noRecord h)
 
     pub insert-found : isSome (find recordKey (pairAt pairs i) (rowsOf recordsLayout now)) ≡ true
     insert-found = ap (λ (o : Option Record). isSome o) found-now ∙ isSome-some (recordOf (rowsOf recordsLayout cells) (pairAt pairs i))
 
-    pub insert-sound : soundRecord (inverseNamed now (pairAt pairs i) into) ≡ true
+    pub insert-sound : soundRecord (inverseNamed today now (pairAt pairs i) into) ≡ true
     insert-sound =
         ap soundRecord same-inverse
-        ∙ sym (map-at soundRecord inverses i noRecord true (omega (arith, inverses-count into cells pairs all)))
-        ∙ all-hold (map soundRecord inverses) i (omega (arith, inverses-count into cells pairs all, length-map inverses soundRecord)) right
+        ∙ sym (map-at soundRecord inverses i noRecord true (omega (arith, inverses-count today into cells pairs all)))
+        ∙ all-hold (map soundRecord inverses) i (omega (arith, inverses-count today into cells pairs all, length-map inverses soundRecord)) right
 
     pub insert-room : length (rowsOf recordsLayout now) < roomOf recordsLayout now
     insert-room =
         let e : roomOf recordsLayout now ≡ roomOf recordsLayout cells = room-by-length recordsLayout now cells (a .same-size) in
-        omega (arith, ap (λ (t : List Record). length t) rows-now, inverted-length into cells pairs all i (a .within), pair-count pairs)
+        omega (arith, ap (λ (t : List Record). length t) rows-now, inverted-length today into cells pairs all i (a .within), pair-count pairs)
 
-    pub insert-next : (next : List ℤ) → next ≡ write recordsLayout now (upsert recordKey (inverseNamed now (pairAt pairs i) into) (rowsOf recordsLayout now)) →
-        soundRecords next ≡ true → length next ≡ length now → InvertedSoFar into cells pairs next (i + 1)
+    pub insert-next : (next : List ℤ) → next ≡ write recordsLayout now (upsert recordKey (inverseNamed today now (pairAt pairs i) into) (rowsOf recordsLayout now)) →
+        soundRecordRows next ≡ true → length next ≡ length now → InvertedSoFar today into cells pairs next (i + 1)
     insert-next next e sound size = record {
       within = omega arith;
       same-size = size ∙ a .same-size;
       put =
           e ∙ ap (λ (r : Record). write recordsLayout now (upsert recordKey r (rowsOf recordsLayout now))) same-inverse
-          ∙ cells-next recordKey recordsLayout records-lawful cells headed inverses i noRecord now (omega (arith, inverses-count into cells pairs all)) (a .put);
+          ∙ cells-next recordKey recordsLayout records-lawful cells headed inverses i noRecord now (omega (arith, inverses-count today into cells pairs all)) (a .put);
       sound = sound;
     }

@@ -24,73 +24,73 @@ use Rattle.merge_sources.specs.Pairs.{pairAt, earlierIds, timesEarlier}
 use Rattle.merge_sources.proofs.Threaded.{threaded, length-threaded, threaded-at}
 use Rattle.merge_sources.proofs.SourceList.{map-at, sourceOf, source-count, source-at}
 
-inverseOf : ℤ → List ℤ → Source → Record
-inverseOf into earlier s =
-    inverseRecord (theRecord (s .found)) (nextSuffix (s .greatest) +ℤ timesIn earlier (s .pair .major)) mergeKind (pos 0) (pos 0) into
+inverseOf : (today into : ℤ) → List ℤ → Source → Record
+inverseOf today into earlier s =
+    inverseRecord today (theRecord (s .found)) (nextSuffix (s .greatest) +ℤ timesIn earlier (s .pair .major)) mergeKind (pos 0) (pos 0) into
 
 abbrev idOf : Source → ℤ
 idOf s = s .pair .major
 
-inverses-threaded : (into : ℤ) (earlier : List ℤ) (sources : List Source) → mergeInverses into earlier sources ≡ threaded (inverseOf into) idOf earlier sources
+inverses-threaded : (today into : ℤ) (earlier : List ℤ) (sources : List Source) → mergeInverses today into earlier sources ≡ threaded (inverseOf today into) idOf earlier sources
 unfolding mergeInverses inverseOf
-inverses-threaded into earlier [] = refl
-inverses-threaded into earlier (s ∷ rest) = ap (λ (l : List Record). inverseOf into earlier s ∷ l) (inverses-threaded into (s .pair .major ∷ earlier) rest)
+inverses-threaded today into earlier [] = refl
+inverses-threaded today into earlier (s ∷ rest) = ap (λ (l : List Record). inverseOf today into earlier s ∷ l) (inverses-threaded today into (s .pair .major ∷ earlier) rest)
 
-pub inverse-count : (into : ℤ) (earlier : List ℤ) (sources : List Source) → length (mergeInverses into earlier sources) ≡ length sources
-inverse-count into earlier sources =
-    ap (λ (l : List Record). length l) (inverses-threaded into earlier sources) ∙ length-threaded (inverseOf into) idOf earlier sources
+pub inverse-count : (today into : ℤ) (earlier : List ℤ) (sources : List Source) → length (mergeInverses today into earlier sources) ≡ length sources
+inverse-count today into earlier sources =
+    ap (λ (l : List Record). length l) (inverses-threaded today into earlier sources) ∙ length-threaded (inverseOf today into) idOf earlier sources
 
 -- ---- at a place
 
 -- The inverse of the source at a place, by the rows of the table.
-abbrev pub inverseAt : ℤ → List Record → List ℤ → ℕ → Record
-inverseAt into rows pairs i =
-    inverseRecord (recordOf rows (pairAt pairs i)) (nextOf rows (pairAt pairs i .major) +ℤ timesEarlier pairs i) mergeKind (pos 0) (pos 0) into
+abbrev pub inverseAt : (today into : ℤ) → List Record → List ℤ → ℕ → Record
+inverseAt today into rows pairs i =
+    inverseRecord today (recordOf rows (pairAt pairs i)) (nextOf rows (pairAt pairs i .major) +ℤ timesEarlier pairs i) mergeKind (pos 0) (pos 0) into
 
-module _ (into : ℤ) (cells pairs : List ℤ) where
+module _ (today into : ℤ) (cells pairs : List ℤ) where
   pub inverse-at : (i : ℕ) (other : Record) → i < length pairs / 2 →
-      getD (mergeInverses into [] (sourcesIn cells pairs)) i other ≡ inverseAt into (rowsOf recordsLayout cells) pairs i
+      getD (mergeInverses today into [] (sourcesIn cells pairs)) i other ≡ inverseAt today into (rowsOf recordsLayout cells) pairs i
   unfolding earlierIds timesEarlier inverseOf
   inverse-at i other h =
       let s : Source = sourceOf (rowsOf recordsLayout cells) (pairAt pairs i) in
-      ap (λ (l : List Record). getD l i other) (inverses-threaded into [] (sourcesIn cells pairs))
-      ∙ threaded-at (inverseOf into) idOf (sourcesIn cells pairs) (earlierIds pairs) i s other
+      ap (λ (l : List Record). getD l i other) (inverses-threaded today into [] (sourcesIn cells pairs))
+      ∙ threaded-at (inverseOf today into) idOf (sourcesIn cells pairs) (earlierIds pairs) i s other
       (λ j k. ap (λ (x : Source). idOf x ∷ earlierIds pairs j) (sym (source-at cells pairs j (omega (arith, source-count cells pairs)) s)))
       (omega (arith, source-count cells pairs))
-      ∙ ap (λ (x : Source). inverseOf into (earlierIds pairs i) x) (source-at cells pairs i h s)
+      ∙ ap (λ (x : Source). inverseOf today into (earlierIds pairs i) x) (source-at cells pairs i h s)
 
 -- ---- test 13
 
-suffixes-alike : (into other : ℤ) (earlier : List ℤ) (sources : List Source) →
-    map suffixIsAbove (mergeInverses into earlier sources) ≡ map suffixIsAbove (mergeInverses other earlier sources)
+suffixes-alike : (today into today′ other : ℤ) (earlier : List ℤ) (sources : List Source) →
+    map suffixIsAbove (mergeInverses today into earlier sources) ≡ map suffixIsAbove (mergeInverses today′ other earlier sources)
 unfolding mergeInverses inverseRecord suffixIsAbove
-suffixes-alike into other earlier [] = refl
-suffixes-alike into other earlier (s ∷ rest) =
-    ap (λ (l : List Bool). ltZ greatestOfSuffixes (nextSuffix (s .greatest) +ℤ timesIn earlier (s .pair .major)) ∷ l) (suffixes-alike into other (s .pair .major ∷ earlier) rest)
+suffixes-alike today into today′ other earlier [] = refl
+suffixes-alike today into today′ other earlier (s ∷ rest) =
+    ap (λ (l : List Bool). ltZ greatestOfSuffixes (nextSuffix (s .greatest) +ℤ timesIn earlier (s .pair .major)) ∷ l) (suffixes-alike today into today′ other (s .pair .major ∷ earlier) rest)
 
 any-last : (rs : List Record) (last : Record) → suffixIsAbove last ≡ false → anyOf (map suffixIsAbove (rs ++ (last ∷ []))) ≡ anyOf (map suffixIsAbove rs)
 unfolding anyOf
 any-last [] last e = rw e
 any-last (r ∷ rest) last e = ap (λ (b : Bool). suffixIsAbove r || b) (any-last rest last e)
 
-merged-suffix : (id : ℤ) (rs : List Record) → suffixIsAbove (mergedRecord id rs) ≡ false
+merged-suffix : (today id : ℤ) (rs : List Record) → suffixIsAbove (mergedRecord today id rs) ≡ false
 unfolding mergedRecord newRecord suffixIsAbove
-merged-suffix id rs = refl
+merged-suffix today id rs = refl
 
-pub suffixes-above : (id : ℤ) (rs : List Record) (sources : List Source) →
-    anyOf (map suffixIsAbove (mergeInverses id [] sources ++ (mergedRecord id rs ∷ []))) ≡ anyOf (map suffixIsAbove (mergeInverses (pos 0) [] sources))
-suffixes-above id rs sources =
-    any-last (mergeInverses id [] sources) (mergedRecord id rs) (merged-suffix id rs) ∙ ap anyOf (suffixes-alike id (pos 0) [] sources)
+pub suffixes-above : (today id : ℤ) (rs : List Record) (sources : List Source) →
+    anyOf (map suffixIsAbove (mergeInverses today id [] sources ++ (mergedRecord today id rs ∷ []))) ≡ anyOf (map suffixIsAbove (mergeInverses (pos 0) (pos 0) [] sources))
+suffixes-above today id rs sources =
+    any-last (mergeInverses today id [] sources) (mergedRecord today id rs) (merged-suffix today id rs) ∙ ap anyOf (suffixes-alike today id (pos 0) (pos 0) [] sources)
 
-pub suffix-count : (cells pairs : List ℤ) → length (map suffixIsAbove (mergeInverses (pos 0) [] (sourcesIn cells pairs))) ≡ length pairs / 2
+pub suffix-count : (cells pairs : List ℤ) → length (map suffixIsAbove (mergeInverses (pos 0) (pos 0) [] (sourcesIn cells pairs))) ≡ length pairs / 2
 suffix-count cells pairs =
-    length-map (mergeInverses (pos 0) [] (sourcesIn cells pairs)) suffixIsAbove ∙ inverse-count (pos 0) [] (sourcesIn cells pairs) ∙ source-count cells pairs
+    length-map (mergeInverses (pos 0) (pos 0) [] (sourcesIn cells pairs)) suffixIsAbove ∙ inverse-count (pos 0) (pos 0) [] (sourcesIn cells pairs) ∙ source-count cells pairs
 
 pub suffix-at : (cells pairs : List ℤ) (i : ℕ) → i < length pairs / 2 →
-    getD (map suffixIsAbove (mergeInverses (pos 0) [] (sourcesIn cells pairs))) i false
+    getD (map suffixIsAbove (mergeInverses (pos 0) (pos 0) [] (sourcesIn cells pairs))) i false
     ≡ ltZ greatestOfSuffixes (nextOf (rowsOf recordsLayout cells) (pairAt pairs i .major) +ℤ timesEarlier pairs i)
 unfolding suffixIsAbove inverseRecord
 suffix-at cells pairs i h =
-    map-at suffixIsAbove (mergeInverses (pos 0) [] (sourcesIn cells pairs)) i noRecord false
-    (omega (arith, inverse-count (pos 0) [] (sourcesIn cells pairs), source-count cells pairs))
-    ∙ ap suffixIsAbove (inverse-at (pos 0) cells pairs i noRecord h)
+    map-at suffixIsAbove (mergeInverses (pos 0) (pos 0) [] (sourcesIn cells pairs)) i noRecord false
+    (omega (arith, inverse-count (pos 0) (pos 0) [] (sourcesIn cells pairs), source-count cells pairs))
+    ∙ ap suffixIsAbove (inverse-at (pos 0) (pos 0) cells pairs i noRecord h)

@@ -16,7 +16,7 @@ use Rattle.rules.specs.Books.{viewOf}
 use Rattle.rules.specs.Plan.{planReply, booked}
 use Rattle.rules.specs.Handle.{Answer, planOf, planTables, writtenBy, answered}
 use Rattle.rules.specs.Layout.{roomOf, rowsOf, write}
-use Rattle.rules.specs.Tables.{booksOf, writeBooks, recordsLayout, positionsLayout, soundRecords, tablesOf}
+use Rattle.rules.specs.Tables.{currentDay, booksOf, writeBooks, recordsLayout, positionsLayout, soundRecordRows, tablesOf}
 use Rattle.rules.specs.Merge.{Source, pairsOf, sourcesOf, recordsOf, mergeInverses, mergedRecord, mergeResidual, mergePlan}
 use Rattle.rules.specs.declared.Record.{Record}
 use Rattle.rules.specs.declared.Position.{Position}
@@ -71,10 +71,10 @@ module _ (rs : List ℤ) (id : ℤ) (pairs : List ℤ) where
   rows = rowsOf recordsLayout rs
 
   abbrev inverses : List Record
-  inverses = mergeInverses id [] (sourcesIn rs pairs)
+  inverses = mergeInverses (currentDay rs) id [] (sourcesIn rs pairs)
 
   abbrev merged : Record
-  merged = mergedRecord id (sourceRecords rs pairs)
+  merged = mergedRecord (currentDay rs) id (sourceRecords rs pairs)
 
   abbrev rowsOnce : List Record
   rowsOnce = upsertAll recordKey (adjustedSources rs pairs) rows
@@ -87,7 +87,7 @@ module _ (rs : List ℤ) (id : ℤ) (pairs : List ℤ) where
   sourcesAdjusted = write recordsLayout rs rowsOnce
 
   abbrev pub inversesInserted : List ℤ
-  inversesInserted = write recordsLayout sourcesAdjusted (upsertAll recordKey (mergeInverses id [] (sourcesIn sourcesAdjusted pairs)) (rowsOf recordsLayout sourcesAdjusted))
+  inversesInserted = write recordsLayout sourcesAdjusted (upsertAll recordKey (mergeInverses (currentDay rs) id [] (sourcesIn sourcesAdjusted pairs)) (rowsOf recordsLayout sourcesAdjusted))
 
   abbrev pub recordsMerged : List ℤ
   recordsMerged = write recordsLayout inversesInserted (upsert recordKey merged (rowsOf recordsLayout inversesInserted))
@@ -95,7 +95,7 @@ module _ (rs : List ℤ) (id : ℤ) (pairs : List ℤ) where
   rows-once : recordsLayout .header ≤ length rs → rowsOf recordsLayout sourcesAdjusted ≡ rowsOnce
   rows-once headed = rows-write recordsLayout records-lawful rs rowsOnce headed
 
-module _ (rs ps : List ℤ) (id account series : ℤ) (pairs : List ℤ) (sound : soundRecords rs ≡ true)
+module _ (rs ps : List ℤ) (id account series : ℤ) (pairs : List ℤ) (sound : soundRecordRows rs ≡ true)
     (facts : MergeFacts rs ps id account series pairs (sourcesIn rs pairs)) where
   pub all-found : allFound rs pairs ≡ true
   all-found = ap not (facts .passed .sources-found)
@@ -128,20 +128,20 @@ module _ (rs ps : List ℤ) (id account series : ℤ) (pairs : List ℤ) (sound 
   pub found-adjusted : allFound (sourcesAdjusted rs id pairs) pairs ≡ true
   found-adjusted = found-alike rs (sourcesAdjusted rs id pairs) pairs alike all-found
 
-  same-inverses : mergeInverses id [] (sourcesIn (sourcesAdjusted rs id pairs) pairs) ≡ mergeInverses id [] (sourcesIn rs pairs)
-  same-inverses = inverses-alike rs (sourcesAdjusted rs id pairs) pairs alike id
+  same-inverses : mergeInverses (currentDay rs) id [] (sourcesIn (sourcesAdjusted rs id pairs) pairs) ≡ mergeInverses (currentDay rs) id [] (sourcesIn rs pairs)
+  same-inverses = inverses-alike rs (sourcesAdjusted rs id pairs) pairs alike (currentDay rs) id
 
-  pub inverses-sound : allOf (map soundRecord (mergeInverses id [] (sourcesIn (sourcesAdjusted rs id pairs) pairs))) ≡ true
+  pub inverses-sound : allOf (map soundRecord (mergeInverses (currentDay rs) id [] (sourcesIn (sourcesAdjusted rs id pairs) pairs))) ≡ true
   inverses-sound =
       ap (λ (l : List Record). allOf (map soundRecord l)) same-inverses
-      ∙ first-all (mergeInverses id [] (sourcesIn rs pairs)) (merged rs id pairs ∷ []) (facts .added-sound)
+      ∙ first-all (mergeInverses (currentDay rs) id [] (sourcesIn rs pairs)) (merged rs id pairs ∷ []) (facts .added-sound)
 
-  many : length (mergeInverses id [] (sourcesIn rs pairs)) ≡ length pairs / 2
-  many = inverse-count id [] (sourcesIn rs pairs) ∙ source-count rs pairs
+  many : length (mergeInverses (currentDay rs) id [] (sourcesIn rs pairs)) ≡ length pairs / 2
+  many = inverse-count (currentDay rs) id [] (sourcesIn rs pairs) ∙ source-count rs pairs
 
   pub inverses-room : length (rowsOf recordsLayout (sourcesAdjusted rs id pairs)) + length (pairsOf pairs) ≤ roomOf recordsLayout (sourcesAdjusted rs id pairs)
   inverses-room =
-      let room : length (rowsOf recordsLayout rs) + length (rowsAdded id (sourcesIn rs pairs)) ≤ roomOf recordsLayout rs = facts .records-room in
+      let room : length (rowsOf recordsLayout rs) + length (rowsAdded (currentDay rs) id (sourcesIn rs pairs)) ≤ roomOf recordsLayout rs = facts .records-room in
       omega (
         arith,
         once-length,
@@ -149,7 +149,7 @@ module _ (rs ps : List ℤ) (id account series : ℤ) (pairs : List ℤ) (sound 
         ap (λ (t : List Record). length t) (rows-once rs id pairs headed),
         pair-count pairs,
         many,
-        length-append (mergeInverses id [] (sourcesIn rs pairs)) (merged rs id pairs ∷ []),
+        length-append (mergeInverses (currentDay rs) id [] (sourcesIn rs pairs)) (merged rs id pairs ∷ []),
       )
 
   -- ---- the inverses inserted
@@ -157,40 +157,40 @@ module _ (rs ps : List ℤ) (id account series : ℤ) (pairs : List ℤ) (sound 
   rows-twice : rowsOf recordsLayout (inversesInserted rs id pairs) ≡ rowsTwice rs id pairs
   rows-twice =
       rows-write recordsLayout records-lawful (sourcesAdjusted rs id pairs)
-      (upsertAll recordKey (mergeInverses id [] (sourcesIn (sourcesAdjusted rs id pairs) pairs)) (rowsOf recordsLayout (sourcesAdjusted rs id pairs)))
+      (upsertAll recordKey (mergeInverses (currentDay rs) id [] (sourcesIn (sourcesAdjusted rs id pairs) pairs)) (rowsOf recordsLayout (sourcesAdjusted rs id pairs)))
       headed-once
       ∙ ap (λ (l : List Record). upsertAll recordKey l (rowsOf recordsLayout (sourcesAdjusted rs id pairs))) same-inverses
-      ∙ ap (λ (t : List Record). upsertAll recordKey (mergeInverses id [] (sourcesIn rs pairs)) t) (rows-once rs id pairs headed)
+      ∙ ap (λ (t : List Record). upsertAll recordKey (mergeInverses (currentDay rs) id [] (sourcesIn rs pairs)) t) (rows-once rs id pairs headed)
 
-  lacks-once : lacksAll recordKey (rowsOnce rs id pairs) (rowsAdded id (sourcesIn rs pairs)) ≡ true
-  lacks-once = lacksAll-upsertAll recordKey (adjustedSources rs pairs) (rowsAdded id (sourcesIn rs pairs)) (rowsOf recordsLayout rs) (facts .changed-present) (facts .added-absent)
+  lacks-once : lacksAll recordKey (rowsOnce rs id pairs) (rowsAdded (currentDay rs) id (sourcesIn rs pairs)) ≡ true
+  lacks-once = lacksAll-upsertAll recordKey (adjustedSources rs pairs) (rowsAdded (currentDay rs) id (sourcesIn rs pairs)) (rowsOf recordsLayout rs) (facts .changed-present) (facts .added-absent)
 
   pub merged-absent : find recordKey (recordKey (merged rs id pairs)) (rowsOf recordsLayout (inversesInserted rs id pairs)) ≡ none
   merged-absent =
       ap (λ (t : List Record). find recordKey (recordKey (merged rs id pairs)) t) rows-twice
-      ∙ last-absent (mergeInverses id [] (sourcesIn rs pairs)) (rowsOnce rs id pairs) (merged rs id pairs) (facts .added-distinct) lacks-once
+      ∙ last-absent (mergeInverses (currentDay rs) id [] (sourcesIn rs pairs)) (rowsOnce rs id pairs) (merged rs id pairs) (facts .added-distinct) lacks-once
 
   pub merged-sound : soundRecord (merged rs id pairs) ≡ true
-  merged-sound = allOf-head (soundRecord (merged rs id pairs)) [] (last-all (mergeInverses id [] (sourcesIn rs pairs)) (merged rs id pairs ∷ []) (facts .added-sound))
+  merged-sound = allOf-head (soundRecord (merged rs id pairs)) [] (last-all (mergeInverses (currentDay rs) id [] (sourcesIn rs pairs)) (merged rs id pairs ∷ []) (facts .added-sound))
 
   twice-length : length (rowsOf recordsLayout (inversesInserted rs id pairs)) ≡ length (rowsOf recordsLayout rs) + length pairs / 2
   twice-length =
       let cells : List ℤ = sourcesAdjusted rs id pairs in
-      let new : List Record = mergeInverses id [] (sourcesIn cells pairs) in
+      let new : List Record = mergeInverses (currentDay rs) id [] (sourcesIn cells pairs) in
       ap (λ (t : List Record). length t)
       (rows-write recordsLayout records-lawful cells (upsertAll recordKey new (rowsOf recordsLayout cells)) headed-once
       ∙ sym (put-all recordKey new (rowsOf recordsLayout cells) (length pairs / 2) (omega (arith, ap (λ (l : List Record). length l) same-inverses, many))))
-      ∙ inverted-length id cells pairs found-adjusted (length pairs / 2) (omega arith)
+      ∙ inverted-length (currentDay rs) id cells pairs found-adjusted (length pairs / 2) (omega arith)
       ∙ ap (λ (n : ℕ). n + length pairs / 2) (ap (λ (t : List Record). length t) (rows-once rs id pairs headed) ∙ once-length)
 
   pub merged-room : length (rowsOf recordsLayout (inversesInserted rs id pairs)) < roomOf recordsLayout (inversesInserted rs id pairs)
   merged-room =
       let cells : List ℤ = sourcesAdjusted rs id pairs in
-      let put : List Record = upsertAll recordKey (mergeInverses id [] (sourcesIn cells pairs)) (rowsOf recordsLayout cells) in
-      let room : length (rowsOf recordsLayout rs) + length (rowsAdded id (sourcesIn rs pairs)) ≤ roomOf recordsLayout rs = facts .records-room in
+      let put : List Record = upsertAll recordKey (mergeInverses (currentDay rs) id [] (sourcesIn cells pairs)) (rowsOf recordsLayout cells) in
+      let room : length (rowsOf recordsLayout rs) + length (rowsAdded (currentDay rs) id (sourcesIn rs pairs)) ≤ roomOf recordsLayout rs = facts .records-room in
       let fit : length (rowsOf recordsLayout rs) ≤ roomOf recordsLayout rs = known .rows-fit in
-      let added : length (rowsAdded id (sourcesIn rs pairs)) ≡ length pairs / 2 + 1 =
-      omega (arith, length-append (mergeInverses id [] (sourcesIn rs pairs)) (merged rs id pairs ∷ []), many) in
+      let added : length (rowsAdded (currentDay rs) id (sourcesIn rs pairs)) ≡ length pairs / 2 + 1 =
+      omega (arith, length-append (mergeInverses (currentDay rs) id [] (sourcesIn rs pairs)) (merged rs id pairs ∷ []), many) in
       let put-length : length put ≡ length (rowsOf recordsLayout rs) + length pairs / 2 =
       ap (λ (t : List Record). length t) (sym (rows-write recordsLayout records-lawful cells put headed-once)) ∙ twice-length in
       let same-room : roomOf recordsLayout (inversesInserted rs id pairs) ≡ roomOf recordsLayout cells =
@@ -199,7 +199,7 @@ module _ (rs ps : List ℤ) (id account series : ℤ) (pairs : List ℤ) (sound 
 
   -- ---- the merged row inserted
 
-  records-merged : recordsMerged rs id pairs ≡ write recordsLayout rs (upsertAll recordKey (adjustedSources rs pairs ++ rowsAdded id (sourcesIn rs pairs)) (rowsOf recordsLayout rs))
+  records-merged : recordsMerged rs id pairs ≡ write recordsLayout rs (upsertAll recordKey (adjustedSources rs pairs ++ rowsAdded (currentDay rs) id (sourcesIn rs pairs)) (rowsOf recordsLayout rs))
   records-merged =
       let cells : List ℤ = sourcesAdjusted rs id pairs in
       let once : List Record = rowsOnce rs id pairs in
@@ -207,16 +207,16 @@ module _ (rs ps : List ℤ) (id account series : ℤ) (pairs : List ℤ) (sound 
       let last : Record = merged rs id pairs in
       let inserted : inversesInserted rs id pairs ≡ write recordsLayout cells twice =
       ap (λ (t : List Record). write recordsLayout cells t)
-      (sym (rows-write recordsLayout records-lawful cells (upsertAll recordKey (mergeInverses id [] (sourcesIn cells pairs)) (rowsOf recordsLayout cells)) headed-once) ∙ rows-twice) in
+      (sym (rows-write recordsLayout records-lawful cells (upsertAll recordKey (mergeInverses (currentDay rs) id [] (sourcesIn cells pairs)) (rowsOf recordsLayout cells)) headed-once) ∙ rows-twice) in
       ap (λ (t : List Record). write recordsLayout (inversesInserted rs id pairs) (upsert recordKey last t)) rows-twice
       ∙ ap (λ (xs : List ℤ). write recordsLayout xs (upsert recordKey last twice)) inserted
       ∙ write-write recordsLayout records-lawful cells twice (upsert recordKey last twice) headed-once (upsert-longer recordKey last twice)
       ∙ write-write recordsLayout records-lawful rs once (upsert recordKey last twice) headed
-      (omega (arith, upsertAll-longer recordKey (mergeInverses id [] (sourcesIn rs pairs)) once, upsert-longer recordKey last twice))
+      (omega (arith, upsertAll-longer recordKey (mergeInverses (currentDay rs) id [] (sourcesIn rs pairs)) once, upsert-longer recordKey last twice))
       ∙ ap (λ (t : List Record). write recordsLayout rs t)
       (sym
-      (upsertAll-append recordKey (adjustedSources rs pairs) (rowsAdded id (sourcesIn rs pairs)) (rowsOf recordsLayout rs)
-      ∙ upsertAll-append recordKey (mergeInverses id [] (sourcesIn rs pairs)) (last ∷ []) once
+      (upsertAll-append recordKey (adjustedSources rs pairs) (rowsAdded (currentDay rs) id (sourcesIn rs pairs)) (rowsOf recordsLayout rs)
+      ∙ upsertAll-append recordKey (mergeInverses (currentDay rs) id [] (sourcesIn rs pairs)) (last ∷ []) once
       ∙ upsertAll-cons recordKey last [] twice
       ∙ upsertAll-nil recordKey (upsert recordKey last twice)))
 
@@ -226,7 +226,7 @@ module _ (rs ps : List ℤ) (id account series : ℤ) (pairs : List ℤ) (sound 
   abbrev ruled : List Source → Answer
   ruled sources =
       answered (Booked (pos (length sources) +ℤ pos 1) (mergeResidual (recordsOf sources)))
-      (write recordsLayout rs (upsertAll recordKey (map adjustedRecord (recordsOf sources) ++ rowsAdded id sources) (rowsOf recordsLayout rs)))
+      (write recordsLayout rs (upsertAll recordKey (map adjustedRecord (recordsOf sources) ++ rowsAdded (currentDay rs) id sources) (rowsOf recordsLayout rs)))
       (write positionsLayout ps (upsertAll positionKey (mergePosition ps account series (recordsOf sources) ∷ []) (rowsOf positionsLayout ps)))
 
   ruled-accepted : acceptedOn rs ps (merge id account series pairs) ≡ ruled (sourcesOf (viewOf (booksOf (tablesOf rs ps))) (pairsOf pairs))

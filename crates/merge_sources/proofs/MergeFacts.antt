@@ -17,7 +17,7 @@ use Rattle.rules.specs.Request.{merge}
 use Rattle.rules.specs.Books.{Books, viewOf}
 use Rattle.rules.specs.Handle.{planOf}
 use Rattle.rules.specs.Layout.{roomOf, rowsOf}
-use Rattle.rules.specs.Tables.{booksOf, recordsLayout, positionsLayout, soundRecords, soundPositions, tablesOf}
+use Rattle.rules.specs.Tables.{currentDay, booksOf, recordsLayout, positionsLayout, soundRecords, soundPositions, tablesOf}
 use Rattle.rules.specs.Merge.{Source, pairsOf, validPair, mergeFigures, sourcesOf, recordsOf, mergeInverses, mergedRecord, mergePlan}
 use Rattle.rules.specs.declared.Record.{Record}
 use Rattle.keys.proofs.Split.{and-left, and-right}
@@ -56,16 +56,16 @@ figures-count id account series pairs h =
 -- ---- acceptance
 
 -- The rows that a merge of these sources adds.
-abbrev pub rowsAdded : ℤ → List Source → List Record
-rowsAdded id sources = mergeInverses id [] sources ++ (mergedRecord id (recordsOf sources) ∷ [])
+abbrev pub rowsAdded : (today id : ℤ) → List Source → List Record
+rowsAdded today id sources = mergeInverses today id [] sources ++ (mergedRecord today id (recordsOf sources) ∷ [])
 
 pub record MergeFacts (rs ps : List ℤ) (id account series : ℤ) (pairs : List ℤ) (sources : List Source) : Type 0 where
   pub passed : MergePassed id account series pairs (greatest recordKey id (rowsOf recordsLayout rs)) sources
   pub changed-present : hasAll recordKey (rowsOf recordsLayout rs) (map adjustedRecord (recordsOf sources)) ≡ true
-  pub added-absent : lacksAll recordKey (rowsOf recordsLayout rs) (rowsAdded id sources) ≡ true
-  pub added-distinct : distinct recordKey (rowsAdded id sources) ≡ true
-  pub added-sound : allOf (map soundRecord (rowsAdded id sources)) ≡ true
-  pub records-room : length (rowsOf recordsLayout rs) + length (rowsAdded id sources) ≤ roomOf recordsLayout rs
+  pub added-absent : lacksAll recordKey (rowsOf recordsLayout rs) (rowsAdded (currentDay rs) id sources) ≡ true
+  pub added-distinct : distinct recordKey (rowsAdded (currentDay rs) id sources) ≡ true
+  pub added-sound : allOf (map soundRecord (rowsAdded (currentDay rs) id sources)) ≡ true
+  pub records-room : length (rowsOf recordsLayout rs) + length (rowsAdded (currentDay rs) id sources) ≤ roomOf recordsLayout rs
   pub positions-room : length (rowsOf positionsLayout ps) + absentFrom positionKey (rowsOf positionsLayout ps) (mergePosition ps account series (recordsOf sources) ∷ []) ≤ roomOf positionsLayout ps
   pub position-sound : soundPosition (mergePosition ps account series (recordsOf sources)) ≡ true
 

@@ -18,7 +18,7 @@ use Rattle.rules.specs.Books.{viewOf}
 use Rattle.rules.specs.Plan.{planTests, bookingTests, processRoomTest, suffixIsAbove}
 use Rattle.rules.specs.Merge.{pairsOf, mergeFigures, isMissing, statusOfEach, closes, firstOf, sideDiffers, sumOfQuantities, mergeInverses, mergedRecord, mergeResidual, mergePlan}
 use Rattle.rules.specs.Layout.{roomOf, rowsOf}
-use Rattle.rules.specs.Tables.{booksOf, recordsLayout, positionsLayout}
+use Rattle.rules.specs.Tables.{currentDay, booksOf, recordsLayout, positionsLayout}
 use Rattle.rules.specs.Handle.{planOf}
 use Rattle.rules.specs.declared.Record.{Record}
 use Rattle.rules.specs.declared.Position.{Position}
@@ -50,7 +50,7 @@ module _ (rs ps : List ℤ) (id account series : ℤ) (pairs : List ℤ) where
       ∷ rowEach 9 (repeatsFrom [] (pairsOf pairs))
       ∷ rowEach 10 (map (sideDiffers (firstOf theRecords)) theRecords)
       ∷ row 11 (ltZ (pos mostQuantity) (sumOfQuantities theRecords))
-      ∷ row 13 (anyOf (map suffixIsAbove (mergeInverses (pos 0) [] (sourcesIn rs pairs))))
+      ∷ row 13 (anyOf (map suffixIsAbove (mergeInverses (pos 0) (pos 0) [] (sourcesIn rs pairs))))
       ∷ row 14 (ltb (roomOf recordsLayout rs) (length (rowsOf recordsLayout rs) + (length pairs / 2 + 1)))
       ∷ row 15 (ltb (roomOf positionsLayout ps) (length (rowsOf positionsLayout ps) + absentPosition ps account series))
       ∷ row 16 (not (soundPosition (mergePosition ps account series theRecords)))
@@ -60,11 +60,11 @@ module _ (rs ps : List ℤ) (id account series : ℤ) (pairs : List ℤ) where
   abbrev pub MergeFrom : ℕ → Type 0
   MergeFrom n = Remaining (verdictOn rs ps (merge id account series pairs)) (fromTest n mergeTests)
 
-  added-count : length (mergeInverses id [] (sourcesIn rs pairs) ++ (mergedRecord id theRecords ∷ [])) ≡ length pairs / 2 + 1
+  added-count : length (mergeInverses (currentDay rs) id [] (sourcesIn rs pairs) ++ (mergedRecord (currentDay rs) id theRecords ∷ [])) ≡ length pairs / 2 + 1
   added-count =
       omega
-      (arith, length-append (mergeInverses id [] (sourcesIn rs pairs)) (mergedRecord id theRecords ∷ []), inverse-count id [] (sourcesIn rs pairs), source-count rs pairs)
+      (arith, length-append (mergeInverses (currentDay rs) id [] (sourcesIn rs pairs)) (mergedRecord (currentDay rs) id theRecords ∷ []), inverse-count (currentDay rs) id [] (sourcesIn rs pairs), source-count rs pairs)
 
   pub merge-tests : MergeFrom 3
   unfolding verdictOn planOf mergePlan viewOf booksOf planTests bookingTests processRoomTest statusOfEach allOf test testEach
-  merge-tests = record { is = rw (← sources-in-books rs pairs ps, sources-stood-earlier, suffixes-above id theRecords (sourcesIn rs pairs), added-count, absent-one, and-true) }
+  merge-tests = record { is = rw (← sources-in-books rs pairs ps, sources-stood-earlier, suffixes-above (currentDay rs) id theRecords (sourcesIn rs pairs), added-count, absent-one, and-true) }

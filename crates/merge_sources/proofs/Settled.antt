@@ -132,6 +132,6 @@ module _ (t u : List Record) (alike : (k : Key) → settled (find recordKey k u)
   record-alike k = settled-record (find recordKey k u) ∙ ap settledRecord (alike k) ∙ sym (settled-record (find recordKey k t))
 
   -- An inverse does not show the status of the record that it inverts.
-  pub inverse-alike : (k : Key) (suffix kind long short into : ℤ) → inverseRecord (recordOf u k) suffix kind long short into ≡ inverseRecord (recordOf t k) suffix kind long short into
+  pub inverse-alike : (today : ℤ) (k : Key) (suffix kind long short into : ℤ) → inverseRecord today (recordOf u k) suffix kind long short into ≡ inverseRecord today (recordOf t k) suffix kind long short into
   unfolding inverseRecord adjustedRecord
-  inverse-alike k suffix kind long short into = ap (λ (r : Record). inverseRecord r suffix kind long short into) (record-alike k)
+  inverse-alike today k suffix kind long short into = ap (λ (r : Record). inverseRecord today r suffix kind long short into) (record-alike k)

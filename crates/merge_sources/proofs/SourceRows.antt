@@ -13,7 +13,7 @@ use lib.Seq.{getD-set-same, getD-set-other}
 use Rattle.rules.specs.Keyed.{find, greatest}
 use Rattle.rules.specs.Rows.{recordKey}
 use Rattle.rules.specs.Layout.{rowsOf, rowAt}
-use Rattle.rules.specs.Tables.{recordsLayout, soundRecords}
+use Rattle.rules.specs.Tables.{recordsLayout, soundRecordRows}
 use Rattle.cells.proofs.Count.{room-most}
 use Rattle.cells.proofs.SoundCells.{records-known}
 use Rattle.lookup.specs.Lookup.{foundIn}
@@ -64,7 +64,7 @@ module _ (cells pairs : List ℤ) where
     pub row-record : find recordKey (pairAt pairs place) (rowsOf recordsLayout cells) ≡ some (rowAt recordsLayout cells row)
     row-record = table-found recordsLayout recordKey records-first cells (pairAt pairs place) row e .1
 
-    pub row-small : soundRecords cells ≡ true → row < 65536
+    pub row-small : soundRecordRows cells ≡ true → row < 65536
     row-small sound = omega (arith, row-within, records-known cells sound .rows-fit, room-most recordsLayout cells)
 
   -- Where the rows are known, and the suffixes.

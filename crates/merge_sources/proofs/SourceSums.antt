@@ -18,7 +18,7 @@ use Rattle.rules.specs.Rows.{recordKey, soundRecord}
 use Rattle.rules.specs.NamedRecord.{noRecord, isNotAdjustable}
 use Rattle.rules.specs.Refusal.{anyOf, allOf}
 use Rattle.rules.specs.Layout.{rowsOf}
-use Rattle.rules.specs.Tables.{recordsLayout, soundRecords}
+use Rattle.rules.specs.Tables.{recordsLayout, soundRecordRows}
 use Rattle.rules.specs.Merge.{sumOfQuantities, sumOfValues}
 use Rattle.rules.specs.declared.Record.{Record}
 use Rattle.cells.proofs.SoundCells.{records-known}
@@ -36,7 +36,7 @@ all-of-each : (rs : List Record) → Each (λ (r : Record). soundRecord r ≡ tr
 all-of-each [] e = allOf-nil
 all-of-each (r ∷ rest) e = allOf-intro (soundRecord r) (map soundRecord rest) (e .0) (all-of-each rest (e .1))
 
-module _ (cells pairs : List ℤ) (sound : soundRecords cells ≡ true) (all : allFound cells pairs ≡ true) where
+module _ (cells pairs : List ℤ) (sound : soundRecordRows cells ≡ true) (all : allFound cells pairs ≡ true) where
   abbrev rs : List Record
   rs = sourceRecords cells pairs
 

@@ -41,9 +41,9 @@ failsTest number account series buy r =
 abbrev pub recordNamed : List ℤ → Key → Record
 recordNamed cells k = theRecord (find recordKey k (rowsOf recordsLayout cells))
 
-abbrev pub inverseNamed : List ℤ → Key → ℤ → Record
-inverseNamed cells k into =
-    inverseRecord (recordNamed cells k) (nextSuffix (greatest recordKey (k .major) (rowsOf recordsLayout cells))) mergeKind (pos 0) (pos 0) into
+abbrev pub inverseNamed : (today : ℤ) → List ℤ → Key → ℤ → Record
+inverseNamed today cells k into =
+    inverseRecord today (recordNamed cells k) (nextSuffix (greatest recordKey (k .major) (rowsOf recordsLayout cells))) mergeKind (pos 0) (pos 0) into
 
 -- No source is missing.
 abbrev pub allFound : List ℤ → List ℤ → Bool

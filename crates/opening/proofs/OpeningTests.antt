@@ -16,7 +16,7 @@ use Rattle.rules.specs.Rows.{keyOf, recordKey, withStatus, soundRecord}
 use Rattle.rules.specs.NamedRecord.{statusTest}
 use Rattle.rules.specs.Refusal.{Test, test}
 use Rattle.rules.specs.Layout.{roomOf, rowsOf}
-use Rattle.rules.specs.Tables.{recordsLayout, processesLayout, soundRecords}
+use Rattle.rules.specs.Tables.{recordsLayout, processesLayout, soundRecordRows}
 use Rattle.rules.specs.declared.Record.{Record}
 use Rattle.soundness.proofs.SoundRows.{adjustable-open, under-give-up-sound}
 use Rattle.verdict.specs.declared.Verdict.the-variants.{Accepted}
@@ -46,7 +46,7 @@ module _ (qs : List ℤ) (r : Record) (giving series : ℤ) where
     at-23 = at-8 past passes at-8 accepted
 
     -- Test 7 has passed.
-    pub accepted-restated : (rs : List ℤ) → soundRecords rs ≡ true → (id suffix : ℤ) → find recordKey (keyOf id suffix) (rowsOf recordsLayout rs) ≡ some r
+    pub accepted-restated : (rs : List ℤ) → soundRecordRows rs ≡ true → (id suffix : ℤ) → find recordKey (keyOf id suffix) (rowsOf recordsLayout rs) ≡ some r
         → soundRecord (withStatus underGiveUp r) ≡ true
     unfolding test statusTest
     accepted-restated rs sound id suffix named =

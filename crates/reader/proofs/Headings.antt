@@ -31,6 +31,6 @@ module _ (text : List ℕ) (at : ℕ) {b : ℕ} (read : b ≡ getD text at 0) wh
       let letter : stepOfLetter (first (drop (at + 1) text)) ≡ none = rw (first-there text (at + 1) second) (no-letter l o c x r g t) in
       rw (begins text at read tab (omega arith), letter)
 
-  pub no-heading : (b ≡ 84 → ⊥) → (b ≡ 83 → ⊥) → (b ≡ 65 → ⊥) → (b ≡ 77 → ⊥) → (b ≡ 71 → ⊥) → none ≡ takeHeading (drop at text)
+  pub no-heading : (b ≡ 84 → ⊥) → (b ≡ 83 → ⊥) → (b ≡ 65 → ⊥) → (b ≡ 77 → ⊥) → (b ≡ 71 → ⊥) → (b ≡ 68 → ⊥) → none ≡ takeHeading (drop at text)
   unfolding takeHeading
-  no-heading t s a m g = rw (first-there text at read, ne-eqb b 84 t, ne-eqb b 83 s, ne-eqb b 65 a, ne-eqb b 77 m, ne-eqb b 71 g)
+  no-heading t s a m g d = rw (first-there text at read, ne-eqb b 84 t, ne-eqb b 83 s, ne-eqb b 65 a, ne-eqb b 77 m, ne-eqb b 71 g, ne-eqb b 68 d)

@@ -57,6 +57,9 @@ fn read_heading(text: &[u8], at: usize) -> Headed
     if letter == 71 {
         return read_step(text, at + 1);
     }
+    if letter == 68 {
+        return Headed::Read(Heading::Day, at + 1);
+    }
     Headed::Nothing
 }
 

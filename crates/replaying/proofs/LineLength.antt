@@ -1,4 +1,4 @@
--- A line has at least four bytes, so that a text of as many bytes as an address can count has fewer lines than an i64 can. Assumes nothing.
+-- A line has at least three bytes, so that a text of as many bytes as an address can count has fewer lines than an i64 can. Assumes nothing.
 use Prim.Native.Nat.{ℕ, _+_, _≤_}
 use native.Mathlib.Omega.{arith}
 use mathlib.Core.Path.{_≡_, ap, _∙_}
@@ -15,7 +15,7 @@ use Rattle.rules.specs.Request.{Request}
 use Rattle.rules.specs.Line.{headingText, lineText, lineOf, isJournalled, passesTest3}
 use Rattle.rules.specs.Reader.{hasItsFigures, takeRequest}
 use Rattle.rules.specs.declared.Heading.{Heading}
-use Rattle.rules.specs.declared.Heading.the-variants.{Trade, Separation, Transfer, Merge, GiveUp}
+use Rattle.rules.specs.declared.Heading.the-variants.{Trade, Separation, Transfer, Merge, GiveUp, Day}
 use Rattle.lines.proofs.Exactly.{taken-line}
 use Rattle.lines.proofs.NamedRequests.{ItsLine, its-line}
 
@@ -31,29 +31,31 @@ heading-long Separation = omega arith
 heading-long Transfer = omega arith
 heading-long Merge = omega arith
 heading-long (GiveUp step) = omega arith
+heading-long Day = omega arith
 
-three-figures : (heading : Heading) (count : ℕ) → hasItsFigures heading count ≡ true → 3 ≤ count
+one-figure : (heading : Heading) (count : ℕ) → hasItsFigures heading count ≡ true → 1 ≤ count
 unfolding hasItsFigures
-three-figures Trade count h = omega (arith, eqb-true count 6 h)
-three-figures Separation count h = omega (arith, leb-true 4 count h)
-three-figures Transfer count h = omega (arith, eqb-true count 5 h)
-three-figures Merge count h = leb-true 3 count h
-three-figures (GiveUp step) count h = omega (arith, eqb-true count 6 h)
+one-figure Trade count h = omega (arith, eqb-true count 6 h)
+one-figure Separation count h = omega (arith, leb-true 4 count h)
+one-figure Transfer count h = omega (arith, eqb-true count 5 h)
+one-figure Merge count h = omega (arith, leb-true 3 count h)
+one-figure (GiveUp step) count h = omega (arith, eqb-true count 6 h)
+one-figure Day count h = omega (arith, eqb-true count 1 h)
 
-line-text-long : (heading : Heading) (figures : List ℤ) → 3 ≤ length figures → 4 ≤ length (lineText heading figures)
+line-text-long : (heading : Heading) (figures : List ℤ) → 1 ≤ length figures → 3 ≤ length (lineText heading figures)
 unfolding lineText
 line-text-long heading figures h =
     omega (arith, length-append (headingText heading) (fieldsText figures ++ (newline ∷ [])), length-append (fieldsText figures) (newline ∷ []), fields-long figures, heading-long heading)
 
-line-long : (r : Request) → isJournalled r ≡ true → passesTest3 r ≡ true → 4 ≤ length (lineOf r)
+line-long : (r : Request) → isJournalled r ≡ true → passesTest3 r ≡ true → 3 ≤ length (lineOf r)
 line-long r j ok =
     let l : ItsLine r = its-line r j ok in
     let same : length (lineOf r) ≡ length (lineText (l .heading) (l .figures)) = ap length (l .written) in
-    omega (arith, line-text-long (l .heading) (l .figures) (three-figures (l .heading) (length (l .figures)) (l .has-its-figures)))
+    omega (arith, line-text-long (l .heading) (l .figures) (one-figure (l .heading) (length (l .figures)) (l .has-its-figures)))
 
 -- So many bytes fewer are left once a line is taken off.
-pub four-fewer : (text : List ℕ) (t : Taken Request) → takeRequest text ≡ some t → length (t .rest) + 4 ≤ length text
-four-fewer text t read =
+pub three-fewer : (text : List ℕ) (t : Taken Request) → takeRequest text ≡ some t → length (t .rest) + 3 ≤ length text
+three-fewer text t read =
     let w : (text ≡ lineOf (t .value) ++ t .rest) × (passesTest3 (t .value) ≡ true) × (isJournalled (t .value) ≡ true) = taken-line text t read in
     let parts : length text ≡ length (lineOf (t .value)) + length (t .rest) = ap length (w .0) ∙ length-append (lineOf (t .value)) (t .rest) in
     omega (arith, line-long (t .value) (w .2) (w .1))

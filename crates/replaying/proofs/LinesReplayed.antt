@@ -11,7 +11,7 @@ use Rattle.rules.specs.Keyed.{isSome}
 use Rattle.rules.specs.Refusal.{Test}
 use Rattle.rules.specs.Request.{Request}
 use Rattle.rules.specs.Reader.{requestNamed}
-use Rattle.rules.specs.Tables.{Tables, soundRecords, soundPositions}
+use Rattle.rules.specs.Tables.{Tables, soundRecords}
 use Rattle.rules.specs.Handle.{handle, refusalOf}
 use Rattle.rules.specs.declared.Heading.{Heading}
 use Rattle.history.specs.History.{isAccepted}
@@ -41,9 +41,9 @@ unfolding isAccepted isSome
 refused-same t r x e = refused-tables t r (ap (λ (o : Option Test). not (isSome o)) e)
 
 module _ (t : Tables) (text : List ℕ) (at : ℕ) (figures : List ℤ) where
-  pub bad-replayed : soundRecords (t .records) ≡ true → soundPositions (t .positions) ≡ true → RequestReadAs text at figures LineRead.Bad → LineReplayed t text at Bad t
-  bad-replayed records positions w =
-      record { became = (sym (w .request), refl); records-sound = records; positions-sound = positions; processes-sound = refl }
+  pub bad-replayed : soundRecords (t .records) ≡ true → RequestReadAs text at figures LineRead.Bad → LineReplayed t text at Bad t
+  bad-replayed records w =
+      record { became = (sym (w .request), refl); records-sound = records; positions-sound = refl; processes-sound = refl }
 
   module _ (heading : Heading) (count next : ℕ) (w : RequestReadAs text at figures (LineRead.Read heading count next)) (after : Tables) where
     abbrev r : Request

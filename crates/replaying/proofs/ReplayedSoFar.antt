@@ -18,7 +18,7 @@ use Rattle.verdict.specs.declared.Verdict.the-variants as Verdict
 use Rattle.replaying.specs.LineReplayed.{LineBooked, LineStops, LineReplayed}
 use Rattle.replaying.specs.declared.Became.the-variants.{Booked, Bad, Refused}
 use Rattle.replaying.proofs.AnswerFrom.{answerFrom, from-start, at-end, line-bad, line-refused, line-booked}
-use Rattle.replaying.proofs.LineLength.{four-fewer}
+use Rattle.replaying.proofs.LineLength.{three-fewer}
 
 -- A verdict that refuses is the first refusal's.
 refused-by : (o : Option Test) (number place : ℤ) → verdictOf o ≡ Verdict.Refused number place → (x : Test) × (o ≡ some x) × (pos (x .number) ≡ number) × (pos (x .place) ≡ place)
@@ -30,23 +30,23 @@ refused-by (some x) number place v = (x, refl, cc, cc)
 pub record ReplayedSoFar (start : Tables) (text : List ℕ) (records positions processes figures : List ℤ) (at line : ℕ) : Type 0 where
   pub answer : answerFrom line (allTables records positions processes) (drop at text) ≡ handleReplay start text
   pub within : at ≤ length text
-  pub few : line * 4 ≤ at
+  pub few : line * 3 ≤ at
   pub records-sound : soundRecords records ≡ true
-  pub positions-sound : soundPositions positions ≡ true
+  pub positions-sound : soundPositions positions ≡ soundPositions (start .positions)
   pub processes-sound : soundProcesses processes ≡ soundProcesses (start .processes)
   pub records-size : length records ≡ length (start .records)
   pub positions-size : length positions ≡ length (start .positions)
   pub processes-size : length processes ≡ length (start .processes)
   pub cells : length figures ≡ 2003
 
-pub none-replayed : (records positions processes figures : List ℤ) (text : List ℕ) → soundRecords records ≡ true → soundPositions positions ≡ true → length figures ≡ 2003 →
+pub none-replayed : (records positions processes figures : List ℤ) (text : List ℕ) → soundRecords records ≡ true → length figures ≡ 2003 →
     ReplayedSoFar (allTables records positions processes) text records positions processes figures 0 0
-none-replayed records positions processes figures text h k cells = record {
+none-replayed records positions processes figures text h cells = record {
   answer = from-start (allTables records positions processes) text;
   within = omega arith;
   few = omega arith;
   records-sound = h;
-  positions-sound = k;
+  positions-sound = refl;
   processes-sound = refl;
   records-size = refl;
   positions-size = refl;
@@ -83,7 +83,7 @@ module _ (start : Tables) (text : List ℕ) (records positions processes figures
         length processes′ ≡ length processes → length figures′ ≡ 2003 → ReplayedSoFar start text records′ positions′ processes′ figures′ next (line + 1)
     one-more next figures′ w same-records same-positions same-processes cells =
         let k : LineBooked now text at next after = w .became in
-        let fewer : length (drop next text) + 4 ≤ length (drop at text) = four-fewer (drop at text) (taken (k .request) (drop next text)) (k .read) in
+        let fewer : length (drop next text) + 3 ≤ length (drop at text) = three-fewer (drop at text) (taken (k .request) (drop next text)) (k .read) in
         record {
           answer =
               ap (λ (t : Tables). answerFrom (line + 1) t (drop next text)) (k .tables)
@@ -91,7 +91,7 @@ module _ (start : Tables) (text : List ℕ) (records positions processes figures
           within = k .within;
           few = omega (arith, length-drop next text, length-drop at text, k .within, b .few);
           records-sound = w .records-sound;
-          positions-sound = w .positions-sound;
+          positions-sound = w .positions-sound ∙ b .positions-sound;
           processes-sound = w .processes-sound ∙ b .processes-sound;
           records-size = same-records ∙ b .records-size;
           positions-size = same-positions ∙ b .positions-size;

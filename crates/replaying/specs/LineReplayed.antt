@@ -1,4 +1,4 @@
--- What replaying the line from a place of a text on promises, on sound records and positions: what becomes of it by the rules, the rules' tables, and that they are sound again.
+-- What replaying the line from a place of a text on promises, on sound records: what becomes of it by the rules, the rules' tables, that the records are sound again, and the others where they were.
 use Prim.Native.Nat.{ℕ, _≤_}
 use mathlib.Core.Path.{_≡_}
 use mathlib.Core.Bool.{true}
@@ -40,5 +40,5 @@ BecameBy t text at (Refused number place) after = LineStops t text at number pla
 pub record LineReplayed (t : Tables) (text : List ℕ) (at : ℕ) (r : Became) (after : Tables) : Type 0 where
   pub became : BecameBy t text at r after
   pub records-sound : soundRecords (after .records) ≡ true
-  pub positions-sound : soundPositions (after .positions) ≡ true
+  pub positions-sound : soundPositions (after .positions) ≡ soundPositions (t .positions)
   pub processes-sound : soundProcesses (after .processes) ≡ soundProcesses (t .processes)

@@ -18,12 +18,13 @@ fn replay_line(
     records: &mut [i64],
     positions: &mut [i64],
     processes: &mut [i64],
-    sound: bool,
+    passes2: bool,
+    passes19: bool,
     text: &[u8],
     at: usize,
     figures: &mut [i64],
 ) -> Became
-    requires { ⌜ (soundRecords (now records) ≡ true) × (soundPositions (now positions) ≡ true) × (sound ≡ soundProcesses (now processes)) × (length (now figures) ≡ 2003) ⌝ }
+    requires { ⌜ (soundRecords (now records) ≡ true) × (passes2 ≡ soundPositions (now positions)) × (passes19 ≡ soundProcesses (now processes)) × (length (now figures) ≡ 2003) ⌝ }
     ensures { λ r. ⌜ (LineReplayed (allTables (now (records .entry)) (now (positions .entry)) (now (processes .entry))) (now (text .entry)) at r (allTables (now (records .exit)) (now (positions .exit)) (now (processes .exit)))) × (length (now (figures .exit)) ≡ 2003) ⌝ }
 {
     let LineRead::Read(heading, count, next) = journal_reading::request::read_request(
@@ -37,7 +38,8 @@ fn replay_line(
         records,
         positions,
         processes,
-        sound,
+        passes2,
+        passes19,
         heading,
         &figures[..count],
     ) {
@@ -51,11 +53,12 @@ fn replay_lines(
     records: &mut [i64],
     positions: &mut [i64],
     processes: &mut [i64],
-    sound: bool,
+    passes2: bool,
+    passes19: bool,
     text: &[u8],
     figures: &mut [i64],
 ) -> Reply
-    requires { ⌜ (soundRecords (now records) ≡ true) × (soundPositions (now positions) ≡ true) × (sound ≡ soundProcesses (now processes)) × (length (now figures) ≡ 2003) ⌝ }
+    requires { ⌜ (soundRecords (now records) ≡ true) × (passes2 ≡ soundPositions (now positions)) × (passes19 ≡ soundProcesses (now processes)) × (length (now figures) ≡ 2003) ⌝ }
     ensures { λ r. ⌜ answeredBy r (allTables (now (records .exit)) (now (positions .exit)) (now (processes .exit))) ≡ handleReplay (allTables (now (records .entry)) (now (positions .entry)) (now (processes .entry))) (now (text .entry)) ⌝ }
 {
     let mut at = 0;
@@ -65,7 +68,8 @@ fn replay_lines(
             &mut *records,
             &mut *positions,
             &mut *processes,
-            sound,
+            passes2,
+            passes19,
             text,
             at,
             &mut *figures,
@@ -86,37 +90,46 @@ fn replay_lines(
     Reply::Replayed(lines)
 }
 
-pub fn on_sound(
+pub fn on_sound_records(
     records: &mut [i64],
     positions: &mut [i64],
     processes: &mut [i64],
-    sound: bool,
+    passes2: bool,
+    passes19: bool,
     text: &[u8],
 ) -> Reply
-    requires { ⌜ (soundRecords (now records) ≡ true) × (soundPositions (now positions) ≡ true) × (sound ≡ soundProcesses (now processes)) ⌝ }
+    requires { ⌜ (soundRecords (now records) ≡ true) × (passes2 ≡ soundPositions (now positions)) × (passes19 ≡ soundProcesses (now processes)) ⌝ }
     ensures { λ r. ⌜ answeredBy r (allTables (now (records .exit)) (now (positions .exit)) (now (processes .exit))) ≡ handleReplay (allTables (now (records .entry)) (now (positions .entry)) (now (processes .entry))) (now (text .entry)) ⌝ }
 {
     let mut figures = [0i64; MOST_FIGURES];
-    replay_lines(records, positions, processes, sound, text, &mut figures)
+    replay_lines(
+        records,
+        positions,
+        processes,
+        passes2,
+        passes19,
+        text,
+        &mut figures,
+    )
 }
 
-// Where tests 1 and 2 refuse every request that books with this number and place: the first line decides.
-fn first_line_refused(text: &[u8], number: i64, place: i64, figures: &mut [i64]) -> Reply
+// Where test 1 refuses every request: the first line decides.
+fn first_line_refused(text: &[u8], figures: &mut [i64]) -> Reply
     requires { ⌜ length (now figures) ≡ 2003 ⌝ }
-    ensures { λ r. ⌜ r ≡ refusedAtOnce (now (text .entry)) number place ⌝ }
+    ensures { λ r. ⌜ r ≡ refusedAtOnce (now (text .entry)) ⌝ }
 {
     if text.len() == 0 {
         return Reply::Replayed(0);
     }
     match journal_reading::request::read_request(text, 0, figures) {
         LineRead::Bad => Reply::BadLine(1),
-        LineRead::Read(heading, count, next) => Reply::LineRefused(1, number, place),
+        LineRead::Read(heading, count, next) => Reply::LineRefused(1, 1, 0),
     }
 }
 
-pub fn on_unsound(text: &[u8], number: i64, place: i64) -> Reply
-    ensures { λ r. ⌜ r ≡ refusedAtOnce (now (text .entry)) number place ⌝ }
+pub fn on_unsound_records(text: &[u8]) -> Reply
+    ensures { λ r. ⌜ r ≡ refusedAtOnce (now (text .entry)) ⌝ }
 {
     let mut figures = [0i64; MOST_FIGURES];
-    first_line_refused(text, number, place, &mut figures)
+    first_line_refused(text, &mut figures)
 }

@@ -13,7 +13,7 @@ use Rattle.rules.specs.Keyed.{Key, find, greatest}
 use Rattle.rules.specs.NamedRecord.{nextSuffix}
 use Rattle.rules.specs.Rows.{keyOf, recordKey, soundRecord, adjustedRecord}
 use Rattle.rules.specs.Layout.{rowAt, roomOf, rowsOf}
-use Rattle.rules.specs.Tables.{recordsLayout, soundRecords}
+use Rattle.rules.specs.Tables.{recordsLayout, soundRecordRows}
 use Rattle.rules.specs.declared.Record.{Record}
 use Rattle.keys.proofs.Lookup.{find-key}
 use Rattle.cells.specs.SoundTable.{SoundRecords}
@@ -69,7 +69,7 @@ module _ (cells : List ℤ) (id suffix : ℤ) (named : Named) (inverse first : R
       ∙ ap (λ (z : ℤ). nextSuffix (greatest recordKey z rows)) (sym inverse-id)
       ∙ ap nextSuffix (sym (greatest-kept recordsLayout records-lawful recordKey records-first soundRecord cells table adjusted (named .record) there out put (inverse .id)))
 
-  pub rows-ready : soundRecords out ≡ true → NewRowsReady out (named .place) inverse first quantities
+  pub rows-ready : soundRecordRows out ≡ true → NewRowsReady out (named .place) inverse first quantities
   rows-ready sound =
       let same-length : length (rowsOf recordsLayout out) ≡ length rows = length-kept recordsLayout records-lawful recordKey records-first soundRecord cells table adjusted (named .record) there out put in
       let same-room : roomOf recordsLayout out ≡ roomOf recordsLayout cells = room-kept recordsLayout records-lawful recordKey records-first soundRecord cells table adjusted (named .record) there out put in

@@ -9,13 +9,13 @@ use lib.Signed.{_≤ℤ_}
 use Rattle.rules.specs.Figures.{greatestOfSuffixes}
 use Rattle.rules.specs.Rows.{keyOf, recordKey, adjustedRecord, soundRecord}
 use Rattle.rules.specs.Layout.{roomOf, rowsOf}
-use Rattle.rules.specs.Tables.{recordsLayout, soundRecords}
+use Rattle.rules.specs.Tables.{recordsLayout, soundRecordRows}
 use Rattle.rules.specs.declared.Record.{Record}
 use Rattle.requests.specs.declared.Named.{Named}
 use Rattle.requests.specs.KnownRecord.{KnownRecord}
 
 pub record AdjustReady (cells : List ℤ) (id suffix : ℤ) (named : Named) (inverse first : Record) (quantities : List ℤ) : Type 0 where
-  pub sound : soundRecords cells ≡ true
+  pub sound : soundRecordRows cells ≡ true
   pub known : KnownRecord cells id suffix named
   pub adjusted-sound : soundRecord (adjustedRecord (named .record)) ≡ true
   pub inverse-key : recordKey inverse ≡ keyOf id (named .next)

@@ -23,7 +23,7 @@ ghost use Rattle.rules.specs.Keyed.{upsertAll};
 ghost use Rattle.rules.specs.Rows as Rows;
 ghost use Rattle.rules.specs.Rows.{recordKey};
 ghost use Rattle.rules.specs.Layout.{roomOf, rowsOf, write};
-ghost use Rattle.rules.specs.Tables.{recordsLayout, positionsLayout, soundRecords, soundPositions};
+ghost use Rattle.rules.specs.Tables.{recordsLayout, positionsLayout, soundRecordRows, soundPositions};
 ghost use Rattle.lookup.specs.Lookup.{recordSought};
 ghost use Rattle.lookup.specs.declared.Sought.the-variants.{Present};
 ghost use Rattle.tables.specs.NewRows.{newRows};
@@ -65,7 +65,7 @@ pub fn record_named(
     greatest: i64,
     place: usize,
 ) -> Named
-    requires { ⌜ (soundRecords (now cells) ≡ true) × (recordSought (now cells) id suffix ≡ Present row greatest place) ⌝ }
+    requires { ⌜ (soundRecordRows (now cells) ≡ true) × (recordSought (now cells) id suffix ≡ Present row greatest place) ⌝ }
     ensures { λ r. ⌜ KnownRecord (now (cells .entry)) id suffix r ⌝ }
 {
     let record = records::read_record(cells, row);
@@ -80,7 +80,7 @@ pub fn record_named(
 
 // 14: row count plus new rows exceeds the records room.
 pub fn lacks_records_room(cells: &[i64], added: usize) -> bool
-    requires { ⌜ (soundRecords (now cells) ≡ true) × (added ≤ 1001) ⌝ }
+    requires { ⌜ (soundRecordRows (now cells) ≡ true) × (added ≤ 1001) ⌝ }
     ensures { λ r. ⌜ r ≡ ltb (roomOf recordsLayout (now (cells .entry))) (length (rowsOf recordsLayout (now (cells .entry))) + added) ⌝ }
 {
     records::room(cells) < records::count(cells) + added
@@ -188,8 +188,9 @@ pub fn status_refusal(status: i64) -> i64
     7
 }
 
-// A row with suffix 0, parent 0 and status 0: a trade's, and the merged one.
+// A row with suffix 0, parent 0 and status 0: a trade's, and the merged one. New rows take the current day, here as in the two below.
 pub fn new_record(
+    today: i64,
     id: i64,
     kind: i64,
     account: i64,
@@ -200,7 +201,7 @@ pub fn new_record(
     long: i64,
     short: i64,
 ) -> Record
-    ensures { λ r. ⌜ r ≡ Rows.newRecord id kind account series side quantity price long short ⌝ }
+    ensures { λ r. ⌜ r ≡ Rows.newRecord today id kind account series side quantity price long short ⌝ }
 {
     Record {
         id,
@@ -216,13 +217,22 @@ pub fn new_record(
         long,
         short,
         into: 0,
+        day: today,
     }
 }
 
 // The inverse of a record: quantity negated, the record's suffix as parent.
-pub fn inverse_record(r: Record, suffix: i64, kind: i64, long: i64, short: i64, into: i64) -> Record
+pub fn inverse_record(
+    today: i64,
+    r: Record,
+    suffix: i64,
+    kind: i64,
+    long: i64,
+    short: i64,
+    into: i64,
+) -> Record
     requires { ⌜ magnitudeAtMost 1000000 (r .quantity) ≡ true ⌝ }
-    ensures { λ s. ⌜ s ≡ Rows.inverseRecord r suffix kind long short into ⌝ }
+    ensures { λ s. ⌜ s ≡ Rows.inverseRecord today r suffix kind long short into ⌝ }
 {
     Record {
         id: r.id,
@@ -238,11 +248,13 @@ pub fn inverse_record(r: Record, suffix: i64, kind: i64, long: i64, short: i64, 
         long,
         short,
         into,
+        day: today,
     }
 }
 
 // An adjustable row that comes out of a record.
 pub fn adjustable_record(
+    today: i64,
     r: Record,
     suffix: i64,
     kind: i64,
@@ -251,7 +263,7 @@ pub fn adjustable_record(
     long: i64,
     short: i64,
 ) -> Record
-    ensures { λ s. ⌜ s ≡ Rows.adjustableRecord r suffix kind account quantity long short ⌝ }
+    ensures { λ s. ⌜ s ≡ Rows.adjustableRecord today r suffix kind account quantity long short ⌝ }
 {
     Record {
         id: r.id,
@@ -267,5 +279,6 @@ pub fn adjustable_record(
         long,
         short,
         into: 0,
+        day: today,
     }
 }

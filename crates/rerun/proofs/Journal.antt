@@ -1,5 +1,6 @@
 -- Document 02, K5: "Replay into empty tables of the same room gives the rows that a day begun on empty tables ended with" (`day-rerun`). The day is any list of calls of every kind, with refused
--- requests, batches that stopped and replays among them; its journal is the text of its accepted requests (`journalOf`); the rows are those of all three tables, and the rooms stay (`booksOf`).
+-- requests, batches that stopped, replays, new days and reporting lists among them; its journal is the text of its accepted requests (`journalOf`); the rows are those of all three tables, each record with
+-- its day of booking (K8); the current day is the same too, and the rooms stay (`booksOf`).
 -- Replayed, every line of it is booked. More generally (`journal-replayed`): from any sound tables, into any others with the same books.
 --
 -- The accepted requests are done one after the other from the first tables; from the others they are done with the same replies (SameBooks), without the lineages too (JournalLines); and the journal is

@@ -6,7 +6,8 @@ use mathlib.Core.List.{List, [], _∷_, _++_, flatMap, append-assoc}
 use mathlib.Core.Logic.{_⊎_, inl, inr}
 use Prim.Native.Nat.{ℕ}
 use borrow.Author.Tests.{not-false}
-use Rattle.rules.specs.Request.{Request, trade, separate, transfer, merge, lineage, giveUp}
+use lib.Signed.{ltZ}
+use Rattle.rules.specs.Request.{Request, trade, separate, transfer, merge, lineage, giveUp, newDay}
 use Rattle.rules.specs.Plan.{planTests}
 use Rattle.rules.specs.Trade.{tradePlan}
 use Rattle.rules.specs.Separation.{separationPlan}
@@ -14,8 +15,11 @@ use Rattle.rules.specs.Transfer.{transferPlan}
 use Rattle.rules.specs.Merge.{mergePlan}
 use Rattle.rules.specs.Lineage.{lineagePlan}
 use Rattle.rules.specs.GiveUp.{giveUpPlan}
+use Rattle.rules.specs.Day.{dayPlan}
 use Rattle.rules.specs.Line.{lineOf, isJournalled, passesTest3}
-use Rattle.rules.specs.Tables.{Tables}
+use Rattle.rules.specs.Figures.{validDay}
+use Rattle.rules.specs.Books.{viewOf}
+use Rattle.rules.specs.Tables.{Tables, booksOf}
 use Rattle.rules.specs.Handle.{planOf, handle}
 use Rattle.rules.specs.Sequence.{Done}
 use Rattle.rules.specs.Reader.{readingOf}
@@ -23,7 +27,7 @@ use Rattle.rules.specs.Call.{Call, requestsOf}
 use Rattle.rules.specs.Run.{run}
 use Rattle.lines.specs.Journalled.{AllJournalled}
 use Rattle.lines.proofs.Journals.{journal-read}
-use Rattle.keys.proofs.Split.{split, clash, cond-true, cond-false}
+use Rattle.keys.proofs.Split.{split, clash, and-left, cond-true, cond-false}
 use Rattle.history.specs.History.{isAccepted, Entry, acceptedEntries}
 use Rattle.rerun.specs.Journal.{linesOf, journalOf, requestsIn, journalled}
 use Rattle.history.proofs.Accepted.{accepted-rows}
@@ -47,6 +51,7 @@ no-line (transfer id suffix from to series) h = clash refl h
 no-line (merge id account series pairs) h = clash refl h
 no-line (lineage id suffix) h = refl
 no-line (giveUp step process id suffix giving taking series) h = clash refl h
+no-line (newDay day) h = clash refl h
 
 lines-journalled : (rs : List Request) → flatMap lineOf rs ≡ flatMap lineOf (journalled rs)
 unfolding flatMap journalled
@@ -72,9 +77,9 @@ journal-lines entries = go entries ∙ lines-journalled (requestsIn entries)
 
 -- ---- test 3
 
--- Of every request that is accepted: it is its plan's first test.
+-- Of every request that is accepted: it is its plan's first test; of a new day, whose range alone is test 3 of a line, a part of it.
 pub accepted-passes-test-3 : (t : Tables) (r : Request) → isAccepted t r ≡ true → passesTest3 r ≡ true
-unfolding passesTest3 planOf planTests tradePlan separationPlan transferPlan mergePlan lineagePlan giveUpPlan
+unfolding passesTest3 planOf planTests tradePlan separationPlan transferPlan mergePlan lineagePlan giveUpPlan dayPlan viewOf
 accepted-passes-test-3 t (trade id account series side quantity price) ok = not-false _ (test-passes 3 _ _ (accepted-rows t (trade id account series side quantity price) ok))
 accepted-passes-test-3 t (separate id suffix account series parts) ok = not-false _ (test-passes 3 _ _ (accepted-rows t (separate id suffix account series parts) ok))
 accepted-passes-test-3 t (transfer id suffix from to series) ok = not-false _ (test-passes 3 _ _ (accepted-rows t (transfer id suffix from to series) ok))
@@ -82,6 +87,7 @@ accepted-passes-test-3 t (merge id account series pairs) ok = not-false _ (test-
 accepted-passes-test-3 t (lineage id suffix) ok = not-false _ (test-passes 3 _ _ (accepted-rows t (lineage id suffix) ok))
 accepted-passes-test-3 t (giveUp step process id suffix giving taking series) ok =
     not-false _ (test-passes 3 _ _ (accepted-rows t (giveUp step process id suffix giving taking series) ok))
+accepted-passes-test-3 t (newDay day) ok = and-left (validDay day) (ltZ (booksOf t .day) day) (not-false _ (test-passes 3 _ _ (accepted-rows t (newDay day) ok)))
 
 -- ---- without the lineages
 
@@ -93,6 +99,7 @@ stays t (transfer id suffix from to series) h = clash refl h
 stays t (merge id account series pairs) h = clash refl h
 stays t (lineage id suffix) h = lineage-stays t id suffix
 stays t (giveUp step process id suffix giving taking series) h = clash refl h
+stays t (newDay day) h = clash refl h
 
 pub without-lineages : (done : List Done) (t end : Tables) → DoneFrom t done end → DoneThese t (journalled (requestsDone done)) end
 unfolding journalled

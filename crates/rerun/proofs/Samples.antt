@@ -11,8 +11,9 @@ unfoldable ComputedJournal : Type 0
 unfolding Computed linesOf journalOf
 ComputedJournal = Unit {0}
 
--- The journal of this day, in empty tables of the same room with other cells: a line for each accepted request but the lineage, two for the batch, all booked; and the rows are the same.
-pub sample-rerun-reply : handleCall otherCells (replay (journalOf accepted)) .reply ≡ Replayed (pos 16)
+-- The journal of these three days, in empty tables of the same room with other cells: a line for each accepted request but the lineage and the lists, two for the batch, two D lines among them, all booked;
+-- and the rows, with their days, and the current day are the same.
+pub sample-rerun-reply : handleCall otherCells (replay (journalOf accepted)) .reply ≡ Replayed (pos 18)
 unfolding ComputedJournal
 sample-rerun-reply = refl
 

@@ -5,7 +5,7 @@ use mathlib.Core.Bool.{true, false}
 use mathlib.Core.List.{List, [], _∷_, map}
 use lib.IntN.{ℤ, pos, negℤ}
 use Rattle.rules.specs.Layout.{rowsOf}
-use Rattle.rules.specs.Request.{Request, trade, separate, transfer, merge, giveUp}
+use Rattle.rules.specs.Request.{Request, separate, transfer, merge, giveUp}
 use Rattle.rules.specs.Handle.{handle, answeredBy}
 use Rattle.rules.specs.Tables.{Tables, allTables, withProcesses, processesLayout}
 use Rattle.rules.specs.Touching.{touch}
@@ -21,7 +21,7 @@ use Rattle.rules.proofs.Computed.{Computed}
 
 -- Room for four records, two positions and two processes.
 abbrev small : Tables
-small = emptyTables 52 14 18
+small = emptyTables 57 14 18
 
 -- Process 9 gives trade 7, of 100, up from account 1 to account 2.
 abbrev step9 : Step → Request
@@ -142,7 +142,7 @@ seventeen = refl
 
 -- Two trades, the first adjusted, the second under give-up: "a merge's first source failing it gives number and place".
 pub first-source-gives-the-number :
-    (runOf (emptyTables 130 14 18)
+    (runOf (emptyTables 141 14 18)
     (buy (pos 7) (pos 1) ∷ buy (pos 6) (pos 1) ∷ step9 Open
     ∷ separate (pos 6) (pos 0) (pos 1) (pos 1) (pos 60 ∷ pos 40 ∷ [])
     ∷ merge (pos 5) (pos 1) (pos 1) (pos 6 ∷ pos 2 ∷ pos 7 ∷ pos 0 ∷ pos 6 ∷ pos 0 ∷ [])
@@ -154,14 +154,14 @@ first-source-gives-the-number = refl
 
 -- A process table without room: 23, last; where the record's account differs, 6.
 pub its-own-room-last :
-    (runOf (emptyTables 52 14 8) (buy (pos 7) (pos 1) ∷ step9 Open ∷ giveUp Open (pos 9) (pos 7) (pos 0) (pos 3) (pos 2) (pos 1) ∷ [])) .replies
+    (runOf (emptyTables 57 14 8) (buy (pos 7) (pos 1) ∷ step9 Open ∷ giveUp Open (pos 9) (pos 7) (pos 0) (pos 3) (pos 2) (pos 1) ∷ [])) .replies
     ≡ Booked (pos 1) (pos 0) ∷ Refused (pos 23) (pos 0) ∷ Refused (pos 6) (pos 0) ∷ []
 unfolding Computed
 its-own-room-last = refl
 
 -- The call that completes is refused 14 where its two rows have no room, and changes nothing: the process stays claimed.
 pub completing-needs-room :
-    (runOf (emptyTables 26 14 18) (afterwards (Claim ∷ ApproveGiver ∷ ApproveTaker ∷ ApproveTaker ∷ []))) .replies
+    (runOf (emptyTables 29 14 18) (afterwards (Claim ∷ ApproveGiver ∷ ApproveTaker ∷ ApproveTaker ∷ []))) .replies
     ≡ Booked (pos 1) (pos 0) ∷ noRow ∷ noRow ∷ noRow ∷ Refused (pos 14) (pos 0) ∷ Refused (pos 14) (pos 0) ∷ []
 unfolding Computed
 completing-needs-room = refl
@@ -169,13 +169,13 @@ completing-needs-room = refl
 -- An unsound process table: a step is refused 19, after 2; a trade neither reads nor changes it.
 pub nineteen-after-two :
     map (λ (t : Tables). handle t (step9 Open) .reply)
-    (allTables (emptyCells 52) (emptyCells 14) (pos 1 ∷ []) ∷ allTables (emptyCells 52) [] (pos 1 ∷ []) ∷ allTables [] [] [] ∷ [])
+    (allTables (emptyCells 57) (emptyCells 14) (pos 1 ∷ []) ∷ allTables (emptyCells 57) [] (pos 1 ∷ []) ∷ allTables [] [] [] ∷ [])
     ≡ Refused (pos 19) (pos 0) ∷ Refused (pos 2) (pos 0) ∷ Refused (pos 1) (pos 0) ∷ []
 unfolding Computed
 nineteen-after-two = refl
 
 pub trade-leaves-processes :
-    handle (allTables (emptyCells 52) (emptyCells 14) (pos 1 ∷ [])) (buy (pos 7) (pos 1))
+    handle (allTables (emptyCells 57) (emptyCells 14) (pos 1 ∷ [])) (buy (pos 7) (pos 1))
     ≡ answeredBy (Booked (pos 1) (pos 0)) (withProcesses (pos 1 ∷ []) (handle small (buy (pos 7) (pos 1)) .tables))
 unfolding Computed
 trade-leaves-processes = refl

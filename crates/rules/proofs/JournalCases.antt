@@ -101,20 +101,20 @@ empty-line = refl
 
 -- ---- replays
 
-pub nothing-replayed : (handleCall (empty 26 7) (replay [])) .reply ≡ Replayed (pos 0)
+pub nothing-replayed : (handleCall (empty 29 7) (replay [])) .reply ≡ Replayed (pos 0)
 unfolding Computed
 nothing-replayed = refl
 
-pub one-line-replayed : (handleCall (empty 26 7) (replay p11Line)) .reply ≡ Replayed (pos 1)
+pub one-line-replayed : (handleCall (empty 29 7) (replay p11Line)) .reply ≡ Replayed (pos 1)
 unfolding Computed
 one-line-replayed = refl
 
 -- The same line again is refused 4, and lines are counted from 1; a bad line after it isn't reached.
-pub second-line-refused : (handleCall (empty 26 7) (replay (p11Line ++ (p11Line ++ (10 ∷ []))))) .reply ≡ LineRefused (pos 2) (pos 4) (pos 0)
+pub second-line-refused : (handleCall (empty 29 7) (replay (p11Line ++ (p11Line ++ (10 ∷ []))))) .reply ≡ LineRefused (pos 2) (pos 4) (pos 0)
 unfolding Computed
 second-line-refused = refl
 
-pub second-line-bad : (handleCall (empty 26 7) (replay (p11Line ++ (10 ∷ p11Line)))) .reply ≡ BadLine (pos 2)
+pub second-line-bad : (handleCall (empty 29 7) (replay (p11Line ++ (10 ∷ p11Line)))) .reply ≡ BadLine (pos 2)
 unfolding Computed
 second-line-bad = refl
 

@@ -1,5 +1,6 @@
 pub mod Computed
 pub mod SmallCases
 pub mod TotalsCases
+pub mod DayCases
 pub mod GiveUpCases
 pub mod JournalCases

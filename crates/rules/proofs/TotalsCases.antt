@@ -27,7 +27,7 @@ summed t requests accounts =
 
 -- Room for eight records, two positions and one process.
 abbrev small : Tables
-small = emptyTables 104 14 9
+small = emptyTables 113 14 9
 
 -- Trade 7 buys 100 and trade 8 sells 40 at prices 5 and 6, account 1.
 abbrev bought : Request
@@ -110,7 +110,7 @@ give-up-completed = refl
 -- A table with one position, of account 1 and series 1, and room for no other; and the reply to a trade of 1 on it.
 abbrev onPosition : (long short cash quantity value : ℤ) → Request → Reply
 onPosition long short cash quantity value r =
-    handle (tablesOf (emptyCells 26) (pos 1 ∷ pos 1 ∷ pos 1 ∷ long ∷ short ∷ cash ∷ quantity ∷ value ∷ [])) r .reply
+    handle (tablesOf (emptyCells 29) (pos 1 ∷ pos 1 ∷ pos 1 ∷ long ∷ short ∷ cash ∷ quantity ∷ value ∷ [])) r .reply
 
 abbrev oneAt : (side price : ℤ) → Request
 oneAt side price = trade (pos 7) (pos 1) (pos 1) side (pos 1) price

@@ -13,7 +13,7 @@ use Rattle.rules.specs.Tables.{Tables, soundRecords, soundPositions}
 use Rattle.rules.specs.Handle.{Answer, answer}
 use Rattle.rules.specs.Sequence.{Done, Sequence, untilRefused}
 use Rattle.rules.specs.declared.Reply.{Reply}
-use Rattle.rules.specs.declared.Reply.the-variants.{Booked, ClosingError, Lineage, Refused, Stopped, Written, Replayed, BadLine, LineRefused}
+use Rattle.rules.specs.declared.Reply.the-variants.{Booked, ClosingError, Lineage, Refused, Stopped, Written, Replayed, BadLine, LineRefused, Listed}
 
 -- "trades of six figures": id, account, series, side code, quantity, price, the first at this figure.
 abbrev pub tradeAt : List ℤ → ℕ → Request
@@ -49,6 +49,7 @@ excessOf (Written bytes) = pos 0
 excessOf (Replayed lines) = pos 0
 excessOf (BadLine line) = pos 0
 excessOf (LineRefused line number place) = pos 0
+excessOf (Listed records) = pos 0
 
 unfoldable pub excessesOf : List Done → List ℤ
 excessesOf done = map (λ (d : Done). excessOf (d .reply)) done

@@ -53,6 +53,13 @@ signed side amount = cond (isBuy side) amount (negℤ amount)
 unfoldable pub isToClose : ℤ → Bool
 isToClose side = eqZ side (pos 3) || eqZ side (pos 4)
 
+-- Document 02, K8, a day: 1 to 99,999; "Empty tables start at day 0"
+abbrev pub lastDay : ℕ
+lastDay = 99999
+
+unfoldable pub validDay : ℤ → Bool
+validDay z = inRange (pos 1) (pos lastDay) z
+
 -- parts of a separation, sources of a merge: 2 to 1,000
 unfoldable pub validCount : ℕ → Bool
 validCount n = leb 2 n && leb n 1000

@@ -104,19 +104,19 @@ finished p = withStage (cond (isComplete p) done (p .stage)) p
 
 -- "The call that completes claim and both approvals books an inverse row of type 020 in the old account and a row of type 030 in the new, all else as in a transfer". `p` is what the
 -- step makes of the process; every step writes its row.
-unfoldable pub giveUpEffects : Step → Record → ProcessRow → (next taking : ℤ) → (old new : Position) → Effects
-giveUpEffects step r p next taking old new =
-    withProcessRow (finished p) (cond (isComplete p) (transferEffects giveUpKind takeUpKind r next taking old new) (stepEffects step r))
+unfoldable pub giveUpEffects : Step → (today : ℤ) → Record → ProcessRow → (next taking : ℤ) → (old new : Position) → Effects
+giveUpEffects step today r p next taking old new =
+    withProcessRow (finished p) (cond (isComplete p) (transferEffects giveUpKind takeUpKind today r next taking old new) (stepEffects step r))
 
 -- The process that a step finds, or that an opening makes.
 unfoldable pub processBefore : Step → (process id suffix giving taking series : ℤ) → Option ProcessRow → ProcessRow
 processBefore step process id suffix giving taking series found = cond (isOpening step) (openedProcess process id suffix giving taking series) (theProcess found)
 
 -- Tests 5 to 8 as in a transfer; "if 12 to 16 applies" of the call that completes: a step that adds no row and moves no position has none of them. An opening has "its own room last (23)":
--- the plan's process row brings 19 and 23. `foundRecord` is the named record, `greatest` the greatest suffix of its id, `old` and `new` the positions of the two accounts.
-unfoldable pub giveUpPlan : Step → (process id suffix giving taking series : ℤ) → (used : Option ℤ) → (found : Option ProcessRow) → (foundRecord : Option Record) → (greatest : Option ℤ)
+-- the plan's process row brings 19 and 23. `today` is the current day, `foundRecord` the named record, `greatest` the greatest suffix of its id, `old` and `new` the positions of the two accounts.
+unfoldable pub giveUpPlan : Step → (today process id suffix giving taking series : ℤ) → (used : Option ℤ) → (found : Option ProcessRow) → (foundRecord : Option Record) → (greatest : Option ℤ)
     → (old new : Position) → Plan
-giveUpPlan step process id suffix giving taking series used found foundRecord greatest old new =
+giveUpPlan step today process id suffix giving taking series used found foundRecord greatest old new =
     let r : Record = theRecord foundRecord in
     let p : ProcessRow = stepped step (processBefore step process id suffix giving taking series found) in
     booking
@@ -128,4 +128,4 @@ giveUpPlan step process id suffix giving taking series used found foundRecord gr
     ∷ test 8 (isToClose (r .side))
     ∷ test 12 (isComplete p && holdsTooLittle r old)
     ∷ [])
-    (giveUpEffects step r p (nextSuffix greatest) taking old new)
+    (giveUpEffects step today r p (nextSuffix greatest) taking old new)

@@ -5,44 +5,47 @@ use mathlib.Core.Option.{Option, none, some}
 use lib.IntN.{ℤ}
 use Rattle.rules.specs.Refusal.{Test, test, firstRefusal}
 use Rattle.rules.specs.Reply.{refusedBy}
-use Rattle.rules.specs.Request.{Request, trade, separate, transfer, merge, lineage, giveUp}
+use Rattle.rules.specs.Request.{Request, trade, separate, transfer, merge, lineage, giveUp, newDay}
 use Rattle.rules.specs.Books.{Books, View, viewOf}
-use Rattle.rules.specs.Plan.{Plan, booking, question, planTests, planReply, booked}
+use Rattle.rules.specs.Plan.{Plan, booking, question, dayMove, planTests, planReply, booked}
 use Rattle.rules.specs.Trade.{tradePlan}
 use Rattle.rules.specs.Separation.{separationPlan}
 use Rattle.rules.specs.Transfer.{transferPlan}
 use Rattle.rules.specs.Merge.{mergePlan, sourcesOf, pairsOf}
 use Rattle.rules.specs.Lineage.{lineagePlan}
 use Rattle.rules.specs.GiveUp.{giveUpPlan}
-use Rattle.rules.specs.Tables.{Tables, tablesOf, withProcesses, booksOf, writeBooks, soundRecords, soundPositions, soundProcesses}
+use Rattle.rules.specs.Day.{dayPlan}
+use Rattle.rules.specs.Tables.{Tables, tablesOf, withProcesses, withCurrentDay, booksOf, writeBooks, soundRecords, soundPositions, soundProcesses}
 use Rattle.rules.specs.declared.ProcessRow.{ProcessRow}
 use Rattle.rules.specs.declared.Reply.{Reply}
 
 -- Each request's plan, from what it sees.
 unfoldable pub planOf : View → Request → Plan
 planOf v (trade id account series side quantity price) =
-    tradePlan id account series side quantity price (v .greatestSuffix id) (v .positionAt account series)
+    tradePlan (v .day) id account series side quantity price (v .greatestSuffix id) (v .positionAt account series)
 planOf v (separate id suffix account series parts) =
-    separationPlan id suffix account series parts (v .recordAt id suffix) (v .greatestSuffix id)
+    separationPlan (v .day) id suffix account series parts (v .recordAt id suffix) (v .greatestSuffix id)
 planOf v (transfer id suffix from to series) =
-    transferPlan id suffix from to series (v .recordAt id suffix) (v .greatestSuffix id) (v .positionAt from series) (v .positionAt to series)
+    transferPlan (v .day) id suffix from to series (v .recordAt id suffix) (v .greatestSuffix id) (v .positionAt from series) (v .positionAt to series)
 planOf v (merge id account series pairs) =
-    mergePlan id account series pairs (v .greatestSuffix id) (sourcesOf v (pairsOf pairs)) (v .positionAt account series)
+    mergePlan (v .day) id account series pairs (v .greatestSuffix id) (sourcesOf v (pairsOf pairs)) (v .positionAt account series)
 planOf v (lineage id suffix) = lineagePlan id suffix (v .recordAt id)
 planOf v (giveUp step process id suffix giving taking series) =
-    giveUpPlan step process id suffix giving taking series
+    giveUpPlan step (v .day) process id suffix giving taking series
     (v .transactionOf process) (v .processAt process id) (v .recordAt id suffix) (v .greatestSuffix id) (v .positionAt giving series) (v .positionAt taking series)
+planOf v (newDay day) = dayPlan (v .day) day
 
 -- 19: the process table; "if unsound, refused 19 after 2". It is "read by these steps only": a request that writes no process row has no such test.
 unfoldable pub soundProcessesTest : Tables → Option ProcessRow → List Test
 soundProcessesTest t none = []
 soundProcessesTest t (some p) = test 19 (not (soundProcesses (t .processes))) ∷ []
 
--- 1: "records table not sound". 2: "positions table not sound (not for lineage)".
+-- 1: "records table not sound". 2: "positions table not sound (not for lineage)"; document 02, K8, of a new day: "It and the list skip test 2".
 unfoldable pub soundnessTests : Tables → Plan → List Test
 soundnessTests t (booking tests effects) =
     test 1 (not (soundRecords (t .records))) ∷ test 2 (not (soundPositions (t .positions))) ∷ soundProcessesTest t (effects .process)
 soundnessTests t (question tests reply) = test 1 (not (soundRecords (t .records))) ∷ []
+soundnessTests t (dayMove tests day) = test 1 (not (soundRecords (t .records))) ∷ []
 
 -- Document 01's table of refusals for this plan, in its order.
 unfoldable pub refusals : Tables → Plan → List Test
@@ -71,6 +74,7 @@ writtenBy (some p) t b = writeBooks t b
 unfoldable pub planTables : Plan → Tables → Tables
 planTables (booking tests effects) t = writtenBy (effects .process) t (booked effects (booksOf t))
 planTables (question tests reply) t = t
+planTables (dayMove tests day) t = withCurrentDay day t
 
 -- "A refused request changes nothing."
 unfoldable pub answer : Option Test → Tables → Answer → Answer

@@ -15,6 +15,7 @@ pub mod Transfer
 pub mod Merge
 pub mod Lineage
 pub mod GiveUp
+pub mod Day
 pub mod Layout
 pub mod Tables
 pub mod Handle
@@ -25,6 +26,7 @@ pub mod Line
 pub mod Reader
 pub mod Replay
 pub mod Writing
+pub mod Reportable
 pub mod Call
 pub mod Touching
 pub mod Run

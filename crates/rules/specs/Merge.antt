@@ -99,25 +99,25 @@ timesIn (e ∷ rest) id = cond (eqZ e id) (pos 1) (pos 0) +ℤ timesIn rest id
 
 -- "gets, in list order, an inverse row of type 901 with its id's next suffix, parent the source, into = the new id": an earlier source of
 -- the same id has taken a suffix already. "Booked cells are 0."
-unfoldable pub mergeInverses : ℤ → List ℤ → List Source → List Record
-mergeInverses into earlier [] = []
-mergeInverses into earlier (s ∷ rest) =
-    inverseRecord (theRecord (s .found)) (nextSuffix (s .greatest) +ℤ timesIn earlier (s .pair .major)) mergeKind (pos 0) (pos 0) into
-    ∷ mergeInverses into (s .pair .major ∷ earlier) rest
+unfoldable pub mergeInverses : (today : ℤ) → ℤ → List ℤ → List Source → List Record
+mergeInverses today into earlier [] = []
+mergeInverses today into earlier (s ∷ rest) =
+    inverseRecord today (theRecord (s .found)) (nextSuffix (s .greatest) +ℤ timesIn earlier (s .pair .major)) mergeKind (pos 0) (pos 0) into
+    ∷ mergeInverses today into (s .pair .major ∷ earlier) rest
 
 -- "Then the new id's suffix 0, parent 0, type 901, status 0, quantity Q"; "its account, series and side code are the sources'"
-unfoldable pub mergedRecord : ℤ → List Record → Record
-mergedRecord id sources =
+unfoldable pub mergedRecord : (today : ℤ) → ℤ → List Record → Record
+mergedRecord today id sources =
     let first : Record = firstOf sources in
     let q : ℤ = sumOfQuantities sources in
-    newRecord id mergeKind (first .account) (first .series) (first .side) q (averageOf (sumOfValues sources) q) (pos 0) (pos 0)
+    newRecord today id mergeKind (first .account) (first .series) (first .side) q (averageOf (sumOfValues sources) q) (pos 0) (pos 0)
 
 unfoldable pub mergeResidual : List Record → ℤ
 mergeResidual sources = residualOf (isBuy (firstOf sources .side)) (sumOfValues sources) (sumOfQuantities sources)
 
--- `newId` is the greatest suffix of the new id, where it has a record; `p` the position of the account and series.
-unfoldable pub mergePlan : (id account series : ℤ) → List ℤ → Option ℤ → List Source → Position → Plan
-mergePlan id account series pairs newId sources p =
+-- `today` is the current day; `newId` the greatest suffix of the new id, where it has a record; `p` the position of the account and series.
+unfoldable pub mergePlan : (today id account series : ℤ) → List ℤ → Option ℤ → List Source → Position → Plan
+mergePlan today id account series pairs newId sources p =
     let rs : List Record = recordsOf sources in
     let residual : ℤ = mergeResidual rs in
     booking
@@ -133,7 +133,7 @@ mergePlan id account series pairs newId sources p =
     ∷ [])
     (record {
       changed = map adjustedRecord rs;
-      added = mergeInverses id [] sources ++ (mergedRecord id rs ∷ []);
+      added = mergeInverses today id [] sources ++ (mergedRecord today id rs ∷ []);
       positions = moved p (byResidual residual) ∷ [];
       process = none;
       reply = Booked (pos (length sources) +ℤ pos 1) residual;

@@ -24,6 +24,7 @@ noRecord = record {
   long = pos 0;
   short = pos 0;
   into = pos 0;
+  day = pos 0;
 }
 
 unfoldable pub theRecord : Option Record → Record

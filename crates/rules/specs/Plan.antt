@@ -4,6 +4,7 @@ use mathlib.Core.Bool.{Bool, not}
 use mathlib.Core.List.{List, [], _∷_, _++_, map}
 use mathlib.Core.Option.{Option, none, some}
 use lib.Dec.{ltb}
+use lib.IntN.{ℤ, pos}
 use lib.ListN.{length}
 use lib.Signed.{ltZ}
 use Rattle.rules.specs.Figures.{greatestOfSuffixes}
@@ -11,11 +12,12 @@ use Rattle.rules.specs.Keyed.{upsert, upsertAll, absentFrom}
 use Rattle.rules.specs.Rows.{recordKey, positionKey, soundPosition}
 use Rattle.rules.specs.ProcessRows.{processKey}
 use Rattle.rules.specs.Refusal.{Test, test, anyOf, allOf}
-use Rattle.rules.specs.Books.{Books}
+use Rattle.rules.specs.Books.{Books, withDay}
 use Rattle.rules.specs.declared.Record.{Record}
 use Rattle.rules.specs.declared.Position.{Position}
 use Rattle.rules.specs.declared.ProcessRow.{ProcessRow}
 use Rattle.rules.specs.declared.Reply.{Reply}
+use Rattle.rules.specs.declared.Reply.the-variants.{Booked}
 
 -- What an accepted request does: named records in their new status, new rows, the position rows that it needs as they will stand, the process row of a step of a give-up,
 -- and its answer.
@@ -30,10 +32,12 @@ pub record Effects : Type 0 where
 abbrev pub withProcessRow : ProcessRow → Effects → Effects
 withProcessRow p e = record { changed = e .changed; added = e .added; positions = e .positions; process = some p; reply = e .reply }
 
--- A request that books has its own tests (3 to 12, and 18) and its effects; a question has its own tests and its answer.
+-- A request that books has its own tests (3 to 12, and 18) and its effects; a question has its own tests and its answer; a request for a new day (document 02, K8) has its own tests and
+-- that day.
 pub data Plan : Type 0 where
   booking : List Test → Effects → Plan
   question : List Test → Reply → Plan
+  dayMove : List Test → (day : ℤ) → Plan
 
 unfoldable pub suffixIsAbove : Record → Bool
 suffixIsAbove r = ltZ greatestOfSuffixes (r .suffix)
@@ -59,6 +63,7 @@ bookingTests b e =
 unfoldable pub planTests : Books → Plan → List Test
 planTests b (booking tests effects) = tests ++ bookingTests b effects
 planTests b (question tests reply) = tests
+planTests b (dayMove tests day) = tests
 
 -- The process row of a step replaces the one with its key, or goes where its key belongs; other requests have none.
 unfoldable pub putProcess : Option ProcessRow → List ProcessRow → List ProcessRow
@@ -74,13 +79,16 @@ booked e b = record {
   recordsRoom = b .recordsRoom;
   positionsRoom = b .positionsRoom;
   processesRoom = b .processesRoom;
+  day = b .day;
 }
 
--- The books and the answer where no refusal applies. A question never writes.
+-- The books and the answer where no refusal applies. A question never writes; a new day leaves every row.
 unfoldable pub planBooks : Plan → Books → Books
 planBooks (booking tests effects) b = booked effects b
 planBooks (question tests reply) b = b
+planBooks (dayMove tests day) b = withDay day b
 
 unfoldable pub planReply : Plan → Reply
 planReply (booking tests effects) = effects .reply
 planReply (question tests reply) = reply
+planReply (dayMove tests day) = Booked (pos 0) (pos 0)

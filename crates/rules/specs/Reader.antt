@@ -9,12 +9,12 @@ use lib.IntN.{ℤ, pos}
 use lib.ListN.{length, getD, drop}
 use Rattle.text.specs.Fields.{tab, newline}
 use Rattle.text.specs.Scan.{Taken, taken, first, takeFields}
-use Rattle.rules.specs.Request.{Request, trade, separate, transfer, merge, giveUp}
+use Rattle.rules.specs.Request.{Request, trade, separate, transfer, merge, giveUp, newDay}
 use Rattle.rules.specs.Line.{passesTest3}
 use Rattle.rules.specs.declared.Step.{Step}
 use Rattle.rules.specs.declared.Step.the-variants.{Open, Claim, Cancel, Refuse, ApproveGiver, ApproveTaker}
 use Rattle.rules.specs.declared.Heading.{Heading}
-use Rattle.rules.specs.declared.Heading.the-variants.{Trade, Separation, Transfer, Merge, GiveUp}
+use Rattle.rules.specs.declared.Heading.the-variants.{Trade, Separation, Transfer, Merge, GiveUp, Day}
 
 -- A line taken apart: its heading, and its figures.
 pub record Line : Type 0 where
@@ -46,7 +46,8 @@ takeHeading text =
     (cond (eqb (first text) 83) (some (taken Separation (drop 1 text)))
     (cond (eqb (first text) 65) (some (taken Transfer (drop 1 text)))
     (cond (eqb (first text) 77) (some (taken Merge (drop 1 text)))
-    (cond (eqb (first text) 71) (takeStep (drop 1 text)) none))))
+    (cond (eqb (first text) 71) (takeStep (drop 1 text))
+    (cond (eqb (first text) 68) (some (taken Day (drop 1 text))) none)))))
 
 -- ---- heading, figures and newline
 
@@ -69,13 +70,14 @@ takeLine text = figuresAfter (takeHeading text)
 abbrev pub figureAt : List ℤ → ℕ → ℤ
 figureAt figures at = getD figures at (pos 0)
 
--- "T id account series side quantity price; S id suffix account series then parts; A id suffix from to series; M id account series then pairs"; a step's line has six after its letter.
+-- "T id account series side quantity price; S id suffix account series then parts; A id suffix from to series; M id account series then pairs"; a step's line has six after its letter, "D day" one.
 unfoldable pub hasItsFigures : Heading → ℕ → Bool
 hasItsFigures Trade count = eqb count 6
 hasItsFigures Separation count = leb 4 count
 hasItsFigures Transfer count = eqb count 5
 hasItsFigures Merge count = leb 3 count
 hasItsFigures (GiveUp step) count = eqb count 6
+hasItsFigures Day count = eqb count 1
 
 -- The request that these figures name in such a line.
 unfoldable pub requestNamed : Heading → List ℤ → Request
@@ -84,6 +86,7 @@ requestNamed Separation f = separate (figureAt f 0) (figureAt f 1) (figureAt f 2
 requestNamed Transfer f = transfer (figureAt f 0) (figureAt f 1) (figureAt f 2) (figureAt f 3) (figureAt f 4)
 requestNamed Merge f = merge (figureAt f 0) (figureAt f 1) (figureAt f 2) (drop 3 f)
 requestNamed (GiveUp step) f = giveUp step (figureAt f 0) (figureAt f 1) (figureAt f 2) (figureAt f 3) (figureAt f 4) (figureAt f 5)
+requestNamed Day f = newDay (figureAt f 0)
 
 -- "of requests that pass test 3"
 unfoldable pub isValidLine : Heading → List ℤ → Bool

@@ -2,7 +2,7 @@
 use lib.IntN.{ℤ, pos}
 use Rattle.rules.specs.Refusal.{Test}
 use Rattle.rules.specs.declared.Reply.{Reply}
-use Rattle.rules.specs.declared.Reply.the-variants.{Booked, ClosingError, Lineage, Refused, Stopped, Written, Replayed, BadLine, LineRefused}
+use Rattle.rules.specs.declared.Reply.the-variants.{Booked, ClosingError, Lineage, Refused, Stopped, Written, Replayed, BadLine, LineRefused, Listed}
 
 -- An answer as four numbers: which it is, in the order of "The answer is one of" and then of document 02, and what it carries, 0 where it carries less.
 pub record Code : Type 0 where
@@ -21,6 +21,7 @@ codeOf (Written bytes) = record { kind = pos 5; first = bytes; second = pos 0; t
 codeOf (Replayed lines) = record { kind = pos 6; first = lines; second = pos 0; third = pos 0 }
 codeOf (BadLine line) = record { kind = pos 7; first = line; second = pos 0; third = pos 0 }
 codeOf (LineRefused line number place) = record { kind = pos 8; first = line; second = number; third = place }
+codeOf (Listed records) = record { kind = pos 9; first = records; second = pos 0; third = pos 0 }
 
 -- "refused, with number and place"
 unfoldable pub refusedBy : Test → Reply

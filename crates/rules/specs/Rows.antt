@@ -111,7 +111,7 @@ moved p m = record {
   value = p .value +ℤ m .value;
 }
 
--- A record in another status, and nothing else changed.
+-- A record in another status, and nothing else changed; its day of booking stays too.
 abbrev pub withStatus : ℤ → Record → Record
 withStatus status r = record {
   id = r .id;
@@ -127,15 +127,16 @@ withStatus status r = record {
   long = r .long;
   short = r .short;
   into = r .into;
+  day = r .day;
 }
 
 -- "Status of the named record becomes 1": it changes its status and nothing else.
 unfoldable pub adjustedRecord : Record → Record
 adjustedRecord r = withStatus adjusted r
 
--- A row with suffix 0, parent 0 and status 0: a trade's, and the merged one.
-unfoldable pub newRecord : (id kind account series side quantity price long short : ℤ) → Record
-newRecord id kind account series side quantity price long short = record {
+-- A row with suffix 0, parent 0 and status 0: a trade's, and the merged one. Document 02, K8: "new rows take the header's" day, here as in the two below.
+unfoldable pub newRecord : (today id kind account series side quantity price long short : ℤ) → Record
+newRecord today id kind account series side quantity price long short = record {
   id = id;
   suffix = pos 0;
   parent = pos 0;
@@ -149,11 +150,12 @@ newRecord id kind account series side quantity price long short = record {
   long = long;
   short = short;
   into = pos 0;
+  day = today;
 }
 
 -- "One inverse row follows, quantity negated", with the named suffix as parent. "Other cells of inverse and new rows are copied from the named record."
-unfoldable pub inverseRecord : Record → (suffix kind long short into : ℤ) → Record
-inverseRecord r suffix kind long short into = record {
+unfoldable pub inverseRecord : (today : ℤ) → Record → (suffix kind long short into : ℤ) → Record
+inverseRecord today r suffix kind long short into = record {
   id = r .id;
   suffix = suffix;
   parent = r .suffix;
@@ -167,11 +169,12 @@ inverseRecord r suffix kind long short into = record {
   long = long;
   short = short;
   into = into;
+  day = today;
 }
 
 -- An adjustable row that comes out of the named record, in this account and of this quantity. "Into is 0 except in the inverse rows of a merge."
-unfoldable pub adjustableRecord : Record → (suffix kind account quantity long short : ℤ) → Record
-adjustableRecord r suffix kind account quantity long short = record {
+unfoldable pub adjustableRecord : (today : ℤ) → Record → (suffix kind account quantity long short : ℤ) → Record
+adjustableRecord today r suffix kind account quantity long short = record {
   id = r .id;
   suffix = suffix;
   parent = r .suffix;
@@ -185,4 +188,5 @@ adjustableRecord r suffix kind account quantity long short = record {
   long = long;
   short = short;
   into = pos 0;
+  day = today;
 }

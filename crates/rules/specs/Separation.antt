@@ -25,13 +25,13 @@ separationFigures id suffix account series parts =
     && validCount (length parts) && allOf (map validQuantity parts)
 
 -- "then one adjustable row a part in the order given", with successive suffixes from this one on. "Booked cells are 0."
-unfoldable pub partRecords : Record → ℤ → List ℤ → List Record
-partRecords r suffix [] = []
-partRecords r suffix (q ∷ rest) = adjustableRecord r suffix separationKind (r .account) q (pos 0) (pos 0) ∷ partRecords r (suffix +ℤ pos 1) rest
+unfoldable pub partRecords : (today : ℤ) → Record → ℤ → List ℤ → List Record
+partRecords today r suffix [] = []
+partRecords today r suffix (q ∷ rest) = adjustableRecord today r suffix separationKind (r .account) q (pos 0) (pos 0) ∷ partRecords today r (suffix +ℤ pos 1) rest
 
--- `found` is the named record, `greatest` the greatest suffix of its id. "the position does not move"
-unfoldable pub separationPlan : (id suffix account series : ℤ) → List ℤ → Option Record → Option ℤ → Plan
-separationPlan id suffix account series parts found greatest =
+-- `today` is the current day, `found` the named record, `greatest` the greatest suffix of its id. "the position does not move"
+unfoldable pub separationPlan : (today id suffix account series : ℤ) → List ℤ → Option Record → Option ℤ → Plan
+separationPlan today id suffix account series parts found greatest =
     let r : Record = theRecord found in
     let next : ℤ = nextSuffix greatest in
     booking
@@ -43,7 +43,7 @@ separationPlan id suffix account series parts found greatest =
     ∷ [])
     (record {
       changed = adjustedRecord r ∷ [];
-      added = inverseRecord r next separationKind (pos 0) (pos 0) (pos 0) ∷ partRecords r (next +ℤ pos 1) parts;
+      added = inverseRecord today r next separationKind (pos 0) (pos 0) (pos 0) ∷ partRecords today r (next +ℤ pos 1) parts;
       positions = [];
       process = none;
       reply = Booked (pos (length parts) +ℤ pos 1) (pos 0);

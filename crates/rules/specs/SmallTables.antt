@@ -13,7 +13,7 @@ use Rattle.rules.specs.declared.Position.{Position}
 use Rattle.rules.specs.declared.Reply.{Reply}
 use Rattle.rules.specs.declared.Reply.the-variants.{Booked, Lineage}
 
--- Tables with so many cells after their counts, no row of them used.
+-- Tables with so many cells after their counts, the records' current day among them, no row of them used.
 abbrev pub emptyCells : ℕ → List ℤ
 emptyCells cells = pos 0 ∷ replicate cells (pos 0)
 
@@ -44,7 +44,7 @@ positionsAfter t requests = rowsOf positionsLayout ((runOf t requests) .tables .
 -- The replies to two trades of 1, the first at a price and the second at 0, to their merge, and to the lineage of the merged record, which gives its price.
 abbrev pub halfMerged : (side price : ℤ) → List Reply
 halfMerged side price =
-    (runOf (empty 65 7)
+    (runOf (empty 71 7)
     (trade (pos 7) (pos 1) (pos 1) side (pos 1) price
     ∷ trade (pos 8) (pos 1) (pos 1) side (pos 1) (pos 0)
     ∷ merge (pos 9) (pos 1) (pos 1) (pos 7 ∷ pos 0 ∷ pos 8 ∷ pos 0 ∷ [])

@@ -1,9 +1,11 @@
 -- The lent tables as cells: their layouts, when they are sound, and their rows.
 use Prim.Native.Nat.{ℕ, _+_}
 use mathlib.Core.Bool.{Bool, _&&_}
-use mathlib.Core.List.{List, [], _∷_, map}
+use mathlib.Core.List.{List, [], _∷_, _++_, map}
 use lib.IntN.{ℤ, pos}
-use lib.ListN.{getD}
+use lib.ListN.{getD, take, drop}
+use Rattle.integers.specs.Order.{inRange}
+use Rattle.rules.specs.Figures.{lastDay}
 use Rattle.rules.specs.Keyed.{Key, rising}
 use Rattle.rules.specs.Rows.{recordKey, positionKey, soundRecord, soundPosition}
 use Rattle.rules.specs.ProcessRows.{processNumber, soundProcess}
@@ -14,7 +16,8 @@ use Rattle.rules.specs.declared.Record.{Record}
 use Rattle.rules.specs.declared.Position.{Position}
 use Rattle.rules.specs.declared.ProcessRow.{ProcessRow}
 
--- "each row has 13 cells: id, suffix, parent, type, status, account, series, side code, quantity, price, long booked, short booked, into"
+-- "each row has 13 cells: id, suffix, parent, type, status, account, series, side code, quantity, price, long booked, short booked, into"; document 02, K8: "Records gain a last cell, the day of
+-- booking"
 abbrev pub recordAt : List ℤ → ℕ → Record
 recordAt cells at = record {
   id = getD cells at (pos 0);
@@ -30,12 +33,13 @@ recordAt cells at = record {
   long = getD cells (at + 10) (pos 0);
   short = getD cells (at + 11) (pos 0);
   into = getD cells (at + 12) (pos 0);
+  day = getD cells (at + 13) (pos 0);
 }
 
 unfoldable pub recordCells : Record → List ℤ
 recordCells r =
     r .id ∷ r .suffix ∷ r .parent ∷ r .kind ∷ r .status ∷ r .account ∷ r .series
-    ∷ r .side ∷ r .quantity ∷ r .price ∷ r .long ∷ r .short ∷ r .into ∷ []
+    ∷ r .side ∷ r .quantity ∷ r .price ∷ r .long ∷ r .short ∷ r .into ∷ r .day ∷ []
 
 -- The cell of a row that has the status.
 abbrev pub statusCell : ℕ
@@ -74,9 +78,9 @@ unfoldable pub processCells : ProcessRow → List ℤ
 processCells p =
     p .process ∷ p .id ∷ p .suffix ∷ p .giving ∷ p .taking ∷ p .series ∷ p .giver ∷ p .taker ∷ p .stage ∷ []
 
--- "Room ... at most 4,096"; for positions "Room likewise, at most 1,024"
+-- "Room ... at most 4,096"; for positions "Room likewise, at most 1,024". Document 02, K8: "the records table's header gains the current day as cell 1, the rows following it"
 abbrev pub recordsLayout : Layout Record
-recordsLayout = record { header = 1; width = 13; most = 4096; get = recordAt; put = recordCells }
+recordsLayout = record { header = 2; width = 14; most = 4096; get = recordAt; put = recordCells }
 
 abbrev pub positionsLayout : Layout Position
 positionsLayout = record { header = 1; width = 7; most = 1024; get = positionAt; put = positionCells }
@@ -90,8 +94,23 @@ unfoldable pub soundTable : {Row : Type 0} → Layout Row → (Row → Key) → 
 soundTable l key soundRow cells =
     countIsSound l cells && rising key (rowsOf l cells) && allOf (map soundRow (rowsOf l cells))
 
+-- Document 01's sentence, of the records: "rows strictly rise by id and then suffix, all figures are in range"
+unfoldable pub soundRecordRows : List ℤ → Bool
+soundRecordRows cells = soundTable recordsLayout recordKey soundRecord cells
+
+-- "the current day as cell 1"
+abbrev pub currentDay : List ℤ → ℤ
+currentDay cells = getD cells 1 (pos 0)
+
+-- Document 02, K8: "sound tables have a header day from 0 to 99,999 and row days from 0 to it"
+unfoldable pub dayWithin : (today : ℤ) → Record → Bool
+dayWithin today r = inRange (pos 0) today (r .day)
+
+unfoldable pub soundDays : (today : ℤ) → List Record → Bool
+soundDays today rows = inRange (pos 0) (pos lastDay) today && allOf (map (dayWithin today) rows)
+
 unfoldable pub soundRecords : List ℤ → Bool
-soundRecords cells = soundTable recordsLayout recordKey soundRecord cells
+soundRecords cells = soundRecordRows cells && soundDays (currentDay cells) (rowsOf recordsLayout cells)
 
 unfoldable pub soundPositions : List ℤ → Bool
 soundPositions cells = soundTable positionsLayout positionKey soundPosition cells
@@ -121,7 +140,14 @@ tablesOf records positions = allTables records positions noProcesses
 abbrev pub withProcesses : List ℤ → Tables → Tables
 withProcesses processes t = allTables (t .records) (t .positions) processes
 
--- Their rows and rooms.
+-- Tables with another current day: cell 1 of the records, and no other cell changed.
+unfoldable pub dayWritten : ℤ → List ℤ → List ℤ
+dayWritten day cells = take 1 cells ++ (day ∷ drop 2 cells)
+
+abbrev pub withCurrentDay : ℤ → Tables → Tables
+withCurrentDay day t = allTables (dayWritten day (t .records)) (t .positions) (t .processes)
+
+-- Their rows and rooms, and the current day.
 unfoldable pub booksOf : Tables → Books
 booksOf t = record {
   records = rowsOf recordsLayout (t .records);
@@ -130,8 +156,10 @@ booksOf t = record {
   recordsRoom = roomOf recordsLayout (t .records);
   positionsRoom = roomOf positionsLayout (t .positions);
   processesRoom = roomOf processesLayout (t .processes);
+  day = currentDay (t .records);
 }
 
+-- The rows written; the day is written by a new day alone (`withCurrentDay`).
 unfoldable pub writeBooks : Tables → Books → Tables
 writeBooks t b = record {
   records = write recordsLayout (t .records) (b .records);

@@ -46,9 +46,9 @@ tradeKind error = cond error closingErrorKind originalKind
 unfoldable pub tradeReply : Bool → ℤ → Reply
 tradeReply error excess = cond error (ClosingError excess) (Booked (pos 1) (pos 0))
 
--- `greatest` is the greatest suffix of the id, where it has a record; `p` the position of the account and series; `c` what is closed.
-unfoldable pub tradePlan : (id account series side quantity price : ℤ) → Option ℤ → Position → Plan
-tradePlan id account series side quantity price greatest p =
+-- `today` is the current day; `greatest` the greatest suffix of the id, where it has a record; `p` the position of the account and series; `c` what is closed.
+unfoldable pub tradePlan : (today id account series side quantity price : ℤ) → Option ℤ → Position → Plan
+tradePlan today id account series side quantity price greatest p =
     let c : ℤ = closedBy side quantity p in
     let error : Bool = isClosingError side quantity c in
     let long : ℤ = longBooked side quantity c in
@@ -59,7 +59,7 @@ tradePlan id account series side quantity price greatest p =
     ∷ [])
     (record {
       changed = [];
-      added = newRecord id (tradeKind error) account series side quantity price long short ∷ [];
+      added = newRecord today id (tradeKind error) account series side quantity price long short ∷ [];
       positions = moved p (inBooked side quantity price long short) ∷ [];
       process = none;
       reply = tradeReply error (quantity -ℤ c);

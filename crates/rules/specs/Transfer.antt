@@ -35,16 +35,16 @@ inSide side amount price = inBooked side amount price (inLong side amount) (inSh
 unfoldable pub holdsTooLittle : Record → Position → Bool
 holdsTooLittle r p = ltZ (cond (isBuy (r .side)) (p .long) (p .short)) (r .quantity)
 
--- "It becomes status 1; an inverse row in the old account and an adjustable row in the new follow", of these types, with both positions moved. `next` is the id's next suffix,
--- `old` and `new` are the positions of the two accounts.
-abbrev pub transferEffects : (inverseKind newKind : ℤ) → Record → (next to : ℤ) → (old new : Position) → Effects
-transferEffects inverseKind newKind r next to old new =
+-- "It becomes status 1; an inverse row in the old account and an adjustable row in the new follow", of these types, with both positions moved. `today` is the current day,
+-- `next` the id's next suffix, `old` and `new` are the positions of the two accounts.
+abbrev pub transferEffects : (inverseKind newKind today : ℤ) → Record → (next to : ℤ) → (old new : Position) → Effects
+transferEffects inverseKind newKind today r next to old new =
     let q : ℤ = r .quantity in
     record {
       changed = adjustedRecord r ∷ [];
       added =
-          inverseRecord r next inverseKind (inLong (r .side) (negℤ q)) (inShort (r .side) (negℤ q)) (pos 0)
-          ∷ adjustableRecord r (next +ℤ pos 1) newKind to q (inLong (r .side) q) (inShort (r .side) q)
+          inverseRecord today r next inverseKind (inLong (r .side) (negℤ q)) (inShort (r .side) (negℤ q)) (pos 0)
+          ∷ adjustableRecord today r (next +ℤ pos 1) newKind to q (inLong (r .side) q) (inShort (r .side) q)
           ∷ [];
       positions =
           moved old (inSide (r .side) (negℤ q) (r .price))
@@ -54,9 +54,9 @@ transferEffects inverseKind newKind r next to old new =
       reply = Booked (pos 2) (pos 0);
     }
 
--- `found` is the named record, `greatest` the greatest suffix of its id, `old` and `new` the positions of the two accounts. "type 4"
-unfoldable pub transferPlan : (id suffix from to series : ℤ) → Option Record → Option ℤ → Position → Position → Plan
-transferPlan id suffix from to series found greatest old new =
+-- `today` is the current day, `found` the named record, `greatest` the greatest suffix of its id, `old` and `new` the positions of the two accounts. "type 4"
+unfoldable pub transferPlan : (today id suffix from to series : ℤ) → Option Record → Option ℤ → Position → Position → Plan
+transferPlan today id suffix from to series found greatest old new =
     let r : Record = theRecord found in
     booking
     (test 3 (not (transferFigures id suffix from to series))
@@ -66,4 +66,4 @@ transferPlan id suffix from to series found greatest old new =
     ∷ test 8 (isToClose (r .side))
     ∷ test 12 (holdsTooLittle r old)
     ∷ [])
-    (transferEffects transferKind transferKind r (nextSuffix greatest) to old new)
+    (transferEffects transferKind transferKind today r (nextSuffix greatest) to old new)

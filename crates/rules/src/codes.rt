@@ -39,3 +39,6 @@ pub const DONE: i64 = 0;
 pub const GREATEST_SUFFIX: i64 = 65_535;
 
 pub const MOST_QUANTITY: i64 = 1_000_000;
+
+// The greatest day (document 02, K8).
+pub const LAST_DAY: i64 = 99_999;

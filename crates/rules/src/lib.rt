@@ -21,6 +21,8 @@ pub struct Record {
     pub short: i64,
     // The id that the source was merged into, in the inverse rows of a merge; otherwise 0.
     pub into: i64,
+    // The day of booking (document 02, K8).
+    pub day: i64,
 }
 
 // A row of the positions table. Its key is the account, then the series.
@@ -89,6 +91,7 @@ pub enum Heading {
     Transfer,
     Merge,
     GiveUp(Step),
+    Day,
 }
 
 // What a request changes in a position.
@@ -129,4 +132,6 @@ pub enum Reply {
     BadLine(i64),
     // A text replayed up to a line, counted from 1, whose request is refused: the line, then the refusal's number and place.
     LineRefused(i64, i64, i64),
+    // The end-of-day reporting list: how many records.
+    Listed(i64),
 }

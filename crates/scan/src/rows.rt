@@ -28,6 +28,7 @@ pub fn record_at(cells: &[i64], at: usize) -> Record
         long: cells[at + 10],
         short: cells[at + 11],
         into: cells[at + 12],
+        day: cells[at + 13],
     }
 }
 
@@ -80,6 +81,7 @@ pub fn record_cells(r: Record) -> [i64; RECORD_WIDTH]
         r.long,
         r.short,
         r.into,
+        r.day,
     ]
 }
 

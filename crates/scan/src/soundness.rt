@@ -3,6 +3,8 @@ use super::rows;
 use rules::Position;
 use rules::ProcessRow;
 use rules::Record;
+use rules::codes::LAST_DAY;
+use rules::layout::DAY_CELL;
 use rules::layout::MOST_POSITIONS;
 use rules::layout::MOST_PROCESSES;
 use rules::layout::MOST_RECORDS;
@@ -19,7 +21,7 @@ ghost use Rattle.rules.specs.Rows.{recordKey, positionKey, soundRecord, soundPo
 ghost use Rattle.rules.specs.ProcessRows.{processNumber, soundProcess};
 ghost use Rattle.rules.specs.Layout.{roomFor, startOf};
 ghost use Rattle.rules.specs.Tables.{recordsLayout, positionsLayout, processesLayout, soundRecords, soundPositions, soundProcesses};
-ghost use Rattle.scan.specs.Scan.{countSound, rowsRiseSound};
+ghost use Rattle.scan.specs.Scan.{countSound, rowsRiseSound, soundRecordOn};
 
 // How many whole rows fit into so many cells, at most `most`.
 pub fn room_for(header: usize, width: usize, most: usize, cells: usize) -> usize
@@ -45,7 +47,7 @@ fn count_sound(cells: &[i64], header: usize, width: usize, most: usize) -> bool
     figures::in_range(0, room, cells[0])
 }
 
-// The kind comes last: its test, a table of bits, then keeps no other cell waiting in a register.
+// The kind comes last: its test, a table of bits, then keeps no other cell waiting in a register. The day is tested before (`sound_record_on`).
 pub fn sound_record(r: Record) -> bool
     ensures { λ s. ⌜ s ≡ soundRecord r ⌝ }
 {
@@ -89,6 +91,16 @@ pub fn sound_record(r: Record) -> bool
         return false;
     }
     figures::valid_kind(r.kind)
+}
+
+// A record as the scan asks it: sound, and booked on no later day than the current one.
+fn sound_record_on(r: Record, today: i64) -> bool
+    ensures { λ s. ⌜ s ≡ soundRecordOn today r ⌝ }
+{
+    if !figures::in_range(0, today, r.day) {
+        return false;
+    }
+    sound_record(r)
 }
 
 pub fn sound_position(p: Position) -> bool
@@ -150,14 +162,14 @@ const NEXT_SERIES: usize = POSITION_WIDTH + 1;
 
 const NEXT_PROCESS: usize = PROCESS_WIDTH;
 
-fn record_rows_sound(cells: &[i64], count: usize) -> bool
+fn record_rows_sound(cells: &[i64], count: usize, today: i64) -> bool
     requires { ⌜ startOf recordsLayout count ≤ length (now cells) ⌝ }
-    ensures { λ r. ⌜ r ≡ rowsRiseSound recordsLayout recordKey soundRecord count (now (cells .entry)) ⌝ }
+    ensures { λ r. ⌜ r ≡ rowsRiseSound recordsLayout recordKey (soundRecordOn today) count (now (cells .entry)) ⌝ }
 {
     let mut left = count;
     let mut at = RECORDS_HEADER;
     while 0 < left {
-        if !sound_record(rows::record_at(cells, at)) {
+        if !sound_record_on(rows::record_at(cells, at), today) {
             return false;
         }
         if 1 < left {
@@ -230,8 +242,12 @@ pub fn records_sound(cells: &[i64]) -> bool
     if !count_sound(cells, RECORDS_HEADER, RECORD_WIDTH, MOST_RECORDS) {
         return false;
     }
+    let today = cells[DAY_CELL];
+    if !figures::in_range(0, LAST_DAY, today) {
+        return false;
+    }
     let count = cells[0] as usize;
-    record_rows_sound(cells, count)
+    record_rows_sound(cells, count, today)
 }
 
 // Test 2.

@@ -10,17 +10,17 @@ use Rattle.tables.specs.NewRows.{rowsLike, newRows}
 use Rattle.verdict.proofs.Separation.{separationInverse}
 
 -- The first of them, whatever its suffix and quantity.
-abbrev pub firstPart : Record → ℤ → ℤ → Record
-firstPart r suffix quantity = adjustableRecord r suffix separationKind (r .account) quantity (pos 0) (pos 0)
+abbrev pub firstPart : (today : ℤ) → Record → ℤ → ℤ → Record
+firstPart today r suffix quantity = adjustableRecord today r suffix separationKind (r .account) quantity (pos 0) (pos 0)
 
-part-rows : (r : Record) (s q suffix : ℤ) (parts : List ℤ) → rowsLike (firstPart r s q) suffix parts ≡ partRecords r suffix parts
+part-rows : (today : ℤ) (r : Record) (s q suffix : ℤ) (parts : List ℤ) → rowsLike (firstPart today r s q) suffix parts ≡ partRecords today r suffix parts
 unfolding rowsLike partRecords adjustableRecord
-part-rows r s q suffix [] = refl
-part-rows r s q suffix (p ∷ rest) = ap (λ (rows : List Record). firstPart r suffix p ∷ rows) (part-rows r s q (suffix +ℤ pos 1) rest)
+part-rows today r s q suffix [] = refl
+part-rows today r s q suffix (p ∷ rest) = ap (λ (rows : List Record). firstPart today r suffix p ∷ rows) (part-rows today r s q (suffix +ℤ pos 1) rest)
 
 -- All rows of a separation: the inverse, then those of the parts.
-pub separation-rows : (r : Record) (next : ℤ) (parts : List ℤ) (inverse first : Record) → inverse ≡ separationInverse r next → first ≡ firstPart r (next +ℤ pos 1) (r .quantity)
-    → newRows inverse first parts ≡ separationInverse r next ∷ partRecords r (next +ℤ pos 1) parts
+pub separation-rows : (today : ℤ) (r : Record) (next : ℤ) (parts : List ℤ) (inverse first : Record) → inverse ≡ separationInverse today r next → first ≡ firstPart today r (next +ℤ pos 1) (r .quantity)
+    → newRows inverse first parts ≡ separationInverse today r next ∷ partRecords today r (next +ℤ pos 1) parts
 unfolding adjustableRecord
-separation-rows r next parts inverse first e f =
-    (λ i. newRows (e i) (f i) parts) ∙ ap (λ (rows : List Record). separationInverse r next ∷ rows) (part-rows r (next +ℤ pos 1) (r .quantity) (next +ℤ pos 1) parts)
+separation-rows today r next parts inverse first e f =
+    (λ i. newRows (e i) (f i) parts) ∙ ap (λ (rows : List Record). separationInverse today r next ∷ rows) (part-rows today r (next +ℤ pos 1) (r .quantity) (next +ℤ pos 1) parts)

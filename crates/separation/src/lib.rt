@@ -123,8 +123,18 @@ pub fn book(
 {
     let r = named.record;
     let next = named.next;
-    let inverse = requests::inverse_record(r, next, SEPARATION, 0, 0, 0);
-    let first = requests::adjustable_record(r, next + 1, SEPARATION, r.account, r.quantity, 0, 0);
+    let today = records::today(records);
+    let inverse = requests::inverse_record(today, r, next, SEPARATION, 0, 0, 0);
+    let first = requests::adjustable_record(
+        today,
+        r,
+        next + 1,
+        SEPARATION,
+        r.account,
+        r.quantity,
+        0,
+        0,
+    );
     requests::adjust_named(records, id, suffix, named, inverse, first, parts);
     let rows = parts.len() as i64 + 1;
     Reply::Booked { rows, residual: 0 }

@@ -2,8 +2,11 @@
 use libc::STDOUT_FILENO;
 use rules::Reply;
 use rules::layout::POSITION_WIDTH;
+use rules::layout::POSITIONS_HEADER;
 use rules::layout::PROCESS_WIDTH;
+use rules::layout::PROCESSES_HEADER;
 use rules::layout::RECORD_WIDTH;
+use rules::layout::RECORDS_HEADER;
 ghost use mathlib.Core.Path.{_≡_};
 ghost use Prim.Native.Nat.{ℕ, _<_, _≤_};
 ghost use lib.IntN.{pos};
@@ -21,8 +24,10 @@ pub fn legend() {
 }
 
 pub fn tables_legend() {
-    printing::text(b"records: count | id | suffix | parent | type | status | account | series");
-    printing::line(b" | side code | quantity | price | long booked | short booked | into |");
+    printing::text(
+        b"records: count, current day | id | suffix | parent | type | status | account | series",
+    );
+    printing::line(b" | side code | quantity | price | long booked | short booked | into | day |");
     printing::line(
         b"positions: count | account | series | long | short | cash | quantity | value |",
     );
@@ -110,6 +115,9 @@ pub fn reply(r: Reply) {
             printing::number(line);
             two(number, place);
         }
+        Reply::Listed(records) => {
+            printing::value(b"listed: records ", records);
+        }
     }
 }
 
@@ -120,13 +128,13 @@ pub fn excesses(cells: &[i64]) {
     printing::text(b"\n");
 }
 
-// So many rows of a width, after cell 0, as far as there are cells; answers the first cell past them.
-fn rows(cells: &[i64], count: usize, width: usize) -> usize
-    requires { ⌜ 0 < length (now cells) ⌝ }
+// So many rows of a width, after a header, as far as there are cells; answers the first cell past them.
+fn rows(cells: &[i64], count: usize, header: usize, width: usize) -> usize
+    requires { ⌜ header ≤ length (now cells) ⌝ }
     ensures { λ r. ⌜ r ≤ length (now (cells .entry)) ⌝ }
 {
     let mut row = 0;
-    let mut at = 1;
+    let mut at = header;
     while row < count {
         if cells.len() - at < width {
             return at;
@@ -177,29 +185,45 @@ fn past(cells: &[i64], from: usize) {
     printing::text(b"\n");
 }
 
-// The count, its rows, and the cells past them.
-fn table(cells: &[i64], width: usize) {
+// The current day, which the records' header has after the count.
+fn day(cells: &[i64], header: usize) {
+    if header < 2 {
+        return;
+    }
+    if 1 < cells.len() {
+        printing::text(b", day ");
+        printing::number(cells[1]);
+    }
+}
+
+// The count, for the records the current day, the rows, and the cells past them.
+fn table(cells: &[i64], header: usize, width: usize) {
     if cells.len() == 0 {
         printing::line(b"an empty slice");
         return;
     }
     let count = cells[0];
-    printing::value(b"", count);
+    printing::number(count);
+    day(cells, header);
+    printing::text(b"\n");
+    if cells.len() < header {
+        return;
+    }
     if count < 0 {
         return;
     }
-    let end = rows(cells, count as usize, width);
+    let end = rows(cells, count as usize, header, width);
     past(cells, end);
 }
 
 pub fn tables(records: &[i64], positions: &[i64]) {
     printing::text(b"records: ");
-    table(records, RECORD_WIDTH);
+    table(records, RECORDS_HEADER, RECORD_WIDTH);
     printing::text(b"positions: ");
-    table(positions, POSITION_WIDTH);
+    table(positions, POSITIONS_HEADER, POSITION_WIDTH);
 }
 
 pub fn processes(cells: &[i64]) {
     printing::text(b"processes: ");
-    table(cells, PROCESS_WIDTH);
+    table(cells, PROCESSES_HEADER, PROCESS_WIDTH);
 }

@@ -1,9 +1,8 @@
 -- An accepted step of a give-up on sound books: the process row that it writes is sound and the process ids rise with it; the named record stands, and stays sound in its new status;
 -- the step that completes books a transfer's rows. Assumes nothing.
 use mathlib.Core.Path.{_≡_, refl, sym, _∙_, ap, subst}
-use mathlib.Core.Bool.{Bool, true, false, cond, not, _&&_, _||_}
+use mathlib.Core.Bool.{Bool, true, false, cond, not}
 use mathlib.Core.List.{List, [], _∷_, map}
-use mathlib.Core.Logic.{_⊎_, inl, inr}
 use mathlib.Core.Option.{Option, none, some}
 use borrow.Author.Tests.{not-false, not-true}
 use lib.IntN.{ℤ, pos}
@@ -13,20 +12,21 @@ use Rattle.rules.specs.Figures.{validId, validSuffix, validAccount, validSeries
 use Rattle.rules.specs.Keyed.{Key, isSome, find, greatest, rising, upsert}
 use Rattle.rules.specs.NamedRecord.{isNotAdjustable, statusTest}
 use Rattle.rules.specs.Rows.{keyOf, recordKey, positionKey, withStatus, soundRecord, validKind}
-use Rattle.rules.specs.ProcessRows.{processKey, processNumber, pending, claimed, refused, cancelled, done, withProgress, withStage, openedProcess, theProcess, validStage, validApproval, soundProcess}
-use Rattle.rules.specs.Refusal.{Test, test, allOf, anyOf}
+use Rattle.rules.specs.ProcessRows.{processKey, processNumber, pending, claimed, refused, cancelled, done, withProgress, openedProcess, theProcess, validStage, validApproval, soundProcess}
+use Rattle.rules.specs.Refusal.{test, allOf, anyOf}
 use Rattle.rules.specs.Request.{giveUp}
 use Rattle.rules.specs.Books.{Books, viewOf}
 use Rattle.rules.specs.Handle.{planOf}
 use Rattle.rules.specs.Plan.{Effects, withProcessRow, suffixIsAbove}
 use Rattle.rules.specs.Transfer.{transferFigures, transferEffects}
-use Rattle.rules.specs.GiveUp.{giveUpFigures, isOpening, isAt, hasTurn, hasFigures, mayStep, isOutOfTurn, stepped, isComplete, stepStatusTest, recordAfter, stepEffects, finished, giveUpEffects, processBefore, giveUpPlan}
+use Rattle.rules.specs.GiveUp.{giveUpFigures, isOpening, mayStep, isOutOfTurn, stepped, isComplete, stepStatusTest, recordAfter, stepEffects, finished, giveUpEffects, processBefore, giveUpPlan}
+use Rattle.rules.specs.Tables.{dayWithin}
 use Rattle.rules.specs.declared.Record.{Record}
 use Rattle.rules.specs.declared.ProcessRow.{ProcessRow}
 use Rattle.rules.specs.declared.Step.{Step}
 use Rattle.rules.specs.declared.Step.the-variants.{Open, Claim, Cancel, Refuse, ApproveGiver, ApproveTaker}
-use Rattle.keys.proofs.Split.{split, clash, and-left, and-right, and-intro, cond-true, cond-false, Found, absent, present, found}
-use Rattle.keys.proofs.Clauses.{allOf-nil, allOf-intro, isSome-none, isSome-some}
+use Rattle.keys.proofs.Split.{clash, and-left, and-right, and-intro}
+use Rattle.keys.proofs.Clauses.{allOf-nil, allOf-intro}
 use Rattle.keys.proofs.Lookup.{find-key, find-all}
 use Rattle.keys.proofs.Counts.{isSome-absent, distinct-nil, hasAll, hasAll-intro}
 use Rattle.keys.proofs.FirstFigures.{new-rises, same-rises}
@@ -35,6 +35,7 @@ use Rattle.soundness.proofs.Accepted.{both, own-passed, booking-passed}
 use Rattle.soundness.proofs.ReadPosition.{readAt}
 use Rattle.soundness.proofs.SoundRows.{adjustable-open, under-give-up-open, adjustable-again-sound, under-give-up-sound}
 use Rattle.soundness.proofs.NamedRecord.{recordOf, nextOf, Named, named-open, restated-stands}
+use Rattle.soundness.proofs.Days.{restated-within}
 use Rattle.soundness.proofs.BookingFacts.{ProcessFacts, BookingFacts, PlanFacts}
 use Rattle.soundness.proofs.Transfer.{transfer-effects-facts}
 
@@ -287,36 +288,41 @@ module _ (b : Books) (sound : SoundBooks b) (step : Step) (process id suffix giv
   )
 
   -- The effects on records and positions.
-  restated-facts : (status : ℤ) → soundRecord (withStatus status (recordOf t k)) ≡ true → (hasAll recordKey t (withStatus status (recordOf t k) ∷ []) ≡ true)
-      × (allOf (map soundRecord (withStatus status (recordOf t k) ∷ [])) ≡ true)
+  abbrev ChangedFacts : List Record → Type 0
+  ChangedFacts changed = (hasAll recordKey t changed ≡ true) × (allOf (map soundRecord changed) ≡ true) × (allOf (map (dayWithin (b .day)) changed) ≡ true)
+
+  restated-facts : (status : ℤ) → soundRecord (withStatus status (recordOf t k)) ≡ true → ChangedFacts (withStatus status (recordOf t k) ∷ [])
   restated-facts status s = (
     hasAll-intro recordKey t (withStatus status (recordOf t k)) (recordOf t k) [] (restated-stands t k record-named status) allOf-nil,
     allOf-intro (soundRecord (withStatus status (recordOf t k))) [] s allOf-nil,
+    allOf-intro (dayWithin (b .day) (withStatus status (recordOf t k))) [] (restated-within (b .day) t k (sound .days-sound) record-named status) allOf-nil,
   )
 
-  changed-facts : (s : Step) → (hasAll recordKey t (recordAfter s (recordOf t k)) ≡ true) × (allOf (map soundRecord (recordAfter s (recordOf t k))) ≡ true)
+  changed-facts : (s : Step) → ChangedFacts (recordAfter s (recordOf t k))
   unfolding recordAfter
   changed-facts Open = restated-facts underGiveUp (under-give-up-sound (recordOf t k) (record-named .sound) (record-named .not-inverse))
-  changed-facts Claim = (allOf-nil, allOf-nil)
+  changed-facts Claim = (allOf-nil, allOf-nil, allOf-nil)
   changed-facts Cancel = restated-facts adjustable (adjustable-again-sound (recordOf t k) (record-named .sound) (record-named .not-inverse))
   changed-facts Refuse = restated-facts adjustable (adjustable-again-sound (recordOf t k) (record-named .sound) (record-named .not-inverse))
-  changed-facts ApproveGiver = (allOf-nil, allOf-nil)
-  changed-facts ApproveTaker = (allOf-nil, allOf-nil)
+  changed-facts ApproveGiver = (allOf-nil, allOf-nil, allOf-nil)
+  changed-facts ApproveTaker = (allOf-nil, allOf-nil, allOf-nil)
 
   step-facts : BookingFacts b (stepEffects step (recordOf t k))
   step-facts = record {
     changed-present = changed-facts step .0;
     changed-sound = changed-facts step .1;
+    changed-days = changed-facts step .2;
     added-absent = allOf-nil;
     added-distinct = distinct-nil recordKey;
     added-sound = allOf-nil;
+    added-days = allOf-nil;
     positions-distinct = distinct-nil positionKey;
     process-kept = tt;
     answered = refl;
   }
 
   abbrev completing : Effects
-  completing = transferEffects giveUpKind takeUpKind (recordOf t k) (nextOf t id) taking (readAt giving series (b .positions)) (readAt taking series (b .positions))
+  completing = transferEffects giveUpKind takeUpKind (b .day) (recordOf t k) (nextOf t id) taking (readAt giving series (b .positions)) (readAt taking series (b .positions))
 
   kind-give-up : validKind giveUpKind ≡ true
   unfolding validKind eqZ
@@ -329,7 +335,7 @@ module _ (b : Books) (sound : SoundBooks b) (step : Step) (process id suffix giv
   effects-facts : (c : Bool) → anyOf (map suffixIsAbove (cond c completing (stepEffects step (recordOf t k)) .added)) ≡ false
       → BookingFacts b (cond c completing (stepEffects step (recordOf t k)))
   effects-facts true a =
-      transfer-effects-facts b id suffix giving taking series giveUpKind takeUpKind record-named kind-give-up kind-take-up (figures-passed .taking-valid) (figures-passed .accounts-differ) a
+      transfer-effects-facts b id suffix giving taking series giveUpKind takeUpKind (sound .days-sound) record-named kind-give-up kind-take-up (figures-passed .taking-valid) (figures-passed .accounts-differ) a
   effects-facts false a = step-facts
 
   -- With the row of its process.
@@ -337,9 +343,11 @@ module _ (b : Books) (sound : SoundBooks b) (step : Step) (process id suffix giv
   with-process p e f g = record {
     changed-present = f .changed-present;
     changed-sound = f .changed-sound;
+    changed-days = f .changed-days;
     added-absent = f .added-absent;
     added-distinct = f .added-distinct;
     added-sound = f .added-sound;
+    added-days = f .added-days;
     positions-distinct = f .positions-distinct;
     process-kept = g;
     answered = f .answered;

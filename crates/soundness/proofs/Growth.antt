@@ -14,7 +14,7 @@ use Rattle.rules.specs.ProcessRows.{processKey}
 use Rattle.rules.specs.Refusal.{Test}
 use Rattle.rules.specs.Request.{Request}
 use Rattle.rules.specs.Books.{Books}
-use Rattle.rules.specs.Plan.{Effects, Plan, booking, question, putProcess, booked, planBooks, planReply}
+use Rattle.rules.specs.Plan.{Effects, Plan, booking, question, dayMove, putProcess, booked, planBooks, planReply}
 use Rattle.rules.specs.declared.ProcessRow.{ProcessRow}
 use Rattle.rules.specs.declared.Reply.{Reply}
 use Rattle.rules.specs.declared.Reply.the-variants.{Booked, ClosingError}
@@ -100,3 +100,4 @@ answered-growth b sound r a = go (planOn b r) (plan-facts b sound r a)
     go : (plan : Plan) → PlanFacts b plan → pos (length (planBooks plan b .records)) ≡ pos n +ℤ rowsAnswered (planReply plan)
     go (booking tests e) f = ap pos (facts-records-grow b sound e f) ∙ ap (λ (z : ℤ). pos n +ℤ z) (sym (f .answered))
     go (question tests reply) f = sym (ap (λ (z : ℤ). pos n +ℤ z) f ∙ +ℤ-idr (pos n))
+    go (dayMove tests day) f = sym (+ℤ-idr (pos n))

@@ -6,6 +6,7 @@ pub mod FigureRanges
 pub mod SoundRows
 pub mod NamedRecord
 pub mod LaterRows
+pub mod Days
 pub mod BookingFacts
 pub mod Trade
 pub mod Separation

@@ -1,7 +1,7 @@
 -- An accepted merge on sound books: its sources stand and stay sound; its inverse rows and the merged row are new, differ and are sound. The merged
 -- quantity is positive, there being a source, and at most the greatest (test 11); the average is within the prices. Assumes nothing.
 use Prim.Native.Nat.{ℕ, _%_, _≤_}
-use mathlib.Core.Path.{_≡_, ap}
+use mathlib.Core.Path.{_≡_, refl, ap}
 use mathlib.Core.Bool.{Bool, true, false, not, _&&_}
 use mathlib.Core.List.{List, [], _∷_, _++_, map}
 use native.Mathlib.Omega.{arith}
@@ -23,6 +23,7 @@ use Rattle.rules.specs.Books.{Books, viewOf}
 use Rattle.rules.specs.Handle.{planOf}
 use Rattle.rules.specs.Plan.{suffixIsAbove}
 use Rattle.rules.specs.Merge.{pairsOf, validPair, mergeFigures, sourcesOf, recordsOf, firstOf, sumOfQuantities, sumOfValues, mergedRecord, mergeResidual, mergePlan}
+use Rattle.rules.specs.Tables.{dayWithin}
 use Rattle.rules.specs.declared.Record.{Record}
 use Rattle.keys.proofs.Split.{and-left, and-right, or-right}
 use Rattle.keys.proofs.Clauses.{allOf-nil, allOf-intro}
@@ -36,10 +37,11 @@ use Rattle.soundness.proofs.FigureRanges.{in-price}
 use Rattle.soundness.proofs.SoundRows.{nothing-booked, new-sound}
 use Rattle.soundness.proofs.NamedRecord.{recordOf, nextOf}
 use Rattle.soundness.proofs.LaterRows.{later-weaker, later-absent, distinct-last}
+use Rattle.soundness.proofs.Days.{today-range, new-within}
 use Rattle.soundness.proofs.BookingFacts.{PlanFacts}
 use Rattle.soundness.proofs.MergeAccepted.{MergePassed, merge-passed}
-use Rattle.soundness.proofs.MergeSources.{recordsAt, AllNamed, all-named, sources-present, sources-sound, sums}
-use Rattle.soundness.proofs.MergeInverses.{nextAfter, next-after, merge-kind, inversesOf, inverses-count, inverses-later, inverses-differ, inverses-apart, inverses-sound}
+use Rattle.soundness.proofs.MergeSources.{recordsAt, AllNamed, all-named, sources-present, sources-sound, sources-days, sums}
+use Rattle.soundness.proofs.MergeInverses.{nextAfter, next-after, merge-kind, inversesOf, inverses-count, inverses-later, inverses-differ, inverses-apart, inverses-sound, inverses-days}
 
 -- ---- figures
 
@@ -66,7 +68,7 @@ sources-several id account series pairs h =
 -- ---- the merged row
 
 merged-sound : (b : Books) (id : ℤ) (ks : List Key) → AllNamed (b .records) ks → 2 ≤ length ks → validId id ≡ true → sumOfQuantities (recordsAt b ks) ≤ℤ pos mostQuantity →
-    soundRecord (mergedRecord id (recordsAt b ks)) ≡ true
+    soundRecord (mergedRecord (b .day) id (recordsAt b ks)) ≡ true
 unfolding mergedRecord firstOf recordsOf sourcesOf viewOf sumOfQuantities
 merged-sound b id [] n h i m = absurd (omega arith)
 merged-sound b id (k ∷ ks) n h i m =
@@ -76,7 +78,7 @@ merged-sound b id (k ∷ ks) n h i m =
     let one : pos 1 ≤ℤ r .quantity = n .0 .positive in
     let others : pos 0 ≤ℤ sumOfQuantities (recordsAt b ks) = sums b ks (n .1) .not-negative in
     let low : pos 1 ≤ℤ q = omega (zarith, +-lin (r .quantity) (sumOfQuantities (recordsAt b ks))) in
-    new-sound id mergeKind (r .account) (r .series) (r .side) q (averageOf v q) (pos 0) (pos 0) i merge-kind (n .0 .sound .account) (n .0 .sound .series) (n .0 .sound .side)
+    new-sound (b .day) id mergeKind (r .account) (r .series) (r .side) q (averageOf v q) (pos 0) (pos 0) i merge-kind (n .0 .sound .account) (n .0 .sound .series) (n .0 .sound .side)
     low m (in-price (averageOf v q) (average-bound v q low (sums b (k ∷ ks) n .value-bounded))) nothing-booked nothing-booked
 
 into-valid : (id : ℤ) → validId id ≡ true → validInto id ≡ true
@@ -90,9 +92,10 @@ pub merge-facts : (b : Books) → SoundBooks b → (id account series : ℤ) (pa
 unfolding planOf mergePlan viewOf mergedRecord newRecord
 merge-facts b sound id account series pairs accepted =
     let t : List Record = b .records in
+    let low : pos 0 ≤ℤ b .day = today-range (b .day) t (sound .days-sound) .0 in
     let ks : List Key = pairsOf pairs in
     let inverses : List Record = inversesOf b id [] ks in
-    let merged : Record = mergedRecord id (recordsAt b ks) in
+    let merged : Record = mergedRecord (b .day) id (recordsAt b ks) in
     let p : MergePassed id account series pairs (greatest recordKey id t) (sourcesOf (viewOf b) ks) = merge-passed b id account series pairs accepted in
     let n : AllNamed t ks = all-named b ks (sound .records-sound) (p .sources-found) (p .sources-adjustable) in
     let i : validId id ≡ true = id-valid id account series pairs (p .figures) in
@@ -100,12 +103,14 @@ merge-facts b sound id account series pairs accepted =
     record {
       changed-present = sources-present b ks n;
       changed-sound = sources-sound b ks n;
+      changed-days = sources-days b ks (sound .days-sound) n;
       added-absent = only-append recordKey (λ (k : Key). not (isSome (find recordKey k t))) inverses (merged ∷ [])
           (later-absent t inverses (later-weaker (nextAfter t []) (nextOf t) (next-after t []) inverses (inverses-later b id [] ks n)))
           (lacksAll-intro recordKey t merged [] (greatest-none recordKey id (pos 0) t (p .id-is-new)) allOf-nil);
       added-distinct = distinct-last inverses merged (inverses-differ b id [] ks n) (inverses-apart b id id (p .id-is-new) [] ks n);
       added-sound = allOf-append soundRecord inverses (merged ∷ []) (inverses-sound b id (into-valid id i) [] ks n (anyOf-first suffixIsAbove inverses (merged ∷ []) a))
           (allOf-intro (soundRecord merged) [] (merged-sound b id ks n (sources-several id account series pairs (p .figures)) i (p .sum-small)) allOf-nil);
+      added-days = allOf-append (dayWithin (b .day)) inverses (merged ∷ []) (inverses-days b id low [] ks) (allOf-intro (dayWithin (b .day) merged) [] (new-within (b .day) low merged refl) allOf-nil);
       positions-distinct = distinct-intro positionKey (moved (readAt account series (b .positions)) (byResidual (mergeResidual (recordsAt b ks)))) [] allOf-nil (distinct-nil positionKey);
       process-kept = tt;
       answered = ap pos (omega (arith, inverses-count b id [] ks, length-append inverses (merged ∷ [])));

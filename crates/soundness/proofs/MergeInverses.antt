@@ -19,6 +19,7 @@ use Rattle.rules.specs.Refusal.{allOf, anyOf}
 use Rattle.rules.specs.Books.{Books, viewOf}
 use Rattle.rules.specs.Plan.{suffixIsAbove}
 use Rattle.rules.specs.Merge.{sourcesOf, timesIn, mergeInverses}
+use Rattle.rules.specs.Tables.{dayWithin}
 use Rattle.rules.specs.declared.Record.{Record}
 use Rattle.keys.proofs.Split.{split, none-some}
 use Rattle.keys.proofs.KeyOrder.{same-ne}
@@ -30,6 +31,7 @@ use Rattle.soundness.proofs.Accepted.{anyOf-head, anyOf-tail}
 use Rattle.soundness.proofs.SoundRows.{suffix-small, nothing-booked, inverse-sound}
 use Rattle.soundness.proofs.NamedRecord.{recordOf, nextOf}
 use Rattle.soundness.proofs.LaterRows.{atLeastOf, at-least, later-weaker, before-differs}
+use Rattle.soundness.proofs.Days.{new-within}
 use Rattle.soundness.proofs.MergeSources.{AllNamed}
 
 -- ---- how often an id stood before
@@ -83,10 +85,10 @@ merge-kind = refl
 module _ (b : Books) (into : ℤ) where
   -- A source's inverse row after these, and all of them.
   abbrev pub inverseOf : List ℤ → Key → Record
-  inverseOf earlier k = inverseRecord (recordOf (b .records) k) (nextAfter (b .records) earlier (k .major)) mergeKind (pos 0) (pos 0) into
+  inverseOf earlier k = inverseRecord (b .day) (recordOf (b .records) k) (nextAfter (b .records) earlier (k .major)) mergeKind (pos 0) (pos 0) into
 
   abbrev pub inversesOf : List ℤ → List Key → List Record
-  inversesOf earlier ks = mergeInverses into earlier (sourcesOf (viewOf b) ks)
+  inversesOf earlier ks = mergeInverses (b .day) into earlier (sourcesOf (viewOf b) ks)
 
   pub inverses-count : (earlier : List ℤ) (ks : List Key) → length (inversesOf earlier ks) ≡ length (sourcesOf (viewOf b) ks)
   unfolding mergeInverses sourcesOf
@@ -141,6 +143,13 @@ module _ (b : Books) (into : ℤ) where
       let up : (recordOf t k .suffix) <ℤ nextOf t (k .major) = n .0 .next-above in
       let further : nextOf t (k .major) ≤ℤ nextAfter t earlier (k .major) = next-after t earlier (k .major) in
       allOf-intro (soundRecord row) (map soundRecord rest)
-      (inverse-sound (recordOf t k) (n .0 .sound) (n .0 .not-inverse) (nextAfter t earlier (k .major)) (omega zarith)
+      (inverse-sound (recordOf t k) (n .0 .sound) (n .0 .not-inverse) (b .day) (nextAfter t earlier (k .major)) (omega zarith)
       (suffix-small row (anyOf-head (suffixIsAbove row) (map suffixIsAbove rest) a)) mergeKind (pos 0) (pos 0) into merge-kind nothing-booked nothing-booked i)
       (inverses-sound i (k .major ∷ earlier) ks (n .1) (anyOf-tail (suffixIsAbove row) (map suffixIsAbove rest) a))
+
+  pub inverses-days : pos 0 ≤ℤ b .day → (earlier : List ℤ) (ks : List Key) → allOf (map (dayWithin (b .day)) (inversesOf earlier ks)) ≡ true
+  unfolding mergeInverses sourcesOf viewOf inverseRecord
+  inverses-days low earlier [] = allOf-nil
+  inverses-days low earlier (k ∷ ks) =
+      allOf-intro (dayWithin (b .day) (inverseOf earlier k)) (map (dayWithin (b .day)) (inversesOf (k .major ∷ earlier) ks)) (new-within (b .day) low (inverseOf earlier k) refl)
+      (inverses-days low (k .major ∷ earlier) ks)

@@ -16,6 +16,7 @@ use Rattle.rules.specs.Rows.{recordKey, adjustedRecord, soundRecord}
 use Rattle.rules.specs.Refusal.{allOf, anyOf}
 use Rattle.rules.specs.Books.{Books, viewOf}
 use Rattle.rules.specs.Merge.{sourcesOf, recordsOf, isMissing, sumOfQuantities, sumOfValues}
+use Rattle.rules.specs.Tables.{dayWithin, soundDays}
 use Rattle.rules.specs.declared.Record.{Record}
 use Rattle.keys.proofs.Clauses.{allOf-nil, allOf-intro}
 use Rattle.keys.proofs.Counts.{hasAll, hasAll-intro}
@@ -23,6 +24,7 @@ use Rattle.soundness.proofs.Accepted.{anyOf-head, anyOf-tail}
 use Rattle.soundness.proofs.FigureRanges.{price-range}
 use Rattle.soundness.proofs.SoundRows.{adjusted-sound}
 use Rattle.soundness.proofs.NamedRecord.{recordOf, Named, named, adjusted-stands}
+use Rattle.soundness.proofs.Days.{adjusted-within}
 
 -- The records at these keys.
 abbrev pub recordsAt : Books → List Key → List Record
@@ -58,6 +60,13 @@ sources-sound b [] n = allOf-nil
 sources-sound b (k ∷ ks) n =
     let r : Record = recordOf (b .records) k in
     allOf-intro (soundRecord (adjustedRecord r)) (map soundRecord (map adjustedRecord (recordsAt b ks))) (adjusted-sound r (n .0 .sound) (n .0 .not-inverse)) (sources-sound b ks (n .1))
+
+pub sources-days : (b : Books) (ks : List Key) → soundDays (b .day) (b .records) ≡ true → AllNamed (b .records) ks → allOf (map (dayWithin (b .day)) (map adjustedRecord (recordsAt b ks))) ≡ true
+unfolding sourcesOf recordsOf viewOf
+sources-days b [] h n = allOf-nil
+sources-days b (k ∷ ks) h n =
+    allOf-intro (dayWithin (b .day) (adjustedRecord (recordOf (b .records) k))) (map (dayWithin (b .day)) (map adjustedRecord (recordsAt b ks))) (adjusted-within (b .day) (b .records) k h (n .0))
+    (sources-days b ks h (n .1))
 
 -- ---- their sums
 

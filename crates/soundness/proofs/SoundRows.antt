@@ -7,7 +7,7 @@ use lib.Signed.{_≤ℤ_, _<ℤ_}
 use Rattle.integers.specs.Order.{eqZ, inRange}
 use Rattle.integers.proofs.Linear.{zarith}
 use Rattle.rules.specs.Figures.{magnitudeAtMost, validId, validSuffix, validAccount, validSeries, validPrice, validSide, mostQuantity, greatestOfSuffixes, adjustable, adjusted, inverse, underGiveUp}
-use Rattle.rules.specs.Rows.{validKind, validStatus, validSignedQuantity, validBooked, validInto, validParent, soundRecord, withStatus, adjustedRecord, newRecord, inverseRecord, adjustableRecord}
+use Rattle.rules.specs.Rows.{validKind, validStatus, validBooked, validInto, validParent, soundRecord, withStatus, adjustedRecord, newRecord, inverseRecord, adjustableRecord}
 use Rattle.rules.specs.Plan.{suffixIsAbove}
 use Rattle.rules.specs.declared.Record.{Record}
 use Rattle.soundness.proofs.SoundRecord.{SoundRecord, sound-record}
@@ -67,13 +67,13 @@ open-quantity r s e = signed-range (r .status) (r .quantity) e (s .quantity)
 pub quantity-of : (r : Record) → SoundRecord r → r .status ≡ adjustable → (pos 1 ≤ℤ r .quantity) × (r .quantity ≤ℤ pos mostQuantity)
 quantity-of r s e = open-quantity r s (adjustable-open (r .status) e)
 
-pub new-sound : (id kind account series side quantity price long short : ℤ) →
+pub new-sound : (today id kind account series side quantity price long short : ℤ) →
     validId id ≡ true → validKind kind ≡ true → validAccount account ≡ true → validSeries series ≡ true → validSide side ≡ true →
     pos 1 ≤ℤ quantity → quantity ≤ℤ pos mostQuantity → validPrice price ≡ true → validBooked long ≡ true → validBooked short ≡ true →
-    soundRecord (newRecord id kind account series side quantity price long short) ≡ true
+    soundRecord (newRecord today id kind account series side quantity price long short) ≡ true
 unfolding newRecord eqZ
-new-sound id kind account series side quantity price long short i k a s d q₀ q₁ p l m =
-    sound-record (newRecord id kind account series side quantity price long short)
+new-sound today id kind account series side quantity price long short i k a s d q₀ q₁ p l m =
+    sound-record (newRecord today id kind account series side quantity price long short)
     (record {
       id = i;
       suffix = suffix-zero;
@@ -127,15 +127,15 @@ module _ (r : Record) (s : SoundRecord r) (e : eqZ (r .status) inverse ≡ false
   under-give-up-sound = restated-sound underGiveUp status-under-give-up refl
 
   -- A row that comes out of it has a greater suffix.
-  module _ (suffix : ℤ) (above : r .suffix <ℤ suffix) (small : suffix ≤ℤ greatestOfSuffixes) where
+  module _ (today suffix : ℤ) (above : r .suffix <ℤ suffix) (small : suffix ≤ℤ greatestOfSuffixes) where
     later-suffix : validSuffix suffix ≡ true
     later-suffix = let low : pos 0 ≤ℤ r .suffix = suffix-range (r .suffix) (s .suffix) .0 in in-suffix suffix (omega zarith) small
 
     pub inverse-sound : (kind long short into : ℤ) → validKind kind ≡ true → validBooked long ≡ true → validBooked short ≡ true → validInto into ≡ true →
-        soundRecord (inverseRecord r suffix kind long short into) ≡ true
+        soundRecord (inverseRecord today r suffix kind long short into) ≡ true
     unfolding inverseRecord
     inverse-sound kind long short into k l m i =
-        sound-record (inverseRecord r suffix kind long short into)
+        sound-record (inverseRecord today r suffix kind long short into)
         (record {
           id = s .id;
           suffix = later-suffix;
@@ -154,10 +154,10 @@ module _ (r : Record) (s : SoundRecord r) (e : eqZ (r .status) inverse ≡ false
         })
 
     pub adjustable-sound : (kind account quantity long short : ℤ) → validKind kind ≡ true → validAccount account ≡ true → pos 1 ≤ℤ quantity → quantity ≤ℤ pos mostQuantity →
-        validBooked long ≡ true → validBooked short ≡ true → soundRecord (adjustableRecord r suffix kind account quantity long short) ≡ true
+        validBooked long ≡ true → validBooked short ≡ true → soundRecord (adjustableRecord today r suffix kind account quantity long short) ≡ true
     unfolding adjustableRecord eqZ
     adjustable-sound kind account quantity long short k a q₀ q₁ l m =
-        sound-record (adjustableRecord r suffix kind account quantity long short)
+        sound-record (adjustableRecord today r suffix kind account quantity long short)
         (record {
           id = s .id;
           suffix = later-suffix;

@@ -18,6 +18,7 @@ use Rattle.rules.specs.Request.{trade}
 use Rattle.rules.specs.Books.{Books, viewOf}
 use Rattle.rules.specs.Handle.{planOf}
 use Rattle.rules.specs.Trade.{tradeFigures, openAgainst, smaller, closedBy, longBooked, shortBooked, isClosingError, tradeKind, tradeReply, tradePlan}
+use Rattle.rules.specs.Tables.{dayWithin}
 use Rattle.rules.specs.declared.Record.{Record}
 use Rattle.rules.specs.declared.Position.{Position}
 use Rattle.keys.proofs.Split.{split}
@@ -31,6 +32,7 @@ use Rattle.soundness.proofs.SoundPosition.{figures-positive}
 use Rattle.soundness.proofs.ReadPosition.{readAt, read-sound}
 use Rattle.soundness.proofs.FigureRanges.{quantity-range, in-booked}
 use Rattle.soundness.proofs.SoundRows.{new-sound}
+use Rattle.soundness.proofs.Days.{today-range, new-within}
 use Rattle.soundness.proofs.BookingFacts.{PlanFacts}
 
 -- ---- what it has passed
@@ -136,19 +138,21 @@ trade-facts b sound id account series side quantity price accepted =
     let error : Bool = isClosingError side quantity c in
     let long : ℤ = longBooked side quantity c in
     let short : ℤ = shortBooked side quantity c in
-    let row : Record = newRecord id (tradeKind error) account series side quantity price long short in
+    let row : Record = newRecord (b .day) id (tradeKind error) account series side quantity price long short in
     let p : TradePassed id account series side quantity price (greatest recordKey id (b .records)) = trade-passed b id account series side quantity price accepted in
     let q : (pos 1 ≤ℤ quantity) × (quantity ≤ℤ pos mostQuantity) = quantity-range quantity (p .quantity-valid) in
     let closed : (pos 0 ≤ℤ c) × (c ≤ℤ quantity) = closed-range side quantity old (read-sound account series (b .positions) (sound .positions-sound)) (q .0) in
     record {
       changed-present = allOf-nil;
       changed-sound = allOf-nil;
+      changed-days = allOf-nil;
       added-absent = lacksAll-intro recordKey (b .records) row [] (greatest-none recordKey id (pos 0) (b .records) (p .id-is-new)) allOf-nil;
       added-distinct = distinct-intro recordKey row [] allOf-nil (distinct-nil recordKey);
       added-sound = allOf-intro (soundRecord row) []
-          (new-sound id (tradeKind error) account series side quantity price long short (p .id-valid) (kind-valid error) (p .account-valid) (p .series-valid) (p .side-valid)
+          (new-sound (b .day) id (tradeKind error) account series side quantity price long short (p .id-valid) (kind-valid error) (p .account-valid) (p .series-valid) (p .side-valid)
           (q .0) (q .1) (p .price-valid) (long-booked side quantity c (closed .0) (closed .1) (q .1)) (short-booked side quantity c (closed .0) (closed .1) (q .1)))
           allOf-nil;
+      added-days = allOf-intro (dayWithin (b .day) row) [] (new-within (b .day) (today-range (b .day) (b .records) (sound .days-sound) .0) row refl) allOf-nil;
       positions-distinct = distinct-intro positionKey (moved old (inBooked side quantity price long short)) [] allOf-nil (distinct-nil positionKey);
       process-kept = tt;
       answered = one-row error (quantity -ℤ c);

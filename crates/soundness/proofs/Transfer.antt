@@ -20,6 +20,7 @@ use Rattle.rules.specs.Books.{Books, viewOf}
 use Rattle.rules.specs.Handle.{planOf}
 use Rattle.rules.specs.Plan.{Effects, suffixIsAbove}
 use Rattle.rules.specs.Transfer.{transferFigures, inLong, inShort, inSide, transferEffects, transferPlan}
+use Rattle.rules.specs.Tables.{dayWithin, soundDays}
 use Rattle.rules.specs.declared.Record.{Record}
 use Rattle.rules.specs.declared.Position.{Position}
 use Rattle.keys.proofs.Split.{split, and-left, and-right}
@@ -34,6 +35,7 @@ use Rattle.soundness.proofs.FigureRanges.{in-booked}
 use Rattle.soundness.proofs.SoundRows.{suffix-small, into-zero, nothing-booked, adjusted-sound, inverse-sound, adjustable-sound}
 use Rattle.soundness.proofs.NamedRecord.{recordOf, nextOf, Named, named, adjusted-stands}
 use Rattle.soundness.proofs.LaterRows.{below-next, atLeastOf, at-least, later-absent, before-differs}
+use Rattle.soundness.proofs.Days.{today-range, new-within, adjusted-within}
 use Rattle.soundness.proofs.BookingFacts.{BookingFacts, PlanFacts}
 
 -- ---- what it has passed
@@ -89,20 +91,22 @@ positions-differ old new from to series d f g =
     (distinct-intro positionKey new [] allOf-nil (distinct-nil positionKey))
 
 -- The rows of the named record, of these types, and the positions of both accounts: of a transfer, and of the step that completes a give-up.
-pub transfer-effects-facts : (b : Books) (id suffix from to series inverseKind newKind : ℤ) → Named (b .records) (keyOf id suffix)
+pub transfer-effects-facts : (b : Books) (id suffix from to series inverseKind newKind : ℤ) → soundDays (b .day) (b .records) ≡ true → Named (b .records) (keyOf id suffix)
     → validKind inverseKind ≡ true → validKind newKind ≡ true → validAccount to ≡ true → eqZ from to ≡ false
-    → (let e : Effects = transferEffects inverseKind newKind (recordOf (b .records) (keyOf id suffix)) (nextOf (b .records) id) to (readAt from series (b .positions)) (readAt to series (b .positions)) in
+    → (let e : Effects = transferEffects inverseKind newKind (b .day) (recordOf (b .records) (keyOf id suffix)) (nextOf (b .records) id) to (readAt from series (b .positions)) (readAt to series (b .positions)) in
     anyOf (map suffixIsAbove (e .added)) ≡ false → BookingFacts b e)
 unfolding inverseRecord adjustableRecord moved
-transfer-effects-facts b id suffix from to series inverseKind newKind n inverse-valid new-valid to-valid accounts-differ a =
+transfer-effects-facts b id suffix from to series inverseKind newKind days n inverse-valid new-valid to-valid accounts-differ a =
     let t : List Record = b .records in
+    let today : ℤ = b .day in
+    let start : pos 0 ≤ℤ today = today-range today t days .0 in
     let k : Key = keyOf id suffix in
     let r : Record = recordOf t k in
     let q : ℤ = r .quantity in
     let next : ℤ = nextOf t id in
     let later : ℤ = next +ℤ pos 1 in
-    let inverted : Record = inverseRecord r next inverseKind (inLong (r .side) (negℤ q)) (inShort (r .side) (negℤ q)) (pos 0) in
-    let arrived : Record = adjustableRecord r later newKind to q (inLong (r .side) q) (inShort (r .side) q) in
+    let inverted : Record = inverseRecord today r next inverseKind (inLong (r .side) (negℤ q)) (inShort (r .side) (negℤ q)) (pos 0) in
+    let arrived : Record = adjustableRecord today r later newKind to q (inLong (r .side) q) (inShort (r .side) q) in
     let up : r .suffix <ℤ next = n .next-above in
     let reached : nextOf t (r .id) ≤ℤ next = n .next-reached in
     let low : pos 1 ≤ℤ q = n .positive in
@@ -112,6 +116,7 @@ transfer-effects-facts b id suffix from to series inverseKind newKind n inverse-
     record {
       changed-present = hasAll-intro recordKey t (adjustedRecord r) r [] (adjusted-stands t k n) allOf-nil;
       changed-sound = allOf-intro (soundRecord (adjustedRecord r)) [] (adjusted-sound r (n .sound) (n .not-inverse)) allOf-nil;
+      changed-days = allOf-intro (dayWithin today (adjustedRecord r)) [] (adjusted-within today t k days n) allOf-nil;
       added-absent = later-absent t (inverted ∷ arrived ∷ [])
           (only-intro recordKey (atLeastOf (nextOf t)) inverted (arrived ∷ []) (at-least (nextOf t) inverted reached)
           (only-intro recordKey (atLeastOf (nextOf t)) arrived [] (at-least (nextOf t) arrived (omega (zarith, +-lin next (pos 1)))) allOf-nil));
@@ -120,13 +125,15 @@ transfer-effects-facts b id suffix from to series inverseKind newKind n inverse-
           (only-intro recordKey (atLeastOf (λ (id : ℤ). later)) arrived [] (at-least (λ (id : ℤ). later) arrived (≤ℤ-refl later)) allOf-nil))
           (distinct-intro recordKey arrived [] allOf-nil (distinct-nil recordKey));
       added-sound = allOf-intro (soundRecord inverted) (soundRecord arrived ∷ [])
-          (inverse-sound r (n .sound) (n .not-inverse) next up (suffix-small inverted (anyOf-head (suffixIsAbove inverted) (suffixIsAbove arrived ∷ []) a))
+          (inverse-sound r (n .sound) (n .not-inverse) today next up (suffix-small inverted (anyOf-head (suffixIsAbove inverted) (suffixIsAbove arrived ∷ []) a))
           inverseKind (inLong (r .side) (negℤ q)) (inShort (r .side) (negℤ q)) (pos 0) inverse-valid (long-booked (r .side) (negℤ q) out) (short-booked (r .side) (negℤ q) out) into-zero)
           (allOf-intro (soundRecord arrived) []
-          (adjustable-sound r (n .sound) (n .not-inverse) later (omega (zarith, +-lin next (pos 1)))
+          (adjustable-sound r (n .sound) (n .not-inverse) today later (omega (zarith, +-lin next (pos 1)))
           (suffix-small arrived (anyOf-head (suffixIsAbove arrived) [] (anyOf-tail (suffixIsAbove inverted) (suffixIsAbove arrived ∷ []) a)))
           newKind to q (inLong (r .side) q) (inShort (r .side) q) new-valid to-valid low high (long-booked (r .side) q back) (short-booked (r .side) q back))
           allOf-nil);
+      added-days = allOf-intro (dayWithin today inverted) (dayWithin today arrived ∷ []) (new-within today start inverted refl)
+          (allOf-intro (dayWithin today arrived) [] (new-within today start arrived refl) allOf-nil);
       positions-distinct = positions-differ
           (moved (readAt from series (b .positions)) (inSide (r .side) (negℤ q) (r .price)))
           (moved (readAt to series (b .positions)) (inSide (r .side) q (r .price)))
@@ -140,6 +147,6 @@ pub transfer-facts : (b : Books) → SoundBooks b → (id suffix from to series 
 unfolding planOf transferPlan viewOf
 transfer-facts b sound id suffix from to series accepted =
     let p : TransferPassed (b .records) id suffix from to = transfer-passed b id suffix from to series accepted in
-    transfer-effects-facts b id suffix from to series transferKind transferKind
+    transfer-effects-facts b id suffix from to series transferKind transferKind (sound .days-sound)
     (named (b .records) (keyOf id suffix) (sound .records-sound) (p .record-found) (p .record-adjustable)) kind-valid kind-valid (p .to-valid) (p .accounts-differ)
     (booking-passed b _ _ accepted .suffixes)

@@ -12,12 +12,14 @@ use Rattle.rules.specs.Refusal.{allOf, firstRefusal}
 use Rattle.rules.specs.Request.{Request}
 use Rattle.rules.specs.Books.{Books, viewOf}
 use Rattle.rules.specs.Plan.{Plan, planTests, planBooks}
+use Rattle.rules.specs.Tables.{soundDays}
 use Rattle.rules.specs.Handle.{planOf}
 
 pub record SoundBooks (b : Books) : Type 0 where
   pub records-rise : rising recordKey (b .records) ≡ true
   pub records-sound : allOf (map soundRecord (b .records)) ≡ true
   pub records-fit : length (b .records) ≤ b .recordsRoom
+  pub days-sound : soundDays (b .day) (b .records) ≡ true
   pub positions-rise : rising positionKey (b .positions) ≡ true
   pub positions-sound : allOf (map soundPosition (b .positions)) ≡ true
   pub positions-fit : length (b .positions) ≤ b .positionsRoom

@@ -1,5 +1,6 @@
 pub mod AroundPlace
 pub mod NewRows
+pub mod ParentRow
 pub mod RowFits
 pub mod RowPut
 pub mod RowStatus

@@ -14,7 +14,7 @@ use Rattle.rules.specs.Figures.{greatestOfSuffixes}
 use Rattle.rules.specs.Keyed.{Key, below, rising, find, upsertAll}
 use Rattle.rules.specs.Rows.{keyOf, recordKey}
 use Rattle.rules.specs.Layout.{encode, startOf, roomOf, rowsOf, write}
-use Rattle.rules.specs.Tables.{recordsLayout, recordCells, soundRecords}
+use Rattle.rules.specs.Tables.{recordsLayout, recordCells, soundRecordRows}
 use Rattle.rules.specs.declared.Record.{Record}
 use Rattle.cells.specs.SoundTable.{SoundRecords}
 use Rattle.cells.proofs.Count.{room-most, fits-cells}
@@ -64,7 +64,7 @@ numbered-between id next (x ∷ rest) pre post n b a free =
           (λ s h. free s (omega (zarith, +-lin next (pos 1)))),
     )
 
-module _ (cells : List ℤ) (sound : soundRecords cells ≡ true) where
+module _ (cells : List ℤ) (sound : soundRecordRows cells ≡ true) where
   placed : (k : Key) (place : ℕ) → place ≡ placeIn recordsLayout k cells → place ≡ placeFrom 0 k (map recordKey (rowsOf recordsLayout cells))
   placed k place at = at ∙ ap (placeFrom 0 k) (table-keys recordsLayout recordKey records-first cells)
 

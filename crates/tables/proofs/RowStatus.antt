@@ -11,7 +11,7 @@ use Rattle.rules.specs.Keyed.{upsert}
 use Rattle.rules.specs.Figures.{adjustable, adjusted}
 use Rattle.rules.specs.Rows.{recordKey, validStatus, validSignedQuantity, soundRecord, withStatus, adjustedRecord}
 use Rattle.rules.specs.Layout.{countOf, startOf, rowAt, rowsOf, write}
-use Rattle.rules.specs.Tables.{recordCells, statusCell, recordsLayout, soundRecords}
+use Rattle.rules.specs.Tables.{recordCells, statusCell, recordsLayout, soundRecordRows}
 use Rattle.rules.specs.declared.Record.{Record}
 use Rattle.cells.specs.SoundTable.{SoundRecords}
 use Rattle.cells.proofs.Count.{length-rowsOf}
@@ -42,8 +42,8 @@ module _ (cells : List ℤ) (table : SoundRecords cells) (row : ℕ) (within : r
   -- In any status in which it is sound.
   pub row-in-status : (s : ℤ) → soundRecord (withStatus s (rowAt recordsLayout cells row)) ≡ true
       → (set cells (startOf recordsLayout row + statusCell) s ≡ write recordsLayout cells (upsert recordKey (withStatus s (rowAt recordsLayout cells row)) (rowsOf recordsLayout cells)))
-      × (soundRecords (set cells (startOf recordsLayout row + statusCell) s) ≡ true)
-  unfolding soundRecords
+      × (soundRecordRows (set cells (startOf recordsLayout row + statusCell) s) ≡ true)
+  unfolding soundRecordRows
   row-in-status s sound =
       let r : Record = withStatus s (rowAt recordsLayout cells row) in
       put-replaced recordsLayout records-lawful recordKey records-first soundRecord cells table

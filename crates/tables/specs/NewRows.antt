@@ -11,7 +11,7 @@ use Rattle.rules.specs.Keyed.{greatest}
 use Rattle.rules.specs.Rows.{keyOf, recordKey}
 use Rattle.rules.specs.NamedRecord.{nextSuffix}
 use Rattle.rules.specs.Layout.{roomOf, rowsOf}
-use Rattle.rules.specs.Tables.{recordsLayout, soundRecords}
+use Rattle.rules.specs.Tables.{recordsLayout, soundRecordRows}
 use Rattle.rules.specs.declared.Record.{Record}
 use Rattle.lookup.specs.Lookup.{placeIn}
 
@@ -31,6 +31,7 @@ numberedAs r suffix quantity = record {
   long = r .long;
   short = r .short;
   into = r .into;
+  day = r .day;
 }
 
 -- One row a quantity, with successive suffixes from this one on, all else as in the first.
@@ -43,7 +44,7 @@ newRows inverse first quantities = inverse ∷ rowsLike first (first .suffix) qu
 
 -- The inverse has the id's next suffix and goes to the place where that belongs; the first of the other rows follows it; there are rooms and suffixes for all.
 pub record NewRowsReady (cells : List ℤ) (place : ℕ) (inverse first : Record) (quantities : List ℤ) : Type 0 where
-  pub sound : soundRecords cells ≡ true
+  pub sound : soundRecordRows cells ≡ true
   pub next-suffix : inverse .suffix ≡ nextSuffix (greatest recordKey (inverse .id) (rowsOf recordsLayout cells))
   pub place-is : place ≡ placeIn recordsLayout (recordKey inverse) cells
   pub follows : recordKey first ≡ keyOf (inverse .id) (inverse .suffix +ℤ pos 1)

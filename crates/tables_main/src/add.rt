@@ -40,6 +40,7 @@ fn original(id: i64, suffix: i64, price: i64) -> Record {
         long: 1,
         short: 0,
         into: 0,
+        day: 0,
     }
 }
 

@@ -35,8 +35,9 @@ fn ask(cells: &[i64], id: i64, suffix: i64) {
 // No row, then one, then three, added in an order that is not the keys'; a key that is there, and a full room, are refused.
 fn few_rows() {
     printing::line(b"few records, room for three");
-    let mut cells = [-1; 45];
+    let mut cells = [-1; 49];
     cells[0] = 0;
+    cells[1] = 0;
     ask(&cells, 5, 0);
     add::tell(add::record(&mut cells, 5, 0, 10));
     ask(&cells, 5, 0);
@@ -55,8 +56,9 @@ fn few_rows() {
 // An id whose suffixes are 2, 3 and 9, between two others: each of its keys, those before, between and after them, and an id that lies between and has none.
 fn gaps() {
     printing::line(b"suffixes 2, 3 and 9 of id 7");
-    let mut cells = [-1; 66];
+    let mut cells = [-1; 72];
     cells[0] = 0;
+    cells[1] = 0;
     add::tell(add::record(&mut cells, 7, 9, 10));
     add::tell(add::record(&mut cells, 5, 0, 11));
     add::tell(add::record(&mut cells, 7, 2, 12));
@@ -74,15 +76,16 @@ fn gaps() {
 // A room of 4,096 rows, filled from the greatest id down, in a slice with space for more.
 fn full_room() {
     printing::line(b"4,096 records, added from the greatest id down");
-    let mut cells = [-1; 53_300];
+    let mut cells = [-1; 57_400];
     cells[0] = 0;
+    cells[1] = 0;
     let n = add::down(&mut cells, 4_097);
     printing::value(b"added ", n as i64);
     ask(&cells, 1, 0);
     ask(&cells, 2, 0);
     ask(&cells, 4_097, 0);
     ask(&cells, 4_098, 0);
-    printing::value(b"past the room: ", cells[53_249]);
+    printing::value(b"past the room: ", cells[57_346]);
 }
 
 // Positions: made where absent, written anew where present; a total out of range is refused.
@@ -101,14 +104,15 @@ fn few_positions() {
 // Tables that fail test 1, one damage each.
 fn damaged() {
     printing::line(b"damaged records");
-    let mut cells = [-1; 40];
+    let mut cells = [-1; 44];
     cells[0] = 0;
+    cells[1] = 0;
     add::tell(add::record(&mut cells, 5, 0, 10));
     add::tell(add::record(&mut cells, 5, 1, 11));
     damage::each(&mut cells);
     ask(&cells, 5, 1);
     ask(&cells[0..0], 5, 1);
-    ask(&cells[0..26], 5, 1);
+    ask(&cells[0..28], 5, 1);
 }
 
 fn main() {

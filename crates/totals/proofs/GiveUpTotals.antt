@@ -54,9 +54,11 @@ without-process : (b : Books) (p : ProcessRow) (e : Effects) → e .process ≡ 
 without-process b p e h f = record {
   changed-present = f .changed-present;
   changed-sound = f .changed-sound;
+  changed-days = f .changed-days;
   added-absent = f .added-absent;
   added-distinct = f .added-distinct;
   added-sound = f .added-sound;
+  added-days = f .added-days;
   positions-distinct = f .positions-distinct;
   process-kept = subst (ProcessFacts (b .processes)) (sym h) tt;
   answered = f .answered;
@@ -122,7 +124,7 @@ module _ (b : Books) (sound : SoundBooks b) (step : Step) (process id suffix giv
   -- ---- every step
 
   abbrev completing : Effects
-  completing = transferEffects giveUpKind takeUpKind r (nextOf (b .records) id) taking (readAt giving series (b .positions)) (readAt taking series (b .positions))
+  completing = transferEffects giveUpKind takeUpKind (b .day) r (nextOf (b .records) id) taking (readAt giving series (b .positions)) (readAt taking series (b .positions))
 
   in-giving : StandsIn giving series r
   unfolding planOf giveUpPlan viewOf test

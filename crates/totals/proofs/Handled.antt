@@ -1,11 +1,12 @@
 -- A request on the lent tables: where it is accepted, it adds to the stored figures what it changes in the sums over the records, at every account and series (`handled-adds`). One that books is accepted on sound
--- records and positions alone, a step of a give-up on sound processes too; beside any process table the others do what they do beside one without rows; a lineage writes nothing. Assumes nothing.
+-- records and positions alone, a step of a give-up on sound processes too; beside any process table the others do what they do beside one without rows; a lineage writes nothing, a new day the current
+-- day alone. Assumes nothing.
 use mathlib.Core.Path.{_≡_, refl, sym, _∙_, ap, subst}
 use mathlib.Core.Bool.{true, false}
 use mathlib.Core.List.{List}
 use mathlib.Core.Option.{none}
 use lib.IntN.{ℤ}
-use Rattle.rules.specs.Request.{Request, trade, separate, transfer, merge, lineage, giveUp, isStep}
+use Rattle.rules.specs.Request.{Request, trade, separate, transfer, merge, lineage, giveUp, newDay, isStep}
 use Rattle.rules.specs.Books.{Books, viewOf}
 use Rattle.rules.specs.Trade.{tradePlan}
 use Rattle.rules.specs.Separation.{separationPlan}
@@ -21,11 +22,12 @@ use Rattle.history.specs.History.{isAccepted}
 use Rattle.history.proofs.Accepted.{BookedOn, accepted-tables, accepted-rows, all-sound, booked-on-sound}
 use Rattle.history.proofs.Locality.{same-sources}
 use Rattle.history.proofs.ProcessesApart.{apart-promised}
+use Rattle.history.proofs.DayAlone.{day-books}
 use Rattle.history.proofs.Step.{sound-books, step-books}
 use Rattle.history.proofs.TableExchange.{accepts-as, no-processes-sound}
-use Rattle.totals.specs.Amounts.{Amounts, amountsAt, mergeAmounts, amountsOf}
+use Rattle.totals.specs.Amounts.{Amounts, nothing, amountsAt, mergeAmounts, amountsOf}
 use Rattle.totals.specs.Adds.{Adds}
-use Rattle.totals.proofs.Requests.{same-books, request-adds}
+use Rattle.totals.proofs.Requests.{same-books, another-day, request-adds}
 
 -- What it adds, at every account and series.
 abbrev pub HandledAdds : Tables → Request → Type 0
@@ -52,6 +54,7 @@ module _ (t : Tables) where
       ap (λ (sources : List Source). amountsAt account series (mergeAmounts (mergeResidual (recordsOf sources))))
       (same-sources (viewOf (booksOf two)) (viewOf (booksOf t)) (pairsOf pairs) (record { record-at = λ id n suffix. refl; greatest-at = λ id n. refl }))
   amounts-apart (lineage id suffix) n = refl
+  amounts-apart (newDay day) n = refl
   amounts-apart (giveUp step process id suffix giving taking series) n = clash refl n
 
   beside : (r : Request) → isStep r ≡ false → BookedOn t none → isAccepted t r ≡ true → HandledAdds t r
@@ -77,6 +80,11 @@ module _ (t : Tables) where
       subst (λ (u : Tables). Adds (booksOf t) (booksOf u) account series (amountsOf (viewOf (booksOf t)) (lineage id suffix) account series))
       (sym (accepted-tables t (lineage id suffix) ok)) (same-books (booksOf t) account series)
 
+  -- A new day changes no row, whatever the positions.
+  dated : (day : ℤ) → isAccepted t (newDay day) ≡ true → HandledAdds t (newDay day)
+  unfolding amountsOf
+  dated day ok account series = subst (λ (b : Books). Adds (booksOf t) b account series nothing) (sym (day-books t day ok)) (another-day (booksOf t) day account series)
+
 -- ---- every kind
 
 -- "Every request adds to the stored figures what it changes in these sums", whatever the tables that it is accepted on.
@@ -95,6 +103,7 @@ handled-adds t (merge id account series pairs) ok =
     let r : Request = merge id account series pairs in
     beside t r refl (booked-on-sound t r _ _ refl ok) ok
 handled-adds t (lineage id suffix) ok = asked t id suffix ok
+handled-adds t (newDay day) ok = dated t day ok
 handled-adds t (giveUp step process id suffix giving taking series) ok =
     let r : Request = giveUp step process id suffix giving taking series in
     on-sound t (all-sound t _ (booked-on-sound t r _ _ refl ok) (booked-on-sound t r _ _ refl ok .processes)) r ok

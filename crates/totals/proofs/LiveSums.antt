@@ -92,9 +92,9 @@ pub adjusted-gone : (r : Record) → isLive (adjustedRecord r) ≡ false
 unfolding isLive adjustedRecord eqZ
 adjusted-gone r = refl
 
-pub inverse-gone : (r : Record) (suffix kind long short into : ℤ) → isLive (inverseRecord r suffix kind long short into) ≡ false
+pub inverse-gone : (today : ℤ) (r : Record) (suffix kind long short into : ℤ) → isLive (inverseRecord today r suffix kind long short into) ≡ false
 unfolding isLive inverseRecord eqZ
-inverse-gone r suffix kind long short into = refl
+inverse-gone today r suffix kind long short into = refl
 
 -- ---- where a named record stands
 

@@ -48,15 +48,15 @@ unfolding sumOver
 all-adjusted figure a s [] = refl
 all-adjusted figure a s (r ∷ rest) = ap₂ (λ (x y : ℤ). x +ℤ y) (no-figure figure a s (adjustedRecord r) (adjusted-gone r)) (all-adjusted figure a s rest)
 
-all-inverse : (figure : Record → ℤ) (a s into : ℤ) (earlier : List ℤ) (sources : List Source) → sumOver (liveAt figure a s) (mergeInverses into earlier sources) ≡ pos 0
+all-inverse : (figure : Record → ℤ) (a s today into : ℤ) (earlier : List ℤ) (sources : List Source) → sumOver (liveAt figure a s) (mergeInverses today into earlier sources) ≡ pos 0
 unfolding sumOver mergeInverses
-all-inverse figure a s into earlier [] = refl
-all-inverse figure a s into earlier (x ∷ rest) =
+all-inverse figure a s today into earlier [] = refl
+all-inverse figure a s today into earlier (x ∷ rest) =
     let r : Record = theRecord (x .found) in
     let suffix : ℤ = nextSuffix (x .greatest) +ℤ timesIn earlier (x .pair .major) in
     ap₂ (λ (y z : ℤ). y +ℤ z)
-    (no-figure figure a s (inverseRecord r suffix mergeKind (pos 0) (pos 0) into) (inverse-gone r suffix mergeKind (pos 0) (pos 0) into))
-    (all-inverse figure a s into (x .pair .major ∷ earlier) rest)
+    (no-figure figure a s (inverseRecord today r suffix mergeKind (pos 0) (pos 0) into) (inverse-gone today r suffix mergeKind (pos 0) (pos 0) into))
+    (all-inverse figure a s today into (x .pair .major ∷ earlier) rest)
 
 -- ---- the sources
 
@@ -134,10 +134,10 @@ module _ (b : Books) (sound : SoundBooks b) (id account series : ℤ) (pairs : L
   rs = recordsAt b ks
 
   abbrev merged : Record
-  merged = mergedRecord id rs
+  merged = mergedRecord (b .day) id rs
 
   abbrev inverses : List Record
-  inverses = mergeInverses id [] (sourcesOf (viewOf b) ks)
+  inverses = mergeInverses (b .day) id [] (sourcesOf (viewOf b) ks)
 
   passed : MergePassed id account series pairs (viewOf b .greatestSuffix id) (sourcesOf (viewOf b) ks)
   passed = merge-passed b id account series pairs accepted
@@ -166,7 +166,7 @@ module _ (b : Books) (sound : SoundBooks b) (id account series : ℤ) (pairs : L
         let there : ℤ = amountAt account series (figure merged) a s in
         let added : sumOver (liveAt figure a s) (inverses ++ (merged ∷ [])) ≡ there =
         sum-append (liveAt figure a s) inverses (merged ∷ [])
-        ∙ ap₂ (λ (x y : ℤ). x +ℤ y) (all-inverse figure a s id [] (sourcesOf (viewOf b) ks)) (sum-one (liveAt figure a s) merged ∙ merged-figure figure)
+        ∙ ap₂ (λ (x y : ℤ). x +ℤ y) (all-inverse figure a s (b .day) id [] (sourcesOf (viewOf b) ks)) (sum-one (liveAt figure a s) merged ∙ merged-figure figure)
         ∙ +ℤ-idl there in
         ap₂ (λ (x y : ℤ). x +ℤ y) (all-adjusted figure a s rs) added
         ∙ +ℤ-idl there
@@ -180,7 +180,7 @@ module _ (b : Books) (sound : SoundBooks b) (id account series : ℤ) (pairs : L
     merge-adds =
         let new : Position = moved (readAt account series (b .positions)) (byResidual (mergeResidual rs)) in
         effects-add b sound _ (merge-facts b sound id account series pairs accepted) merge-once a s _
-        (merges signedQuantity (pos 0) (merged-quantity id rs (passed .sources-on-one-side) ∙ sym (+ℤ-idr (sumOver signedQuantity rs))))
-        (merges signedValue (mergeResidual rs) (merged-value id rs (passed .sources-on-one-side)))
+        (merges signedQuantity (pos 0) (merged-quantity (b .day) id rs (passed .sources-on-one-side) ∙ sym (+ℤ-idr (sumOver signedQuantity rs))))
+        (merges signedValue (mergeResidual rs) (merged-value (b .day) id rs (passed .sources-on-one-side)))
         (stored-one (λ (p : Position). p .quantity) account series new (b .positions) (pos 0) (read-key account series (b .positions)) refl a s)
         (stored-one (λ (p : Position). p .value) account series new (b .positions) (mergeResidual rs) (read-key account series (b .positions)) refl a s)

@@ -39,7 +39,7 @@ sells-mirrored q s v = rw (diff q, diff s, diff v) (simp zdiff (omega arith))
 
 -- ---- the merged record
 
-module _ (id : ℤ) (rs : List Record) (one-side : anyOf (map (sideDiffers (firstOf rs)) rs) ≡ false) where
+module _ (today id : ℤ) (rs : List Record) (one-side : anyOf (map (sideDiffers (firstOf rs)) rs) ≡ false) where
   abbrev q : ℤ
   q = sumOfQuantities rs
 
@@ -53,14 +53,14 @@ module _ (id : ℤ) (rs : List Record) (one-side : anyOf (map (sideDiffers (firs
   sells e = same-figures (sumOver signedQuantity rs) (sumOver signedValue rs) (negℤ q) (negℤ v)
       (λ s. sym (margin-by-sums s rs) ∙ margin-of-sells s (firstOf rs) rs e one-side ∙ sells-mirrored q s v)
 
-  merged-signed : (c : Bool) → isBuy (firstOf rs .side) ≡ c → signedQuantity (mergedRecord id rs) ≡ cond c q (negℤ q)
+  merged-signed : (c : Bool) → isBuy (firstOf rs .side) ≡ c → signedQuantity (mergedRecord today id rs) ≡ cond c q (negℤ q)
   unfolding mergedRecord newRecord signedQuantity signed
   merged-signed c e = ap (λ (x : Bool). cond x q (negℤ q)) e
 
-  pub merged-quantity : signedQuantity (mergedRecord id rs) ≡ sumOver signedQuantity rs
+  pub merged-quantity : signedQuantity (mergedRecord today id rs) ≡ sumOver signedQuantity rs
   merged-quantity = go (split (isBuy (firstOf rs .side)))
     where
-      go : (isBuy (firstOf rs .side) ≡ true) ⊎ (isBuy (firstOf rs .side) ≡ false) → signedQuantity (mergedRecord id rs) ≡ sumOver signedQuantity rs
+      go : (isBuy (firstOf rs .side) ≡ true) ⊎ (isBuy (firstOf rs .side) ≡ false) → signedQuantity (mergedRecord today id rs) ≡ sumOver signedQuantity rs
       go (inl e) = merged-signed true e ∙ sym (buys e .0)
       go (inr e) = merged-signed false e ∙ sym (sells e .0)
 
@@ -69,22 +69,22 @@ module _ (id : ℤ) (rs : List Record) (one-side : anyOf (map (sideDiffers (firs
   residual-by-side c e = ap (λ (x : Bool). residualOf x v q) e
 
   -- The value of the merged record: its signed quantity times the average.
-  merged-priced : (z : ℤ) → signedQuantity (mergedRecord id rs) ≡ z → signedValue (mergedRecord id rs) ≡ z *ℤ averageOf v q
+  merged-priced : (z : ℤ) → signedQuantity (mergedRecord today id rs) ≡ z → signedValue (mergedRecord today id rs) ≡ z *ℤ averageOf v q
   unfolding mergedRecord newRecord signedValue
   merged-priced z e = ap (λ (x : ℤ). x *ℤ averageOf v q) e
 
-  pub merged-value : signedValue (mergedRecord id rs) ≡ sumOver signedValue rs +ℤ mergeResidual rs
+  pub merged-value : signedValue (mergedRecord today id rs) ≡ sumOver signedValue rs +ℤ mergeResidual rs
   merged-value = go (split (isBuy (firstOf rs .side)))
     where
       whole : ℤ
       whole = q *ℤ averageOf v q
 
-      go : (isBuy (firstOf rs .side) ≡ true) ⊎ (isBuy (firstOf rs .side) ≡ false) → signedValue (mergedRecord id rs) ≡ sumOver signedValue rs +ℤ mergeResidual rs
+      go : (isBuy (firstOf rs .side) ≡ true) ⊎ (isBuy (firstOf rs .side) ≡ false) → signedValue (mergedRecord today id rs) ≡ sumOver signedValue rs +ℤ mergeResidual rs
       go (inl e) =
-          let value : signedValue (mergedRecord id rs) ≡ whole = merged-priced q (merged-signed true e) in
+          let value : signedValue (mergedRecord today id rs) ≡ whole = merged-priced q (merged-signed true e) in
           let residual : mergeResidual rs ≡ whole -ℤ v = residual-by-side true e ∙ residual-buy v q in
           omega (zarith, value, residual, buys e .1, minus-lin whole v, +-lin (sumOver signedValue rs) (mergeResidual rs))
       go (inr e) =
-          let value : signedValue (mergedRecord id rs) ≡ negℤ whole = merged-priced (negℤ q) (merged-signed false e) ∙ negℤ-*ℤ q (averageOf v q) in
+          let value : signedValue (mergedRecord today id rs) ≡ negℤ whole = merged-priced (negℤ q) (merged-signed false e) ∙ negℤ-*ℤ q (averageOf v q) in
           let residual : mergeResidual rs ≡ negℤ (whole -ℤ v) = residual-by-side false e ∙ residual-sell v q in
           omega (zarith, value, residual, sells e .1, neg-lin whole, neg-lin v, minus-lin whole v, neg-lin (whole -ℤ v), +-lin (sumOver signedValue rs) (mergeResidual rs))

@@ -8,15 +8,16 @@ use Rattle.rules.specs.Keyed.{find}
 use Rattle.rules.specs.Rows.{keyOf, recordKey, adjustedRecord}
 use Rattle.rules.specs.ProcessRows.{processKey}
 use Rattle.rules.specs.Refusal.{Test}
-use Rattle.rules.specs.Request.{Request, trade, separate, transfer, merge, lineage, giveUp}
+use Rattle.rules.specs.Request.{Request, trade, separate, transfer, merge, lineage, giveUp, newDay}
 use Rattle.rules.specs.Books.{Books, viewOf}
-use Rattle.rules.specs.Plan.{Effects, Plan, booking, question, booked}
+use Rattle.rules.specs.Plan.{Effects, Plan, booking, question, dayMove, booked}
 use Rattle.rules.specs.Handle.{planOf}
 use Rattle.rules.specs.Trade.{tradePlan}
 use Rattle.rules.specs.Separation.{separationPlan}
 use Rattle.rules.specs.Transfer.{transferPlan}
 use Rattle.rules.specs.Merge.{mergePlan}
 use Rattle.rules.specs.Lineage.{lineagePlan}
+use Rattle.rules.specs.Day.{dayPlan}
 use Rattle.rules.specs.GiveUp.{stepped, isComplete, giveUpEffects, processBefore, giveUpPlan}
 use Rattle.rules.specs.Totals.{sumOver}
 use Rattle.rules.specs.declared.Record.{Record}
@@ -35,14 +36,16 @@ use Rattle.totals.proofs.MergeTotals.{merge-once}
 abbrev pub ChangesOnce : Plan → Type 0
 ChangesOnce (booking tests e) = distinct recordKey (e .changed) ≡ true
 ChangesOnce (question tests reply) = Unit {0}
+ChangesOnce (dayMove tests day) = Unit {0}
 
 pub changes-once : (b : Books) → SoundBooks b → (r : Request) → Accepts b r → ChangesOnce (planOn b r)
-unfolding planOf tradePlan separationPlan transferPlan mergePlan lineagePlan giveUpPlan giveUpEffects viewOf
+unfolding planOf tradePlan separationPlan transferPlan mergePlan lineagePlan giveUpPlan giveUpEffects dayPlan viewOf
 changes-once b sound (trade id account series side quantity price) accepted = distinct-nil recordKey
 changes-once b sound (separate id suffix account series parts) accepted = once (adjustedRecord (recordOf (b .records) (keyOf id suffix)))
 changes-once b sound (transfer id suffix from to series) accepted = once (adjustedRecord (recordOf (b .records) (keyOf id suffix)))
 changes-once b sound (merge id account series pairs) accepted = merge-once b sound id account series pairs accepted
 changes-once b sound (lineage id suffix) accepted = tt
+changes-once b sound (newDay day) accepted = tt
 changes-once b sound (giveUp step process id suffix giving taking series) accepted =
     go (isComplete (stepped step (processBefore step process id suffix giving taking series (find processKey (keyOf process id) (b .processes)))))
     _ _ (once (adjustedRecord r)) (changed-once r step)

@@ -40,23 +40,23 @@ parts-sum b id suffix account series parts accepted =
 
 -- ---- the parts
 
-parts-live : (r : Record) (suffix : ℤ) (parts : List ℤ) → AllLive (r .account) (r .series) (partRecords r suffix parts)
+parts-live : (today : ℤ) (r : Record) (suffix : ℤ) (parts : List ℤ) → AllLive (r .account) (r .series) (partRecords today r suffix parts)
 unfolding partRecords adjustableRecord
-parts-live r suffix [] = tt
-parts-live r suffix (q ∷ rest) =
-    (adjustable-live (adjustableRecord r suffix separationKind (r .account) q (pos 0) (pos 0)) refl, refl, refl, parts-live r (suffix +ℤ pos 1) rest)
+parts-live today r suffix [] = tt
+parts-live today r suffix (q ∷ rest) =
+    (adjustable-live (adjustableRecord today r suffix separationKind (r .account) q (pos 0) (pos 0)) refl, refl, refl, parts-live today r (suffix +ℤ pos 1) rest)
 
-parts-quantity : (r : Record) (suffix : ℤ) (parts : List ℤ) → sumOver signedQuantity (partRecords r suffix parts) ≡ signed (r .side) (sumOf parts)
+parts-quantity : (today : ℤ) (r : Record) (suffix : ℤ) (parts : List ℤ) → sumOver signedQuantity (partRecords today r suffix parts) ≡ signed (r .side) (sumOf parts)
 unfolding partRecords adjustableRecord sumOver signedQuantity sumOf
-parts-quantity r suffix [] = sym (signed-zero (r .side))
-parts-quantity r suffix (q ∷ rest) =
-    ap (λ (z : ℤ). signed (r .side) q +ℤ z) (parts-quantity r (suffix +ℤ pos 1) rest) ∙ signed-sum (r .side) q (sumOf rest)
+parts-quantity today r suffix [] = sym (signed-zero (r .side))
+parts-quantity today r suffix (q ∷ rest) =
+    ap (λ (z : ℤ). signed (r .side) q +ℤ z) (parts-quantity today r (suffix +ℤ pos 1) rest) ∙ signed-sum (r .side) q (sumOf rest)
 
-parts-value : (r : Record) (suffix : ℤ) (parts : List ℤ) → sumOver signedValue (partRecords r suffix parts) ≡ signed (r .side) (sumOf parts) *ℤ r .price
+parts-value : (today : ℤ) (r : Record) (suffix : ℤ) (parts : List ℤ) → sumOver signedValue (partRecords today r suffix parts) ≡ signed (r .side) (sumOf parts) *ℤ r .price
 unfolding partRecords adjustableRecord sumOver signedQuantity signedValue sumOf
-parts-value r suffix [] = sym (ap (λ (z : ℤ). z *ℤ r .price) (signed-zero (r .side)) ∙ zero-*ℤ (r .price))
-parts-value r suffix (q ∷ rest) =
-    ap (λ (z : ℤ). signed (r .side) q *ℤ r .price +ℤ z) (parts-value r (suffix +ℤ pos 1) rest)
+parts-value today r suffix [] = sym (ap (λ (z : ℤ). z *ℤ r .price) (signed-zero (r .side)) ∙ zero-*ℤ (r .price))
+parts-value today r suffix (q ∷ rest) =
+    ap (λ (z : ℤ). signed (r .side) q *ℤ r .price +ℤ z) (parts-value today r (suffix +ℤ pos 1) rest)
     ∙ sym (+ℤ-*ℤ (signed (r .side) q) (signed (r .side) (sumOf rest)) (r .price))
     ∙ ap (λ (z : ℤ). z *ℤ r .price) (signed-sum (r .side) q (sumOf rest))
 
@@ -73,34 +73,34 @@ module _ (b : Books) (sound : SoundBooks b) (id suffix account series : ℤ) (pa
   next = nextOf (b .records) id
 
   -- Of a figure that the parts have together as the record has it.
-  parts-count : (figure : Record → ℤ) → sumOver figure (partRecords r (next +ℤ pos 1) parts) ≡ figure r →
+  parts-count : (figure : Record → ℤ) → sumOver figure (partRecords (b .day) r (next +ℤ pos 1) parts) ≡ figure r →
       sumOver (liveAt figure a s) (adjustedRecord r ∷ [])
-      +ℤ sumOver (liveAt figure a s) (inverseRecord r next separationKind (pos 0) (pos 0) (pos 0) ∷ partRecords r (next +ℤ pos 1) parts)
+      +ℤ sumOver (liveAt figure a s) (inverseRecord (b .day) r next separationKind (pos 0) (pos 0) (pos 0) ∷ partRecords (b .day) r (next +ℤ pos 1) parts)
       ≡ sumOver (liveAt figure a s) (replaced (b .records) (adjustedRecord r ∷ [])) +ℤ pos 0
   parts-count figure same =
       let p : SeparationPassed (b .records) id suffix parts = separation-passed b id suffix account series parts accepted in
       let n : Named (b .records) k = named (b .records) k (sound .records-sound) (p .record-found) (p .record-adjustable) in
-      let inverted : Record = inverseRecord r next separationKind (pos 0) (pos 0) (pos 0) in
-      let rows : List Record = partRecords r (next +ℤ pos 1) parts in
+      let inverted : Record = inverseRecord (b .day) r next separationKind (pos 0) (pos 0) (pos 0) in
+      let rows : List Record = partRecords (b .day) r (next +ℤ pos 1) parts in
       let changed : sumOver (liveAt figure a s) (adjustedRecord r ∷ []) ≡ pos 0 = gone-figure figure a s (adjustedRecord r) (adjusted-gone r) in
       let added : sumOver (liveAt figure a s) (inverted ∷ rows) ≡ amountAt (r .account) (r .series) (figure r) a s =
       sum-cons (liveAt figure a s) inverted rows
-      ∙ ap (λ (z : ℤ). z +ℤ sumOver (liveAt figure a s) rows) (no-figure figure a s inverted (inverse-gone r next separationKind (pos 0) (pos 0) (pos 0)))
+      ∙ ap (λ (z : ℤ). z +ℤ sumOver (liveAt figure a s) rows) (no-figure figure a s inverted (inverse-gone (b .day) r next separationKind (pos 0) (pos 0) (pos 0)))
       ∙ +ℤ-idl (sumOver (liveAt figure a s) rows)
-      ∙ sum-all figure (r .account) (r .series) a s rows (parts-live r (next +ℤ pos 1) parts)
+      ∙ sum-all figure (r .account) (r .series) a s rows (parts-live (b .day) r (next +ℤ pos 1) parts)
       ∙ ap (λ (z : ℤ). amountAt (r .account) (r .series) z a s) same in
       let old : sumOver (liveAt figure a s) (replaced (b .records) (adjustedRecord r ∷ [])) ≡ amountAt (r .account) (r .series) (figure r) a s =
       replaced-figure figure a s (b .records) (adjustedRecord r) r (adjusted-stands (b .records) k n) (named-live r (p .record-adjustable)) in
       ap₂ (λ (x y : ℤ). x +ℤ y) changed added ∙ +ℤ-idl (amountAt (r .account) (r .series) (figure r) a s) ∙ sym old
       ∙ sym (+ℤ-idr (sumOver (liveAt figure a s) (replaced (b .records) (adjustedRecord r ∷ []))))
 
-  same-quantity : sumOver signedQuantity (partRecords r (next +ℤ pos 1) parts) ≡ signedQuantity r
+  same-quantity : sumOver signedQuantity (partRecords (b .day) r (next +ℤ pos 1) parts) ≡ signedQuantity r
   unfolding signedQuantity
-  same-quantity = parts-quantity r (next +ℤ pos 1) parts ∙ ap (signed (r .side)) (parts-sum b id suffix account series parts accepted)
+  same-quantity = parts-quantity (b .day) r (next +ℤ pos 1) parts ∙ ap (signed (r .side)) (parts-sum b id suffix account series parts accepted)
 
-  same-value : sumOver signedValue (partRecords r (next +ℤ pos 1) parts) ≡ signedValue r
+  same-value : sumOver signedValue (partRecords (b .day) r (next +ℤ pos 1) parts) ≡ signedValue r
   unfolding signedValue signedQuantity
-  same-value = parts-value r (next +ℤ pos 1) parts ∙ ap (λ (z : ℤ). signed (r .side) z *ℤ r .price) (parts-sum b id suffix account series parts accepted)
+  same-value = parts-value (b .day) r (next +ℤ pos 1) parts ∙ ap (λ (z : ℤ). signed (r .side) z *ℤ r .price) (parts-sum b id suffix account series parts accepted)
 
   pub separation-adds : Adds b (after b (separate id suffix account series parts)) a s (amountsOf (viewOf b) (separate id suffix account series parts) a s)
   unfolding planOf separationPlan planBooks viewOf amountsOf

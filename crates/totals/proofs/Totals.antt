@@ -1,7 +1,7 @@
 -- Document 02, K7: "Every request adds to the stored figures what it changes in these sums, so true ones stay true; from empty tables they equal the sums over the records."
 --
 -- Whatever the tables, sound or not, and whatever the request, refused or accepted: each stored figure is as far from its sum afterwards as before (`as-untrue-as-before`), so totals that came untrue from
--- elsewhere stay as untrue as they were, and true ones stay true (`request-true`). So do batches, stopped or not, and replays (`call-true`), and lists of calls (`calls-true`). Tables without
+-- elsewhere stay as untrue as they were, and true ones stay true (`request-true`). So do batches, stopped or not, replays and reporting lists (`call-true`), and lists of calls (`calls-true`). Tables without
 -- rows have true totals (`empty-true`), and so has what any list of calls makes of them (`from-empty`).
 --
 -- A refused request changes nothing; an accepted one adds the same to stored figures and sums (Handled). Assumes nothing.
@@ -23,7 +23,7 @@ use Rattle.rules.specs.Sequence.{Done, Sequence, untilRefused}
 use Rattle.rules.specs.Batch.{tradesOf, batchRefusal, batchAnswer, handleBatch}
 use Rattle.rules.specs.Reader.{readingOf}
 use Rattle.rules.specs.Replay.{replayAnswer, handleReplay}
-use Rattle.rules.specs.Call.{Call, one, trades, replay, handleCall}
+use Rattle.rules.specs.Call.{Call, one, trades, replay, reportable, handleCall}
 use Rattle.rules.specs.Run.{afterReply, run}
 use Rattle.rules.specs.Totals.{liveRecords, sumOver, totalQuantity, totalValue, TrueTotals}
 use Rattle.rules.specs.declared.Position.{Position}
@@ -32,6 +32,7 @@ use Rattle.keys.proofs.Clauses.{find-nil}
 use Rattle.soundness.proofs.ReadPosition.{readAt}
 use Rattle.history.specs.History.{isAccepted}
 use Rattle.history.proofs.Accepted.{refused-tables}
+use Rattle.history.proofs.DayAlone.{list-stays}
 use Rattle.history.proofs.Sequences.{DoneFrom, done-from}
 use Rattle.history.proofs.Empty.{no-rows}
 use Rattle.totals.specs.Amounts.{amountsOf}
@@ -104,6 +105,7 @@ call-as-untrue t (trades figures cells) = go (batchRefusal t figures cells)
 call-as-untrue t (replay text) =
     let s : Sequence = untilRefused t (readingOf text .requests) in
     done-as-untrue (s .done) t (s .tables) (done-from t (readingOf text .requests))
+call-as-untrue t (reportable cells) = subst (λ (u : Tables). AsTrue (booksOf t) (booksOf u)) (sym (list-stays t cells)) (same (booksOf t))
 
 pub calls-as-untrue : (t : Tables) (calls : List Call) → AsTrue (booksOf t) (booksOf (run t calls .tables))
 unfolding run afterReply

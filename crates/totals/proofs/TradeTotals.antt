@@ -24,12 +24,12 @@ use Rattle.totals.proofs.Stored.{stored-one}
 use Rattle.totals.proofs.EffectsAdd.{effects-add, sum-one}
 
 -- One new record that counts.
-new-counts : (figure : Record → ℤ) (a s id kind account series side quantity price long short : ℤ) →
-    (let row : Record = newRecord id kind account series side quantity price long short in
+new-counts : (figure : Record → ℤ) (a s today id kind account series side quantity price long short : ℤ) →
+    (let row : Record = newRecord today id kind account series side quantity price long short in
     sumOver (liveAt figure a s) [] +ℤ sumOver (liveAt figure a s) (row ∷ []) ≡ sumOver (liveAt figure a s) [] +ℤ amountAt account series (figure row) a s)
 unfolding newRecord
-new-counts figure a s id kind account series side quantity price long short =
-    let row : Record = newRecord id kind account series side quantity price long short in
+new-counts figure a s today id kind account series side quantity price long short =
+    let row : Record = newRecord today id kind account series side quantity price long short in
     ap (λ (z : ℤ). sumOver (liveAt figure a s) [] +ℤ z) (sum-one (liveAt figure a s) row ∙ live-figure figure a s row (adjustable-live row refl))
 
 pub trade-adds : (b : Books) → SoundBooks b → (id account series side quantity price : ℤ) → Accepts b (trade id account series side quantity price) → (a s : ℤ) →
@@ -43,7 +43,7 @@ trade-adds b sound id account series side quantity price accepted a s =
     let kind : ℤ = tradeKind (isClosingError side quantity c) in
     let new : Position = moved old (inBooked side quantity price long short) in
     effects-add b sound _ (trade-facts b sound id account series side quantity price accepted) (distinct-nil recordKey) a s _
-    (new-counts signedQuantity a s id kind account series side quantity price long short)
-    (new-counts signedValue a s id kind account series side quantity price long short)
+    (new-counts signedQuantity a s (b .day) id kind account series side quantity price long short)
+    (new-counts signedValue a s (b .day) id kind account series side quantity price long short)
     (stored-one (λ (p : Position). p .quantity) account series new (b .positions) (signed side quantity) (read-key account series (b .positions)) refl a s)
     (stored-one (λ (p : Position). p .value) account series new (b .positions) (signed side quantity *ℤ price) (read-key account series (b .positions)) refl a s)

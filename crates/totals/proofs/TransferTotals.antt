@@ -59,10 +59,10 @@ module _ (b : Books) (sound : SoundBooks b) (id suffix from to series inverseKin
   next = nextOf (b .records) id
 
   abbrev inverted : Record
-  inverted = inverseRecord r next inverseKind (inLong (r .side) (negℤ (r .quantity))) (inShort (r .side) (negℤ (r .quantity))) (pos 0)
+  inverted = inverseRecord (b .day) r next inverseKind (inLong (r .side) (negℤ (r .quantity))) (inShort (r .side) (negℤ (r .quantity))) (pos 0)
 
   abbrev arrived : Record
-  arrived = adjustableRecord r (next +ℤ pos 1) newKind to (r .quantity) (inLong (r .side) (r .quantity)) (inShort (r .side) (r .quantity))
+  arrived = adjustableRecord (b .day) r (next +ℤ pos 1) newKind to (r .quantity) (inLong (r .side) (r .quantity)) (inShort (r .side) (r .quantity))
 
   abbrev old : Position
   old = readAt from series (b .positions)
@@ -71,7 +71,7 @@ module _ (b : Books) (sound : SoundBooks b) (id suffix from to series inverseKin
   new = readAt to series (b .positions)
 
   abbrev effects : Effects
-  effects = transferEffects inverseKind newKind r next to old new
+  effects = transferEffects inverseKind newKind (b .day) r next to old new
 
   module _ (n : Named (b .records) k) (live : isLive r ≡ true) (in-from : StandsIn from series r) where
     arrived-figure : (figure : Record → ℤ) → liveAt figure a s arrived ≡ amountAt to series (figure arrived) a s
@@ -91,7 +91,7 @@ module _ (b : Books) (sound : SoundBooks b) (id suffix from to series inverseKin
         let one-added : added ≡ there =
         sum-cons (liveAt figure a s) inverted (arrived ∷ [])
         ∙ ap₂ (λ (x y : ℤ). x +ℤ y)
-        (no-figure figure a s inverted (inverse-gone r next inverseKind (inLong (r .side) (negℤ (r .quantity))) (inShort (r .side) (negℤ (r .quantity))) (pos 0)))
+        (no-figure figure a s inverted (inverse-gone (b .day) r next inverseKind (inLong (r .side) (negℤ (r .quantity))) (inShort (r .side) (negℤ (r .quantity))) (pos 0)))
         (sum-one (liveAt figure a s) arrived ∙ arrived-figure figure)
         ∙ +ℤ-idl there in
         let was : before ≡ here =

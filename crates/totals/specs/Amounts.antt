@@ -3,7 +3,7 @@ use mathlib.Core.Bool.{Bool, cond, _&&_}
 use lib.IntN.{ℤ, pos, negℤ, _+ℤ_, _*ℤ_}
 use Rattle.integers.specs.Order.{eqZ}
 use Rattle.rules.specs.Figures.{signed}
-use Rattle.rules.specs.Request.{Request, trade, separate, transfer, merge, lineage, giveUp}
+use Rattle.rules.specs.Request.{Request, trade, separate, transfer, merge, lineage, giveUp, newDay}
 use Rattle.rules.specs.Books.{View}
 use Rattle.rules.specs.NamedRecord.{theRecord}
 use Rattle.rules.specs.Merge.{pairsOf, sourcesOf, recordsOf, mergeResidual}
@@ -50,13 +50,14 @@ abbrev pub mergeAmounts : (residual : ℤ) → Amounts
 mergeAmounts residual = record { quantity = pos 0; value = residual }
 
 -- Of each kind of request, as the books stand that it finds. A separation's parts stand for the record. Of the steps of a give-up the one that completes it is a transfer; a record of status 3
--- counts as one of status 0.
+-- counts as one of status 0. A new day changes no record.
 unfoldable pub amountsOf : View → Request → (account series : ℤ) → Amounts
 amountsOf v (trade id account series side quantity price) = amountsAt account series (onSide side quantity price)
 amountsOf v (separate id suffix account series parts) = λ a s. nothing
 amountsOf v (transfer id suffix from to series) = transferAmounts (theRecord (v .recordAt id suffix)) from to series
 amountsOf v (merge id account series pairs) = amountsAt account series (mergeAmounts (mergeResidual (recordsOf (sourcesOf v (pairsOf pairs)))))
 amountsOf v (lineage id suffix) = λ a s. nothing
+amountsOf v (newDay day) = λ a s. nothing
 amountsOf v (giveUp step process id suffix giving taking series) = λ a s.
     cond (isComplete (stepped step (processBefore step process id suffix giving taking series (v .processAt process id))))
     (transferAmounts (theRecord (v .recordAt id suffix)) giving taking series a s)

@@ -170,7 +170,9 @@ fn book(
     if b.error {
         kind = CLOSING_ERROR;
     }
+    let today = records::today(records);
     let row = requests::new_record(
+        today,
         id,
         kind,
         account,

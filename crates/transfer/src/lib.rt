@@ -17,7 +17,7 @@ ghost use lib.IntN.{pos, negℤ};
 ghost use Rattle.rules.specs.Figures.{magnitudeAtMost, validPrice};
 ghost use Rattle.rules.specs.Rows.{soundPosition, moved, inverseRecord, adjustableRecord};
 ghost use Rattle.rules.specs.Request as Request;
-ghost use Rattle.rules.specs.Tables.{soundRecords, soundPositions};
+ghost use Rattle.rules.specs.Tables.{soundRecordRows, soundRecords, soundPositions};
 ghost use Rattle.rules.specs.Handle.{answered};
 ghost use Rattle.rules.specs.Transfer.{transferFigures, inLong, inShort, inSide, holdsTooLittle};
 ghost use Rattle.requests.specs.KnownPosition.{KnownPosition};
@@ -98,22 +98,22 @@ fn given_to(p: Position, r: Record) -> Position
 }
 
 // The inverse row in the old account, and the row that arrives in the new one, each of a type.
-pub fn inverse_row(r: Record, next: i64, kind: i64) -> Record
+pub fn inverse_row(today: i64, r: Record, next: i64, kind: i64) -> Record
     requires { ⌜ magnitudeAtMost 1000000 (r .quantity) ≡ true ⌝ }
-    ensures { λ s. ⌜ s ≡ inverseRecord r next kind (inLong (r .side) (negℤ (r .quantity))) (inShort (r .side) (negℤ (r .quantity))) (pos 0) ⌝ }
+    ensures { λ s. ⌜ s ≡ inverseRecord today r next kind (inLong (r .side) (negℤ (r .quantity))) (inShort (r .side) (negℤ (r .quantity))) (pos 0) ⌝ }
 {
     let left = -r.quantity;
     let long = in_long(r.side, left);
     let short = in_short(r.side, left);
-    requests::inverse_record(r, next, kind, long, short, 0)
+    requests::inverse_record(today, r, next, kind, long, short, 0)
 }
 
-pub fn arrived_row(r: Record, suffix: i64, to: i64, kind: i64) -> Record
-    ensures { λ s. ⌜ s ≡ adjustableRecord r suffix kind to (r .quantity) (inLong (r .side) (r .quantity)) (inShort (r .side) (r .quantity)) ⌝ }
+pub fn arrived_row(today: i64, r: Record, suffix: i64, to: i64, kind: i64) -> Record
+    ensures { λ s. ⌜ s ≡ adjustableRecord today r suffix kind to (r .quantity) (inLong (r .side) (r .quantity)) (inShort (r .side) (r .quantity)) ⌝ }
 {
     let long = in_long(r.side, r.quantity);
     let short = in_short(r.side, r.quantity);
-    requests::adjustable_record(r, suffix, kind, to, r.quantity, long, short)
+    requests::adjustable_record(today, r, suffix, kind, to, r.quantity, long, short)
 }
 
 // Tests 6 to 8, of the record that was found; then those of the positions.
@@ -129,7 +129,7 @@ pub fn verdict(
     to: i64,
     series: i64,
 ) -> Verdict
-    requires { ⌜ (soundRecords (now records) ≡ true) × (soundPositions (now positions) ≡ true) ⌝ }
+    requires { ⌜ (soundRecordRows (now records) ≡ true) × (soundPositions (now positions) ≡ true) ⌝ }
     requires { ⌜ (transferFigures id suffix from to series ≡ true) × KnownRecord (now records) id suffix named × KnownPosition (now positions) from series old × KnownPosition (now positions) to series new ⌝ }
     ensures { λ r. ⌜ r ≡ verdictOn (now (records .entry)) (now (positions .entry)) (Request.transfer id suffix from to series) ⌝ }
 {
@@ -170,7 +170,7 @@ pub fn verdict_on_positions(
     to: i64,
     series: i64,
 ) -> Verdict
-    requires { ⌜ (soundRecords (now records) ≡ true) × (soundPositions (now positions) ≡ true) ⌝ }
+    requires { ⌜ (soundRecordRows (now records) ≡ true) × (soundPositions (now positions) ≡ true) ⌝ }
     requires { ⌜ KnownRecord (now records) id suffix named × KnownPosition (now positions) from series old × KnownPosition (now positions) to series new ⌝ }
     ensures { λ v. ⌜ v ≡ movingVerdict (now (records .entry)) (now (positions .entry)) (named .record) id from to series ⌝ }
 {
@@ -220,8 +220,9 @@ pub fn book_moved(
 {
     let r = named.record;
     let next = named.next;
-    let inverse = inverse_row(r, next, leaving);
-    let arrived = arrived_row(r, next + 1, to, arriving);
+    let today = records::today(records);
+    let inverse = inverse_row(today, r, next, leaving);
+    let arrived = arrived_row(today, r, next + 1, to, arriving);
     let quantity = [r.quantity];
     let old_found = old.found;
     let new_found = new.found;

@@ -89,6 +89,12 @@ fn code_of(r: Reply) -> Coded
             second: number,
             third: place,
         },
+        Reply::Listed(records) => Coded {
+            kind: 9,
+            first: records,
+            second: 0,
+            third: 0,
+        },
     }
 }
 
@@ -180,6 +186,22 @@ pub extern "C" fn velichundam_lineage(records: &[i64], id: i64, suffix: i64) -> 
     ensures { λ c. ⌜ codeFrom (c .kind) (c .first) (c .second) (c .third) ≡ codeOf ((handle (tablesOf (now (records .entry)) []) (Request.lineage id suffix)) .reply) ⌝ }
 {
     code_of(book::lineage(records, id, suffix))
+}
+
+// A new day; it is lent the records alone.
+#[no_mangle]
+pub extern "C" fn velichundam_day(records: &mut [i64], day: i64) -> Coded
+    ensures { λ c. ⌜ handedBack (c .kind) (c .first) (c .second) (c .third) (now (records .exit)) [] ≡ inNumbers (handle (tablesOf (now (records .entry)) []) (Request.newDay day)) ⌝ }
+{
+    code_of(book::day(records, day))
+}
+
+// The end-of-day reporting list.
+#[no_mangle]
+pub extern "C" fn velichundam_reportable(records: &[i64], pairs: &mut [i64]) -> Coded
+    ensures { λ c. ⌜ handedBackWith (c .kind) (c .first) (c .second) (c .third) (now (pairs .exit)) (now (records .entry)) [] ≡ inNumbersWith (leftBy (now (pairs .entry)) (handleCall (tablesOf (now (records .entry)) []) (Call.reportable (length (now (pairs .entry)))))) ⌝ }
+{
+    code_of(book::reportable(records, pairs))
 }
 
 // The steps of a give-up. They alone are lent the process table.

@@ -61,6 +61,13 @@ pub extern "C" fn velichundam_write_transfer(
 }
 
 #[no_mangle]
+pub extern "C" fn velichundam_write_day(text: &mut [u8], day: i64) -> Coded
+    ensures { λ c. ⌜ handedBackText (c .kind) (c .first) (c .second) (c .third) (now (text .exit)) ≡ inNumbersText (writeRequest (Request.newDay day) (now (text .entry))) ⌝ }
+{
+    code_of(journal_writing::line::write_day(text, day))
+}
+
+#[no_mangle]
 pub extern "C" fn velichundam_write_merge(
     text: &mut [u8],
     id: i64,

@@ -11,7 +11,7 @@ use Rattle.rules.specs.Request.{Request}
 use Rattle.rules.specs.Plan.{planTests}
 use Rattle.rules.specs.Tables.{booksOf, soundRecords, soundPositions, soundProcesses, noProcesses, tablesOf}
 use Rattle.rules.proofs.Computed.{Computed}
-use Rattle.cells.proofs.SoundBookCells.{books-records-rise, books-records-sound, books-records-fit, books-positions-rise, books-positions-sound, books-positions-fit, books-processes-rise, books-processes-sound, books-processes-fit}
+use Rattle.cells.proofs.SoundBookCells.{books-records-rise, books-records-sound, books-records-fit, books-days-sound, books-positions-rise, books-positions-sound, books-positions-fit, books-processes-rise, books-processes-sound, books-processes-fit}
 use Rattle.soundness.specs.SoundBooks.{SoundBooks, planOn, Accepts}
 use Rattle.verdict.specs.Verdict.{verdictOf, verdictOn}
 use Rattle.verdict.specs.declared.Verdict.the-variants.{Accepted}
@@ -32,6 +32,7 @@ sound-books rs ps h k = record {
   processes-rise = books-processes-rise (tablesOf rs ps) no-processes-sound;
   processes-sound = books-processes-sound (tablesOf rs ps) no-processes-sound;
   processes-fit = books-processes-fit (tablesOf rs ps) no-processes-sound;
+  days-sound = books-days-sound (tablesOf rs ps) h;
 }
 
 pub none-accepted : (o : Option Test) → verdictOf o ≡ Accepted → o ≡ none

@@ -9,8 +9,8 @@ use mathlib.Core.Option.{Option, none, some}
 use lib.IntN.{ℤ, pos}
 use Rattle.rules.specs.Refusal.{Test, test, firstRefusal}
 use Rattle.rules.specs.Reply.{refusedBy}
-use Rattle.rules.specs.Request.{Request, trade, separate, transfer, merge, lineage, giveUp}
-use Rattle.rules.specs.Plan.{Effects, Plan, booking, question, planTests, planReply}
+use Rattle.rules.specs.Request.{Request, trade, separate, transfer, merge, lineage, giveUp, newDay}
+use Rattle.rules.specs.Plan.{Effects, Plan, booking, question, dayMove, planTests, planReply}
 use Rattle.rules.specs.Trade.{tradePlan}
 use Rattle.rules.specs.Separation.{separationPlan}
 use Rattle.rules.specs.Transfer.{transferPlan}
@@ -109,6 +109,7 @@ module _ (t : Tables) where
     unfolding refusals soundnessTests firstRefusal test
     plan-sound (booking tests e) = rw (sound .records, sound .positions) (processes-pass (e .process) (planTests (booksOf t) (booking tests e)))
     plan-sound (question tests reply) = rw (sound .records)
+    plan-sound (dayMove tests day) = rw (sound .records)
 
     judged-plan : (r : Request) → handle t r ≡ answer (firstRefusal (planTests (booksOf t) (planOn (booksOf t) r))) t (done (planOn (booksOf t) r))
     judged-plan r = handle-plan r ∙ ap (λ (o : Option Test). answer o t (done (planOn (booksOf t) r))) (plan-sound (planOn (booksOf t) r))
@@ -131,6 +132,7 @@ module _ (rs ps : List ℤ) where
       go : (plan : Plan) → verdictOf (firstRefusal (soundnessTests (tablesOf rs ps) plan)) ≡ Verdict.Refused (pos 1) (pos 0)
       go (booking tests e) = rw h
       go (question tests reply) = rw h
+      go (dayMove tests day) = rw h
 
   -- Of a request that books, by the code's verdict `v` on the tables: what tests 1 and 2 refuse, and what they accept.
   module _ {v : Verdict} (judged : v ≡ verdictOnTables rs ps) where
@@ -150,6 +152,7 @@ module _ (rs ps : List ℤ) where
     unsound-refused (merge id account series pairs) b = unsound-booking (merge id account series pairs) _ _ refl
     unsound-refused (lineage id suffix) b = clash b refl
     unsound-refused (giveUp step process id suffix giving taking series) b = unsound-booking (giveUp step process id suffix giving taking series) _ _ refl
+    unsound-refused (newDay day) b = clash b refl
 
     pub sound-accepted : v ≡ Verdict.Accepted → (soundRecords rs ≡ true) × (soundPositions ps ≡ true)
     unfolding verdictOnTables

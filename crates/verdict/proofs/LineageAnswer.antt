@@ -19,7 +19,7 @@ use Rattle.rules.specs.Books.{viewOf}
 use Rattle.rules.specs.Plan.{planTests, planReply}
 use Rattle.rules.specs.Lineage.{Origin, originOf, lineageReply, lineagePlan}
 use Rattle.rules.specs.Layout.{rowsOf}
-use Rattle.rules.specs.Tables.{booksOf, recordsLayout, soundRecords, tablesOf}
+use Rattle.rules.specs.Tables.{soundRecordRows, booksOf, recordsLayout, soundRecords, tablesOf}
 use Rattle.rules.specs.Handle.{answer, handle, planOf, planTables, refusals, soundnessTests, answered}
 use Rattle.rules.specs.declared.Record.{Record}
 use Rattle.rules.specs.declared.Reply.the-variants.{Lineage, Refused}
@@ -45,7 +45,7 @@ parent-low parent suffix h z = go (or-cases (ltZ parent suffix) (eqZ parent (pos
     go (inl b) = omega zarith
     go (inr b) = clash (and-right (eqZ parent (pos 0)) (eqZ suffix (pos 0)) b) z
 
-module _ (rs : List ℤ) (sound : soundRecords rs ≡ true) (id : ℤ) where
+module _ (rs : List ℤ) (sound : soundRecordRows rs ≡ true) (id : ℤ) where
   pub parent-valid : (suffix : ℤ) (r : Record) → recordsOfId rs id suffix ≡ some r → validSuffix (r .parent) ≡ true
   parent-valid suffix r e = found-record rs sound id suffix r e .sound .parent
 

@@ -28,14 +28,14 @@ use Rattle.verdict.proofs.Room.{positionRead, absent-moved, absent-one}
 use Rattle.verdict.proofs.Suffixes.{above-later}
 
 -- The rows that come out of the record, of these types, from its id's next suffix on; and all that are put.
-abbrev pub movingInverse : ℤ → Record → ℤ → Record
-movingInverse inverseKind r next = inverseRecord r next inverseKind (inLong (r .side) (negℤ (r .quantity))) (inShort (r .side) (negℤ (r .quantity))) (pos 0)
+abbrev pub movingInverse : (inverseKind today : ℤ) → Record → ℤ → Record
+movingInverse inverseKind today r next = inverseRecord today r next inverseKind (inLong (r .side) (negℤ (r .quantity))) (inShort (r .side) (negℤ (r .quantity))) (pos 0)
 
-abbrev pub movingArrived : ℤ → Record → ℤ → ℤ → Record
-movingArrived newKind r next to = adjustableRecord r (next +ℤ pos 1) newKind to (r .quantity) (inLong (r .side) (r .quantity)) (inShort (r .side) (r .quantity))
+abbrev pub movingArrived : (newKind today : ℤ) → Record → ℤ → ℤ → Record
+movingArrived newKind today r next to = adjustableRecord today r (next +ℤ pos 1) newKind to (r .quantity) (inLong (r .side) (r .quantity)) (inShort (r .side) (r .quantity))
 
-abbrev pub movingRows : ℤ → ℤ → Record → ℤ → ℤ → List Record
-movingRows inverseKind newKind r next to = adjustedRecord r ∷ movingInverse inverseKind r next ∷ movingArrived newKind r next to ∷ []
+abbrev pub movingRows : (inverseKind newKind today : ℤ) → Record → ℤ → ℤ → List Record
+movingRows inverseKind newKind today r next to = adjustedRecord r ∷ movingInverse inverseKind today r next ∷ movingArrived newKind today r next to ∷ []
 
 -- The positions that it leaves: the old account's and the new one's.
 abbrev pub movingOld : List ℤ → Record → ℤ → ℤ → Position

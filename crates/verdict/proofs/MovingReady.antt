@@ -15,13 +15,13 @@ use Rattle.rules.specs.Refusal.{Test, test, firstRefusal}
 use Rattle.rules.specs.Plan.{Effects, booking, planTests, suffixIsAbove}
 use Rattle.rules.specs.Transfer.{holdsTooLittle}
 use Rattle.rules.specs.Layout.{rowsOf}
-use Rattle.rules.specs.Tables.{booksOf, recordsLayout, positionsLayout, soundRecords, soundPositions, tablesOf}
+use Rattle.rules.specs.Tables.{currentDay, booksOf, recordsLayout, positionsLayout, soundRecords, soundPositions, tablesOf}
 use Rattle.rules.specs.declared.Record.{Record}
 use Rattle.rules.specs.declared.Position.{Position}
 use Rattle.keys.proofs.Clauses.{allOf-head, allOf-tail}
 use Rattle.keys.proofs.Split.{Found, absent, present, found}
 use Rattle.cells.proofs.RowCells.{positions-lawful}
-use Rattle.cells.proofs.SoundCells.{records-known, positions-known}
+use Rattle.cells.proofs.SoundCells.{record-rows-sound, days-sound, records-known, positions-known}
 use Rattle.soundness.proofs.Accepted.{own-passed, booking-passed}
 use Rattle.soundness.proofs.BookingFacts.{BookingFacts}
 use Rattle.soundness.proofs.FigureRanges.{suffix-range}
@@ -76,17 +76,17 @@ module _ (rs ps : List ℤ) (id suffix from to series inverseKind newKind : ℤ)
   record-named : Named (rowsOf recordsLayout rs) (keyOf id suffix)
   unfolding isSome theRecord
   record-named =
-      named-open (rowsOf recordsLayout rs) (keyOf id suffix) (records-known rs (may .records-sound) .rows-sound) (ap isSome (may .named))
+      named-open (rowsOf recordsLayout rs) (keyOf id suffix) (records-known rs (record-rows-sound rs (may .records-sound)) .rows-sound) (ap isSome (may .named))
       (ap (λ (o : Option Record). eqZ (theRecord o .status) inverse) (may .named) ∙ may .not-inverse)
 
   facts : BookingFacts (booksOf (tablesOf rs ps)) effects
   unfolding booksOf theRecord suffixIsAbove inverseRecord adjustableRecord
   facts =
       subst (λ (o : Option Record). BookingFacts (booksOf (tablesOf rs ps)) (movingEffects inverseKind newKind rs ps (theRecord o) id from to series)) (may .named)
-      (transfer-effects-facts (booksOf (tablesOf rs ps)) id suffix from to series inverseKind newKind record-named (may .inverse-kind) (may .new-kind) (may .to-valid) (may .accounts-differ)
+      (transfer-effects-facts (booksOf (tablesOf rs ps)) id suffix from to series inverseKind newKind (days-sound rs (may .records-sound)) record-named (may .inverse-kind) (may .new-kind) (may .to-valid) (may .accounts-differ)
       (booking-passed (booksOf (tablesOf rs ps)) tests effects accepts .suffixes))
 
-  pub moving-ready : Ready rs ps (adjustedRecord r ∷ []) (movingInverse inverseKind r next ∷ movingArrived newKind r next to ∷ []) (movingOld ps r from series ∷ movingNew ps r to series ∷ [])
+  pub moving-ready : Ready rs ps (adjustedRecord r ∷ []) (movingInverse inverseKind (currentDay rs) r next ∷ movingArrived newKind (currentDay rs) r next to ∷ []) (movingOld ps r from series ∷ movingNew ps r to series ∷ [])
   moving-ready = ready rs ps tests effects facts accepts
 
   pub moving-adjusted : soundRecord (adjustedRecord r) ≡ true
@@ -95,11 +95,11 @@ module _ (rs ps : List ℤ) (id suffix from to series inverseKind newKind : ℤ)
   pub moving-next : (pos 0 ≤ℤ next) × ((next +ℤ pos 1) ≤ℤ greatestOfSuffixes)
   unfolding adjustableRecord
   moving-next =
-      let inverse-row : Bool = soundRecord (movingInverse inverseKind r next) in
-      let arrived-row : Bool = soundRecord (movingArrived newKind r next to) in (
-        next-range rs (may .records-sound) id .0,
+      let inverse-row : Bool = soundRecord (movingInverse inverseKind (currentDay rs) r next) in
+      let arrived-row : Bool = soundRecord (movingArrived newKind (currentDay rs) r next to) in (
+        next-range rs (record-rows-sound rs (may .records-sound)) id .0,
         suffix-range (next +ℤ pos 1)
-            (record-sound (movingArrived newKind r next to) (allOf-head arrived-row [] (allOf-tail inverse-row (arrived-row ∷ []) (moving-ready .added-sound))) .suffix) .1,
+            (record-sound (movingArrived newKind (currentDay rs) r next to) (allOf-head arrived-row [] (allOf-tail inverse-row (arrived-row ∷ []) (moving-ready .added-sound))) .suffix) .1,
       )
 
   -- The old account's row, which is written anew, is there: it holds the quantity, which is at least 1.
@@ -115,7 +115,7 @@ module _ (rs ps : List ℤ) (id suffix from to series inverseKind newKind : ℤ)
           → (x : Position) × (find positionKey (positionKey (movingOld ps r from series)) (rowsOf positionsLayout ps) ≡ some x)
       go (present x e) = (x, ap (λ (k : Key). find positionKey k (rowsOf positionsLayout ps)) (read-key from series (rowsOf positionsLayout ps)) ∙ e)
       go (absent e) =
-          let positive : pos 1 ≤ℤ r .quantity = open-quantity r (found-record rs (may .records-sound) id suffix r (may .named) .sound) (may .not-inverse) .0 in
+          let positive : pos 1 ≤ℤ r .quantity = open-quantity r (found-record rs (record-rows-sound rs (may .records-sound)) id suffix r (may .named) .sound) (may .not-inverse) .0 in
           let short : ltZ (pos 0) (r .quantity) ≡ false = none-held e (isBuy (r .side)) refl in
           absurd (omega zarith)
 

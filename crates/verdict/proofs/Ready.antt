@@ -13,7 +13,7 @@ use Rattle.rules.specs.Rows.{recordKey, positionKey, soundRecord, soundPosition
 use Rattle.rules.specs.Refusal.{Test, allOf, firstRefusal}
 use Rattle.rules.specs.Plan.{Effects, booking, planTests}
 use Rattle.rules.specs.Layout.{roomOf, rowsOf}
-use Rattle.rules.specs.Tables.{booksOf, recordsLayout, positionsLayout, soundRecords, soundPositions, tablesOf}
+use Rattle.rules.specs.Tables.{booksOf, recordsLayout, positionsLayout, soundRecordRows, soundPositions, tablesOf}
 use Rattle.rules.specs.declared.Record.{Record}
 use Rattle.rules.specs.declared.Position.{Position}
 use Rattle.keys.proofs.Clauses.{allOf-head, allOf-tail}
@@ -58,7 +58,7 @@ ready rs ps tests e facts accepted =
 -- What is required where a row is inserted, and where a position is put.
 abbrev pub InsertReady : List ℤ → Record → Type 0
 InsertReady cells r =
-    (soundRecords cells ≡ true) × (soundRecord r ≡ true) × (find recordKey (recordKey r) (rowsOf recordsLayout cells) ≡ none)
+    (soundRecordRows cells ≡ true) × (soundRecord r ≡ true) × (find recordKey (recordKey r) (rowsOf recordsLayout cells) ≡ none)
     × (length (rowsOf recordsLayout cells) < roomOf recordsLayout cells)
 
 abbrev pub PutReady : List ℤ → Position → Type 0
@@ -72,7 +72,7 @@ all-at p [] x rest h = allOf-head (p x) (map p rest) h
 all-at p (y ∷ done) x rest h = all-at p done x rest (allOf-tail (p y) (map p (done ++ (x ∷ rest))) h)
 
 module _ (rs ps : List ℤ) (changed done rest : List Record) (moves : List Position) (is-ready : Ready rs ps changed (done ++ rest) moves)
-    (records-sound : soundRecords rs ≡ true) (now : List ℤ) (so-far : now ≡ putAll recordsLayout recordKey rs (changed ++ done)) where
+    (records-sound : soundRecordRows rs ≡ true) (now : List ℤ) (so-far : now ≡ putAll recordsLayout recordKey rs (changed ++ done)) where
   -- Room for all rows that are left.
   pub rows-left-room : length (rowsOf recordsLayout now) + length rest ≤ roomOf recordsLayout now
   rows-left-room =
@@ -88,7 +88,7 @@ module _ (rs ps : List ℤ) (changed done rest : List Record) (moves : List Posi
 
 -- The next row.
 pub insert-ready : (rs ps : List ℤ) (changed done rest : List Record) (x : Record) (moves : List Position) → Ready rs ps changed (done ++ (x ∷ rest)) moves
-    → soundRecords rs ≡ true → (now : List ℤ) → now ≡ putAll recordsLayout recordKey rs (changed ++ done) → soundRecords now ≡ true → InsertReady now x
+    → soundRecordRows rs ≡ true → (now : List ℤ) → now ≡ putAll recordsLayout recordKey rs (changed ++ done) → soundRecordRows now ≡ true → InsertReady now x
 insert-ready rs ps changed done rest x moves is-ready records-sound now so-far sound = (
   sound,
   all-at soundRecord done x rest (is-ready .added-sound),

@@ -21,7 +21,7 @@ use Rattle.rules.specs.Books.{viewOf}
 use Rattle.rules.specs.Plan.{planTests, bookingTests, processRoomTest, suffixIsAbove, booked, planReply}
 use Rattle.rules.specs.Separation.{sumOf, separationFigures, partRecords, separationPlan}
 use Rattle.rules.specs.Layout.{roomOf, rowsOf, write}
-use Rattle.rules.specs.Tables.{booksOf, writeBooks, recordsLayout, positionsLayout, soundPositions}
+use Rattle.rules.specs.Tables.{currentDay, booksOf, writeBooks, recordsLayout, positionsLayout, soundPositions}
 use Rattle.rules.specs.Handle.{planOf, planTables, writtenBy, answered}
 use Rattle.rules.specs.declared.Record.{Record}
 use Rattle.rules.specs.declared.Reply.the-variants.{Booked}
@@ -35,11 +35,11 @@ use Rattle.verdict.proofs.Room.{room-for-none}
 use Rattle.verdict.proofs.Suffixes.{above-parts, parts-count}
 
 -- The rows that a separation puts, from the named record and its id's next suffix.
-abbrev pub separationInverse : Record → ℤ → Record
-separationInverse r next = inverseRecord r next separationKind (pos 0) (pos 0) (pos 0)
+abbrev pub separationInverse : (today : ℤ) → Record → ℤ → Record
+separationInverse today r next = inverseRecord today r next separationKind (pos 0) (pos 0) (pos 0)
 
-abbrev pub separationRows : Record → ℤ → List ℤ → List Record
-separationRows r next parts = adjustedRecord r ∷ separationInverse r next ∷ partRecords r (next +ℤ pos 1) parts
+abbrev pub separationRows : (today : ℤ) → Record → ℤ → List ℤ → List Record
+separationRows today r next parts = adjustedRecord r ∷ separationInverse today r next ∷ partRecords today r (next +ℤ pos 1) parts
 
 module _ (rs ps : List ℤ) (id suffix account series : ℤ) (parts : List ℤ) where
   abbrev next : ℤ
@@ -69,7 +69,7 @@ module _ (rs ps : List ℤ) (id suffix account series : ℤ) (parts : List ℤ) 
   pub separation-tests : soundPositions ps ≡ true → (r : Record) → theRecord named ≡ r → SeparationFrom 3 r
   unfolding verdictOn planOf separationPlan viewOf booksOf planTests bookingTests processRoomTest statusTest suffixIsAbove inverseRecord anyOf allOf absentFrom firstRefusal test
   separation-tests positions-sound r e =
-      let added : suc (length (partRecords (theRecord named) (next +ℤ pos 1) parts)) ≡ length parts + 1 = omega (arith, parts-count (theRecord named) (next +ℤ pos 1) parts) in
+      let added : suc (length (partRecords (currentDay rs) (theRecord named) (next +ℤ pos 1) parts)) ≡ length parts + 1 = omega (arith, parts-count (currentDay rs) (theRecord named) (next +ℤ pos 1) parts) in
       record { is = rw (← e, above-parts, added, room-for-none ps positions-sound) }
 
   -- ---- the booking
@@ -77,8 +77,8 @@ module _ (rs ps : List ℤ) (id suffix account series : ℤ) (parts : List ℤ) 
   module _ (positions-sound : soundPositions ps ≡ true) (r : Record) (e : named ≡ some r) where
     pub separation-booked : acceptedOn rs ps (separate id suffix account series parts)
         ≡ answered (Booked (pos (length parts) +ℤ pos 1) (pos 0))
-        (write recordsLayout rs (upsertAll recordKey (separationRows r next parts) (rowsOf recordsLayout rs))) ps
+        (write recordsLayout rs (upsertAll recordKey (separationRows (currentDay rs) r next parts) (rowsOf recordsLayout rs))) ps
     unfolding acceptedOn planOf separationPlan viewOf booksOf planReply planTables writtenBy writeBooks booked upsertAll theRecord
     separation-booked = λ i. answered (Booked (pos (length parts) +ℤ pos 1) (pos 0))
-        (write recordsLayout rs (upsertAll recordKey (separationRows (theRecord (e i)) next parts) (rowsOf recordsLayout rs)))
+        (write recordsLayout rs (upsertAll recordKey (separationRows (currentDay rs) (theRecord (e i)) next parts) (rowsOf recordsLayout rs)))
         (write-own positionsLayout positions-lawful ps (positions-known ps positions-sound .count-sound) i)

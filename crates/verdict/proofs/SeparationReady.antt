@@ -19,7 +19,7 @@ use Rattle.rules.specs.Books.{viewOf}
 use Rattle.rules.specs.Plan.{suffixIsAbove}
 use Rattle.rules.specs.Separation.{partRecords, separationPlan}
 use Rattle.rules.specs.Layout.{roomOf, rowsOf}
-use Rattle.rules.specs.Tables.{booksOf, recordsLayout, soundRecords, soundPositions, tablesOf}
+use Rattle.rules.specs.Tables.{currentDay, booksOf, recordsLayout, soundRecords, soundPositions, tablesOf}
 use Rattle.rules.specs.Handle.{planOf, answered}
 use Rattle.rules.specs.declared.Record.{Record}
 use Rattle.rules.specs.declared.Reply.the-variants.{Booked}
@@ -28,6 +28,7 @@ use Rattle.soundness.specs.SoundBooks.{Accepts}
 use Rattle.soundness.proofs.Accepted.{booking-passed}
 use Rattle.soundness.proofs.NamedRecord.{nextOf}
 use Rattle.soundness.proofs.Separation.{separation-facts}
+use Rattle.cells.proofs.SoundCells.{record-rows-sound}
 use Rattle.verdict.specs.Verdict.{verdictOn, acceptedOn}
 use Rattle.verdict.specs.declared.Verdict.the-variants.{Accepted}
 use Rattle.verdict.proofs.Acceptance.{sound-books, accepted-accepts}
@@ -53,17 +54,17 @@ module _ (rs ps : List ℤ) (id suffix account series : ℤ) (parts : List ℤ)
   unfolding planOf separationPlan viewOf booksOf anyOf suffixIsAbove inverseRecord
   separation-next =
       let r : Record = theRecord (find recordKey (keyOf id suffix) (rowsOf recordsLayout rs)) in
-      let passed : anyOf (map suffixIsAbove (separationInverse r next ∷ partRecords r (next +ℤ pos 1) parts)) ≡ false =
+      let passed : anyOf (map suffixIsAbove (separationInverse (currentDay rs) r next ∷ partRecords (currentDay rs) r (next +ℤ pos 1) parts)) ≡ false =
       booking-passed (booksOf (tablesOf rs ps)) _ _ accepts .suffixes in
-      let last : ltZ greatestOfSuffixes (next +ℤ pos (length parts)) ≡ false = sym (above-parts r next parts) ∙ passed in
-      (next-range rs records-sound id .0, omega zarith)
+      let last : ltZ greatestOfSuffixes (next +ℤ pos (length parts)) ≡ false = sym (above-parts (currentDay rs) r next parts) ∙ passed in
+      (next-range rs (record-rows-sound rs records-sound) id .0, omega zarith)
 
   module _ (r : Record) (named : find recordKey (keyOf id suffix) (rowsOf recordsLayout rs) ≡ some r) where
-    pub separation-ready : Ready rs ps (adjustedRecord r ∷ []) (separationInverse r next ∷ partRecords r (next +ℤ pos 1) parts) []
+    pub separation-ready : Ready rs ps (adjustedRecord r ∷ []) (separationInverse (currentDay rs) r next ∷ partRecords (currentDay rs) r (next +ℤ pos 1) parts) []
     unfolding planOf separationPlan viewOf booksOf theRecord
     separation-ready =
         subst
-        (λ (o : Option Record). Ready rs ps (adjustedRecord (theRecord o) ∷ []) (separationInverse (theRecord o) next ∷ partRecords (theRecord o) (next +ℤ pos 1) parts) [])
+        (λ (o : Option Record). Ready rs ps (adjustedRecord (theRecord o) ∷ []) (separationInverse (currentDay rs) (theRecord o) next ∷ partRecords (currentDay rs) (theRecord o) (next +ℤ pos 1) parts) [])
         named
         (ready rs ps _ _ (separation-facts (booksOf (tablesOf rs ps)) (sound-books rs ps records-sound positions-sound) id suffix account series parts accepts) accepts)
 
@@ -72,7 +73,7 @@ module _ (rs ps : List ℤ) (id suffix account series : ℤ) (parts : List ℤ)
 
     -- Room for the inverse and the parts' rows.
     pub separation-room : length (rowsOf recordsLayout rs) + suc (length parts) ≤ roomOf recordsLayout rs
-    separation-room = omega (arith, separation-ready .records-room, parts-count r (next +ℤ pos 1) parts)
+    separation-room = omega (arith, separation-ready .records-room, parts-count (currentDay rs) r (next +ℤ pos 1) parts)
 
 -- ---- what it comes to
 
@@ -81,7 +82,7 @@ module _ (rs ps : List ℤ) (id suffix account series : ℤ) (parts : List ℤ) 
   abbrev first : ℤ
   first = nextOf (rowsOf recordsLayout rs) id
 
-  pub separation-returns : (out : List ℤ) → out ≡ putAll recordsLayout recordKey rs (separationRows r first parts)
+  pub separation-returns : (out : List ℤ) → out ≡ putAll recordsLayout recordKey rs (separationRows (currentDay rs) r first parts)
       → answered (Booked (pos (length parts) +ℤ pos 1) (pos 0)) out ps ≡ acceptedOn rs ps (separate id suffix account series parts)
   separation-returns out e =
       ap (λ (c : List ℤ). answered (Booked (pos (length parts) +ℤ pos 1) (pos 0)) c ps) e ∙ sym (separation-booked rs ps id suffix account series parts positions-sound r named)

@@ -15,7 +15,7 @@ use Rattle.rules.specs.Keyed.{Key, find, greatest}
 use Rattle.rules.specs.Rows.{keyOf, recordKey, soundRecord, soundPosition, validSignedQuantity}
 use Rattle.rules.specs.NamedRecord.{nextSuffix, isNotAdjustable}
 use Rattle.rules.specs.Layout.{rowsOf}
-use Rattle.rules.specs.Tables.{recordsLayout, positionsLayout, soundRecords, soundPositions}
+use Rattle.rules.specs.Tables.{recordsLayout, positionsLayout, soundRecordRows, soundPositions}
 use Rattle.rules.specs.declared.Record.{Record}
 use Rattle.keys.proofs.Split.{and-left, and-right, Found, absent, present, found}
 use Rattle.keys.proofs.Lookup.{find-key, find-all}
@@ -46,7 +46,7 @@ pub record FoundRecord (id suffix : ℤ) (r : Record) : Type 0 where
   pub quantity-small : magnitudeAtMost mostQuantity (r .quantity) ≡ true
   pub negated-small : magnitudeAtMost mostQuantity (negℤ (r .quantity)) ≡ true
 
-module _ (rs : List ℤ) (records-sound : soundRecords rs ≡ true) where
+module _ (rs : List ℤ) (records-sound : soundRecordRows rs ≡ true) where
   pub found-record : (id suffix : ℤ) (r : Record) → find recordKey (keyOf id suffix) (rowsOf recordsLayout rs) ≡ some r → FoundRecord id suffix r
   found-record id suffix r named =
       let k : recordKey r ≡ keyOf id suffix = find-key recordKey (keyOf id suffix) (rowsOf recordsLayout rs) r named in

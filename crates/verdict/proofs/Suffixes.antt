@@ -27,23 +27,23 @@ above-later most first last h = go (split (ltZ most first))
     go (inr e) = rw e
 
 -- A row at a suffix and the parts' rows after it.
-pub above-parts : (r : Record) (suffix : ℤ) (parts : List ℤ)
-    → (ltZ greatestOfSuffixes suffix || anyOf (map suffixIsAbove (partRecords r (suffix +ℤ pos 1) parts))) ≡ ltZ greatestOfSuffixes (suffix +ℤ pos (length parts))
+pub above-parts : (today : ℤ) (r : Record) (suffix : ℤ) (parts : List ℤ)
+    → (ltZ greatestOfSuffixes suffix || anyOf (map suffixIsAbove (partRecords today r (suffix +ℤ pos 1) parts))) ≡ ltZ greatestOfSuffixes (suffix +ℤ pos (length parts))
 unfolding anyOf partRecords suffixIsAbove adjustableRecord
-above-parts r suffix [] =
+above-parts today r suffix [] =
     let e : suffix +ℤ pos 0 ≡ suffix = omega (zarith, +-lin suffix (pos 0)) in
     or-nothing (ltZ greatestOfSuffixes suffix) ∙ ap (ltZ greatestOfSuffixes) (sym e)
-above-parts r suffix (q ∷ rest) =
+above-parts today r suffix (q ∷ rest) =
     let next : ℤ = suffix +ℤ pos 1 in
     let last : ℤ = next +ℤ pos (length rest) in
     let e : last ≡ suffix +ℤ pos (suc (length rest)) = omega (zarith, +-lin suffix (pos 1), +-lin next (pos (length rest)), +-lin suffix (pos (suc (length rest)))) in
     let h : suffix ≤ℤ last = omega (zarith, +-lin suffix (pos 1), +-lin next (pos (length rest))) in
-    ap (λ (b : Bool). ltZ greatestOfSuffixes suffix || b) (above-parts r next rest)
+    ap (λ (b : Bool). ltZ greatestOfSuffixes suffix || b) (above-parts today r next rest)
     ∙ above-later greatestOfSuffixes suffix last h
     ∙ ap (ltZ greatestOfSuffixes) e
 
 -- How many rows the parts make.
-pub parts-count : (r : Record) (suffix : ℤ) (parts : List ℤ) → length (partRecords r suffix parts) ≡ length parts
+pub parts-count : (today : ℤ) (r : Record) (suffix : ℤ) (parts : List ℤ) → length (partRecords today r suffix parts) ≡ length parts
 unfolding partRecords
-parts-count r suffix [] = refl
-parts-count r suffix (q ∷ rest) = ap suc (parts-count r (suffix +ℤ pos 1) rest)
+parts-count today r suffix [] = refl
+parts-count today r suffix (q ∷ rest) = ap suc (parts-count today r (suffix +ℤ pos 1) rest)

@@ -15,7 +15,7 @@ use Rattle.rules.specs.Books.{viewOf}
 use Rattle.rules.specs.Plan.{planTests, bookingTests, processRoomTest, suffixIsAbove, booked, planReply}
 use Rattle.rules.specs.Trade.{tradeFigures, closedBy, longBooked, shortBooked, isClosingError, tradeKind, tradeReply, tradePlan}
 use Rattle.rules.specs.Layout.{roomOf, rowsOf, write}
-use Rattle.rules.specs.Tables.{booksOf, writeBooks, recordsLayout, positionsLayout}
+use Rattle.rules.specs.Tables.{currentDay, booksOf, writeBooks, recordsLayout, positionsLayout}
 use Rattle.rules.specs.Handle.{planOf, planTables, writtenBy, answered}
 use Rattle.rules.specs.declared.Record.{Record}
 use Rattle.rules.specs.declared.Position.{Position}
@@ -45,8 +45,8 @@ module _ (ps : List ℤ) (account series side quantity : ℤ) where
   abbrev pub tradePosition : ℤ → Position
   tradePosition price = moved (positionRead ps account series) (tradeMovement price)
 
-  abbrev pub tradeRow : ℤ → ℤ → Record
-  tradeRow id price = newRecord id (tradeKind tradeError) account series side quantity price tradeLong tradeShort
+  abbrev pub tradeRow : (today id price : ℤ) → Record
+  tradeRow today id price = newRecord today id (tradeKind tradeError) account series side quantity price tradeLong tradeShort
 
 module _ (rs ps : List ℤ) (id account series side quantity price : ℤ) where
   -- ---- the verdict
@@ -71,7 +71,7 @@ module _ (rs ps : List ℤ) (id account series side quantity price : ℤ) where
   -- ---- the booking
 
   abbrev recordsAfter : List ℤ
-  recordsAfter = write recordsLayout rs (upsert recordKey (tradeRow ps account series side quantity id price) (rowsOf recordsLayout rs))
+  recordsAfter = write recordsLayout rs (upsert recordKey (tradeRow ps account series side quantity (currentDay rs) id price) (rowsOf recordsLayout rs))
 
   abbrev positionsAfter : List ℤ
   positionsAfter = write positionsLayout ps (upsert positionKey (tradePosition ps account series side quantity price) (rowsOf positionsLayout ps))

@@ -10,7 +10,7 @@ use Rattle.rules.specs.Refusal.{test, firstRefusal}
 use Rattle.rules.specs.Plan.{Effects, bookingTests}
 use Rattle.rules.specs.Transfer.{holdsTooLittle, transferEffects}
 use Rattle.rules.specs.Layout.{rowsOf, write}
-use Rattle.rules.specs.Tables.{tablesOf, booksOf, recordsLayout, positionsLayout}
+use Rattle.rules.specs.Tables.{currentDay, tablesOf, booksOf, recordsLayout, positionsLayout}
 use Rattle.rules.specs.declared.Record.{Record}
 use Rattle.verdict.specs.Verdict.{verdictOf}
 use Rattle.verdict.specs.declared.Verdict.{Verdict}
@@ -18,7 +18,7 @@ use Rattle.verdict.specs.declared.Verdict.{Verdict}
 -- The record r of an id moved between two accounts of a series, with rows of these types.
 abbrev pub movingEffects : (inverseKind newKind : ℤ) → (rs ps : List ℤ) → Record → (id from to series : ℤ) → Effects
 movingEffects inverseKind newKind rs ps r id from to series =
-    transferEffects inverseKind newKind r (nextSuffix (greatest recordKey id (rowsOf recordsLayout rs))) to
+    transferEffects inverseKind newKind (currentDay rs) r (nextSuffix (greatest recordKey id (rowsOf recordsLayout rs))) to
     (orZeros from series (find positionKey (keyOf from series) (rowsOf positionsLayout ps)))
     (orZeros to series (find positionKey (keyOf to series) (rowsOf positionsLayout ps)))
 

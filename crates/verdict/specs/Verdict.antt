@@ -7,7 +7,7 @@ use lib.IntN.{ℤ, pos}
 use Rattle.rules.specs.Keyed.{find, isSome}
 use Rattle.rules.specs.Rows.{keyOf, positionKey}
 use Rattle.rules.specs.Refusal.{Test, test, firstRefusal}
-use Rattle.rules.specs.Request.{Request, trade, separate, transfer, merge, lineage, giveUp}
+use Rattle.rules.specs.Request.{Request, trade, separate, transfer, merge, lineage, giveUp, newDay}
 use Rattle.rules.specs.Books.{viewOf}
 use Rattle.rules.specs.Plan.{Plan, planTests, planReply}
 use Rattle.rules.specs.Layout.{rowsOf}
@@ -27,7 +27,7 @@ verdictOf (some t) = Refused (pos (t .number)) (pos (t .place))
 unfoldable pub verdictOnTables : List ℤ → List ℤ → Verdict
 verdictOnTables records positions = verdictOf (firstRefusal (test 1 (not (soundRecords records)) ∷ test 2 (not (soundPositions positions)) ∷ []))
 
--- A request that is no question.
+-- A request with both tests: no question, and no new day.
 abbrev pub isBooking : Request → Bool
 isBooking (trade id account series side quantity price) = true
 isBooking (separate id suffix account series parts) = true
@@ -35,6 +35,7 @@ isBooking (transfer id suffix from to series) = true
 isBooking (merge id account series pairs) = true
 isBooking (lineage id suffix) = false
 isBooking (giveUp step process id suffix giving taking series) = true
+isBooking (newDay day) = false
 
 -- Refusals 3 to 17, on sound tables.
 unfoldable pub verdictOn : List ℤ → List ℤ → Request → Verdict

@@ -6,7 +6,7 @@ use Rattle.rules.specs.Tables.{Tables, tablesOf}
 use Rattle.rules.specs.Handle.{Answer, answeredBy}
 use Rattle.rules.specs.Call.{trades, handleCall}
 use Rattle.rules.specs.declared.Reply.the-variants.{Booked, Refused, Stopped}
-use Rattle.worked.specs.Examples.{minus, row, position, table, joined}
+use Rattle.worked.specs.Examples.{minus, row, position, table, recordsTable, joined}
 
 pub record Batch : Type 0 where
   pub start : Tables
@@ -25,7 +25,7 @@ sixOf id acc ser side qty price = id ∷ acc ∷ ser ∷ side ∷ qty ∷ price 
 
 -- Long 100, short 120, as in P1.
 abbrev pub start : Tables
-start = tablesOf (table 0 [] 39) (table 1 (position (pos 1) (pos 1) (pos 100) (pos 120) (pos 0) (pos 0) (pos 0) ∷ []) 7)
+start = tablesOf (recordsTable 0 [] 42) (table 1 (position (pos 1) (pos 1) (pos 100) (pos 120) (pos 0) (pos 0) (pos 0) ∷ []) 7)
 
 -- P1's buy close 150 with excess 30, then a sell open.
 abbrev pub firstTwo : List (List ℤ)
@@ -33,11 +33,11 @@ firstTwo = sixOf (pos 7) (pos 1) (pos 1) (pos 3) (pos 150) (pos 5) ∷ sixOf (po
 
 abbrev pub finish : Tables
 finish = tablesOf
-    (table 2
+    (recordsTable 2
     (row (pos 7) (pos 0) (pos 0) (pos 10) (pos 0) (pos 1) (pos 1) (pos 3) (pos 150) (pos 5) (pos 30) (minus 120) (pos 0)
     ∷ row (pos 8) (pos 0) (pos 0) (pos 0) (pos 0) (pos 2) (pos 1) (pos 2) (pos 10) (pos 6) (pos 0) (pos 10) (pos 0)
     ∷ [])
-    13)
+    14)
     (table 2 (position (pos 1) (pos 1) (pos 130) (pos 0) (pos 0) (pos 150) (pos 750) ∷ position (pos 2) (pos 1) (pos 0) (pos 10) (pos 0) (minus 10) (minus 60) ∷ []) 0)
 
 -- All booked.

@@ -28,10 +28,10 @@ stated e = record { replies = e .replies; tables = e .finish }
 abbrev pub minus : ℕ → ℤ
 minus n = negℤ (pos n)
 
--- A records row of 13 cells and a positions row of 7, for a row count, and for cells that hold no row.
+-- A records row of 14 cells, of which the day of booking is 0 (document 02, K8: "P11's cell 1 and new cells are 0"), and a positions row of 7.
 abbrev pub row : (id suf par type st acc ser side qty price long short into : ℤ) → List ℤ
 row id suf par type st acc ser side qty price long short into =
-    id ∷ suf ∷ par ∷ type ∷ st ∷ acc ∷ ser ∷ side ∷ qty ∷ price ∷ long ∷ short ∷ into ∷ []
+    id ∷ suf ∷ par ∷ type ∷ st ∷ acc ∷ ser ∷ side ∷ qty ∷ price ∷ long ∷ short ∷ into ∷ pos 0 ∷ []
 
 abbrev pub position : (acc ser long short cash qty value : ℤ) → List ℤ
 position acc ser long short cash qty value = acc ∷ ser ∷ long ∷ short ∷ cash ∷ qty ∷ value ∷ []
@@ -44,36 +44,40 @@ joined (r ∷ rest) = r ++ joined rest
 abbrev pub table : ℕ → List (List ℤ) → ℕ → List ℤ
 table count rows unused = pos count ∷ joined rows ++ replicate unused (minus 1)
 
+-- The records, with the current day after the count.
+abbrev pub recordsTable : ℕ → List (List ℤ) → ℕ → List ℤ
+recordsTable count rows unused = pos count ∷ pos 0 ∷ joined rows ++ replicate unused (minus 1)
+
 -- Long 100, short 120, buy close 150: books +30 and -120, type 10, excess 30.
 abbrev pub P1 : Example
 P1 = record {
-  start = tablesOf (table 0 [] 26) (table 1 (position (pos 1) (pos 1) (pos 100) (pos 120) (pos 0) (pos 0) (pos 0) ∷ []) 7);
+  start = tablesOf (recordsTable 0 [] 28) (table 1 (position (pos 1) (pos 1) (pos 100) (pos 120) (pos 0) (pos 0) (pos 0) ∷ []) 7);
   requests = trade (pos 7) (pos 1) (pos 1) (pos 3) (pos 150) (pos 5) ∷ [];
   replies = ClosingError (pos 30) ∷ [];
   finish = tablesOf
-      (table 1 (row (pos 7) (pos 0) (pos 0) (pos 10) (pos 0) (pos 1) (pos 1) (pos 3) (pos 150) (pos 5) (pos 30) (minus 120) (pos 0) ∷ []) 13)
+      (recordsTable 1 (row (pos 7) (pos 0) (pos 0) (pos 10) (pos 0) (pos 1) (pos 1) (pos 3) (pos 150) (pos 5) (pos 30) (minus 120) (pos 0) ∷ []) 14)
       (table 1 (position (pos 1) (pos 1) (pos 130) (pos 0) (pos 0) (pos 150) (pos 750) ∷ []) 7);
 }
 
 -- No short open, buy close 100: long +100, type 10, excess 100.
 abbrev pub P2 : Example
 P2 = record {
-  start = tablesOf (table 0 [] 26) (table 0 [] 14);
+  start = tablesOf (recordsTable 0 [] 28) (table 0 [] 14);
   requests = trade (pos 7) (pos 1) (pos 1) (pos 3) (pos 100) (pos 5) ∷ [];
   replies = ClosingError (pos 100) ∷ [];
   finish = tablesOf
-      (table 1 (row (pos 7) (pos 0) (pos 0) (pos 10) (pos 0) (pos 1) (pos 1) (pos 3) (pos 100) (pos 5) (pos 100) (pos 0) (pos 0) ∷ []) 13)
+      (recordsTable 1 (row (pos 7) (pos 0) (pos 0) (pos 10) (pos 0) (pos 1) (pos 1) (pos 3) (pos 100) (pos 5) (pos 100) (pos 0) (pos 0) ∷ []) 14)
       (table 1 (position (pos 1) (pos 1) (pos 100) (pos 0) (pos 0) (pos 100) (pos 500) ∷ []) 7);
 }
 
 -- Short 120, buy close 120: type 0, no excess.
 abbrev pub P3 : Example
 P3 = record {
-  start = tablesOf (table 0 [] 26) (table 1 (position (pos 1) (pos 1) (pos 0) (pos 120) (pos 0) (pos 0) (pos 0) ∷ []) 7);
+  start = tablesOf (recordsTable 0 [] 28) (table 1 (position (pos 1) (pos 1) (pos 0) (pos 120) (pos 0) (pos 0) (pos 0) ∷ []) 7);
   requests = trade (pos 7) (pos 1) (pos 1) (pos 3) (pos 120) (pos 5) ∷ [];
   replies = Booked (pos 1) (pos 0) ∷ [];
   finish = tablesOf
-      (table 1 (row (pos 7) (pos 0) (pos 0) (pos 0) (pos 0) (pos 1) (pos 1) (pos 3) (pos 120) (pos 5) (pos 0) (minus 120) (pos 0) ∷ []) 13)
+      (recordsTable 1 (row (pos 7) (pos 0) (pos 0) (pos 0) (pos 0) (pos 1) (pos 1) (pos 3) (pos 120) (pos 5) (pos 0) (minus 120) (pos 0) ∷ []) 14)
       (table 1 (position (pos 1) (pos 1) (pos 0) (pos 0) (pos 0) (pos 120) (pos 600) ∷ []) 7);
 }
 
@@ -83,7 +87,7 @@ abbrev pub mergeOfTwo : (side q1 p1 q2 p2 long1 short1 long2 short2 average resi
 mergeOfTwo side q1 p1 q2 p2 long1 short1 long2 short2 average residual =
     let held : ℤ = (long1 +ℤ long2) -ℤ (short1 +ℤ short2) in
     record {
-      start = tablesOf (table 0 [] 78) (table 0 [] 7);
+      start = tablesOf (recordsTable 0 [] 84) (table 0 [] 7);
       requests =
           trade (pos 1) (pos 4) (pos 9) side q1 p1
           ∷ trade (pos 2) (pos 4) (pos 9) side q2 p2
@@ -91,14 +95,14 @@ mergeOfTwo side q1 p1 q2 p2 long1 short1 long2 short2 average residual =
           ∷ [];
       replies = Booked (pos 1) (pos 0) ∷ Booked (pos 1) (pos 0) ∷ Booked (pos 3) residual ∷ [];
       finish = tablesOf
-          (table 5
+          (recordsTable 5
           (row (pos 1) (pos 0) (pos 0) (pos 0) (pos 1) (pos 4) (pos 9) side q1 p1 long1 short1 (pos 0)
           ∷ row (pos 1) (pos 1) (pos 0) (pos 901) (pos 2) (pos 4) (pos 9) side (negℤ q1) p1 (pos 0) (pos 0) (pos 3)
           ∷ row (pos 2) (pos 0) (pos 0) (pos 0) (pos 1) (pos 4) (pos 9) side q2 p2 long2 short2 (pos 0)
           ∷ row (pos 2) (pos 1) (pos 0) (pos 901) (pos 2) (pos 4) (pos 9) side (negℤ q2) p2 (pos 0) (pos 0) (pos 3)
           ∷ row (pos 3) (pos 0) (pos 0) (pos 901) (pos 0) (pos 4) (pos 9) side (q1 +ℤ q2) average (pos 0) (pos 0) (pos 0)
           ∷ [])
-          13)
+          14)
           (table 1 (position (pos 4) (pos 9) (long1 +ℤ long2) (short1 +ℤ short2) residual held (held *ℤ average) ∷ []) 0);
     }
 
@@ -120,7 +124,7 @@ P6 = mergeOfTwo (pos 1) (pos 1) (minus 1) (pos 1) (pos 0) (pos 1) (pos 0) (pos 1
 -- One trade of a quantity, and one more request.
 abbrev pub tradeThen : ℤ → Request → Reply → List ℤ → Example
 tradeThen quantity request reply records = record {
-  start = tablesOf (table 0 [] 65) (table 0 [] 7);
+  start = tablesOf (recordsTable 0 [] 70) (table 0 [] 7);
   requests = trade (pos 8) (pos 1) (pos 1) (pos 1) quantity (pos 5) ∷ request ∷ [];
   replies = Booked (pos 1) (pos 0) ∷ reply ∷ [];
   finish = tablesOf records (table 1 (position (pos 1) (pos 1) quantity (pos 0) (pos 0) quantity (quantity *ℤ pos 5) ∷ []) 0);
@@ -129,13 +133,13 @@ tradeThen quantity request reply records = record {
 -- The records table with that trade alone.
 abbrev pub tradeAlone : ℤ → List ℤ
 tradeAlone quantity =
-    table 1 (row (pos 8) (pos 0) (pos 0) (pos 0) (pos 0) (pos 1) (pos 1) (pos 1) quantity (pos 5) quantity (pos 0) (pos 0) ∷ []) 52
+    recordsTable 1 (row (pos 8) (pos 0) (pos 0) (pos 0) (pos 0) (pos 1) (pos 1) (pos 1) quantity (pos 5) quantity (pos 0) (pos 0) ∷ []) 56
 
 -- 100 into 50, 25, 25 is accepted.
 abbrev pub P7 : Example
 P7 =
     tradeThen (pos 100) (separate (pos 8) (pos 0) (pos 1) (pos 1) (pos 50 ∷ pos 25 ∷ pos 25 ∷ [])) (Booked (pos 4) (pos 0))
-    (table 5
+    (recordsTable 5
     (row (pos 8) (pos 0) (pos 0) (pos 0) (pos 1) (pos 1) (pos 1) (pos 1) (pos 100) (pos 5) (pos 100) (pos 0) (pos 0)
     ∷ row (pos 8) (pos 1) (pos 0) (pos 6) (pos 2) (pos 1) (pos 1) (pos 1) (minus 100) (pos 5) (pos 0) (pos 0) (pos 0)
     ∷ row (pos 8) (pos 2) (pos 0) (pos 6) (pos 0) (pos 1) (pos 1) (pos 1) (pos 50) (pos 5) (pos 0) (pos 0) (pos 0)
@@ -163,7 +167,7 @@ P10 =
 -- Trade 456789, buy open 100 at 1,250,000,000, account 1, series 1; transfer suffix 0 to account 2; separate suffix 2 into 50, 25, 25. Document 02, K7: "P11's rows then end 0, 0 and 100, 125,000,000,000."
 abbrev pub P11 : Example
 P11 = record {
-  start = tablesOf (table 0 [] 104) (table 0 [] 21);
+  start = tablesOf (recordsTable 0 [] 112) (table 0 [] 21);
   requests =
       trade (pos 456789) (pos 1) (pos 1) (pos 1) (pos 100) (pos 1250000000)
       ∷ transfer (pos 456789) (pos 0) (pos 1) (pos 2) (pos 1)
@@ -171,7 +175,7 @@ P11 = record {
       ∷ [];
   replies = Booked (pos 1) (pos 0) ∷ Booked (pos 2) (pos 0) ∷ Booked (pos 4) (pos 0) ∷ [];
   finish = tablesOf
-      (table 7
+      (recordsTable 7
       (row (pos 456789) (pos 0) (pos 0) (pos 0) (pos 1) (pos 1) (pos 1) (pos 1) (pos 100) (pos 1250000000) (pos 100) (pos 0) (pos 0)
       ∷ row (pos 456789) (pos 1) (pos 0) (pos 4) (pos 2) (pos 1) (pos 1) (pos 1) (minus 100) (pos 1250000000) (minus 100) (pos 0) (pos 0)
       ∷ row (pos 456789) (pos 2) (pos 0) (pos 4) (pos 1) (pos 2) (pos 1) (pos 1) (pos 100) (pos 1250000000) (pos 100) (pos 0) (pos 0)
@@ -180,7 +184,7 @@ P11 = record {
       ∷ row (pos 456789) (pos 5) (pos 2) (pos 6) (pos 0) (pos 2) (pos 1) (pos 1) (pos 25) (pos 1250000000) (pos 0) (pos 0) (pos 0)
       ∷ row (pos 456789) (pos 6) (pos 2) (pos 6) (pos 0) (pos 2) (pos 1) (pos 1) (pos 25) (pos 1250000000) (pos 0) (pos 0) (pos 0)
       ∷ [])
-      13)
+      14)
       (table 2 (position (pos 1) (pos 1) (pos 0) (pos 0) (pos 0) (pos 0) (pos 0) ∷ position (pos 2) (pos 1) (pos 100) (pos 0) (pos 0) (pos 100) (pos 125000000000) ∷ []) 7);
 }
 

@@ -8,7 +8,7 @@ use Rattle.rules.specs.declared.Reply.{Reply}
 use Rattle.rules.specs.declared.Reply.the-variants.{Booked, Refused}
 use Rattle.rules.specs.declared.Step.{Step}
 use Rattle.rules.specs.declared.Step.the-variants.{Open, Claim, Cancel, Refuse, ApproveGiver, ApproveTaker}
-use Rattle.worked.specs.Examples.{Example, minus, row, position, table}
+use Rattle.worked.specs.Examples.{Example, minus, row, position, table, recordsTable}
 
 -- A process row of 9 cells.
 abbrev pub process : (id transaction suffix giving taking series giver taker stage : ℤ) → List ℤ
@@ -24,7 +24,7 @@ step s = giveUp s (pos 77) (pos 456789) (pos 0) (pos 1) (pos 2) (pos 1)
 
 -- Room for three records, two positions and two processes.
 abbrev pub start : Tables
-start = allTables (table 0 [] 39) (table 0 [] 14) (table 0 [] 18)
+start = allTables (recordsTable 0 [] 42) (table 0 [] 14) (table 0 [] 18)
 
 -- The trade's row in a status, and the process row with its approvals and stage.
 abbrev pub tradeRow : ℤ → List ℤ
@@ -45,7 +45,7 @@ afterOpening requests replies finish = record {
 -- Ended without booking: the record is adjustable again.
 abbrev pub ended : ℤ → Tables
 ended stage =
-    allTables (table 1 (tradeRow (pos 0) ∷ []) 26) (table 1 (position (pos 1) (pos 1) (pos 100) (pos 0) (pos 0) (pos 100) (pos 125000000000) ∷ []) 7) (table 1 (processRow (pos 0) (pos 0) stage ∷ []) 9)
+    allTables (recordsTable 1 (tradeRow (pos 0) ∷ []) 28) (table 1 (position (pos 1) (pos 1) (pos 100) (pos 0) (pos 0) (pos 100) (pos 125000000000) ∷ []) 7) (table 1 (processRow (pos 0) (pos 0) stage ∷ []) 9)
 
 -- The giver's clearing member approves while it is pending, the taker claims, and the taker's clearing member approves: before the claim that is refused 18. Meanwhile the record
 -- can't be separated (17).
@@ -55,7 +55,7 @@ booked =
     (step ApproveTaker ∷ step ApproveGiver ∷ separate (pos 456789) (pos 0) (pos 1) (pos 1) (pos 50 ∷ pos 50 ∷ []) ∷ step Claim ∷ step ApproveTaker ∷ [])
     (Refused (pos 18) (pos 0) ∷ Booked (pos 0) (pos 0) ∷ Refused (pos 17) (pos 0) ∷ Booked (pos 0) (pos 0) ∷ Booked (pos 2) (pos 0) ∷ [])
     (allTables
-    (table 3
+    (recordsTable 3
     (tradeRow (pos 1)
     ∷ row (pos 456789) (pos 1) (pos 0) (pos 20) (pos 2) (pos 1) (pos 1) (pos 1) (minus 100) (pos 1250000000) (minus 100) (pos 0) (pos 0)
     ∷ row (pos 456789) (pos 2) (pos 0) (pos 30) (pos 0) (pos 2) (pos 1) (pos 1) (pos 100) (pos 1250000000) (pos 100) (pos 0) (pos 0)

@@ -4,16 +4,16 @@ use lib.IntN.{ℤ, pos}
 use Rattle.rules.specs.Tables.{tablesOf}
 use Rattle.rules.specs.Request.{Request, trade, separate, transfer, merge, lineage}
 use Rattle.rules.specs.declared.Reply.the-variants.{Booked, Lineage, Refused}
-use Rattle.worked.specs.Examples.{Example, minus, mergeOfTwo, row, position, table}
+use Rattle.worked.specs.Examples.{Example, minus, mergeOfTwo, row, position, table, recordsTable}
 
 -- Quantity 1,000,000 is accepted.
 abbrev pub mostAccepted : Example
 mostAccepted = record {
-  start = tablesOf (table 0 [] 13) (table 0 [] 7);
+  start = tablesOf (recordsTable 0 [] 14) (table 0 [] 7);
   requests = trade (pos 7) (pos 1) (pos 1) (pos 2) (pos 1000000) (minus 1000000000000) ∷ [];
   replies = Booked (pos 1) (pos 0) ∷ [];
   finish = tablesOf
-      (table 1
+      (recordsTable 1
       (row (pos 7) (pos 0) (pos 0) (pos 0) (pos 0) (pos 1) (pos 1) (pos 2) (pos 1000000) (minus 1000000000000) (pos 0) (pos 1000000) (pos 0) ∷ [])
       0)
       (table 1 (position (pos 1) (pos 1) (pos 0) (pos 1000000) (pos 0) (minus 1000000) (pos 1000000000000000000) ∷ []) 0);
@@ -30,15 +30,18 @@ refusedOn records positions request number place = record {
 
 -- 1,000,001 is refused 3.
 abbrev pub moreRefused : Example
-moreRefused = refusedOn (table 0 [] 13) (table 0 [] 7) (trade (pos 7) (pos 1) (pos 1) (pos 1) (pos 1000001) (pos 5)) (pos 3) (pos 0)
+moreRefused = refusedOn (recordsTable 0 [] 14) (table 0 [] 7) (trade (pos 7) (pos 1) (pos 1) (pos 1) (pos 1000001) (pos 5)) (pos 3) (pos 0)
 
 -- An empty slice: 1.
 abbrev pub emptySlice : Example
 emptySlice = refusedOn [] [] (trade (pos 7) (pos 1) (pos 1) (pos 1) (pos 100) (pos 5)) (pos 1) (pos 0)
 
--- Both tables a lone 0: a trade is refused 14.
+-- Both tables a lone 0: by document 02 (K8) "two lone 0s now refuse a trade 1; records 0, 0 refuse it 14".
 abbrev pub loneZeros : Example
-loneZeros = refusedOn (pos 0 ∷ []) (pos 0 ∷ []) (trade (pos 7) (pos 1) (pos 1) (pos 1) (pos 100) (pos 5)) (pos 14) (pos 0)
+loneZeros = refusedOn (pos 0 ∷ []) (pos 0 ∷ []) (trade (pos 7) (pos 1) (pos 1) (pos 1) (pos 100) (pos 5)) (pos 1) (pos 0)
+
+abbrev pub headersAlone : Example
+headersAlone = refusedOn (pos 0 ∷ pos 0 ∷ []) (pos 0 ∷ []) (trade (pos 7) (pos 1) (pos 1) (pos 1) (pos 100) (pos 5)) (pos 14) (pos 0)
 
 -- "Dividing V by Q toward zero: V = -3 with Q = 4 gives -1, not 0": buys 3 at -1 and 1 at 0.
 abbrev pub belowZero : Example
@@ -59,14 +62,14 @@ P6-mirrored-as-sells = mergeOfTwo (pos 2) (pos 1) (pos 1) (pos 1) (pos 0) (pos 0
 abbrev pub mergedBefore : Example
 mergedBefore = record {
   start = tablesOf
-      (table 5
+      (recordsTable 5
       (row (pos 1) (pos 0) (pos 0) (pos 0) (pos 1) (pos 4) (pos 9) (pos 1) (pos 1) (minus 1) (pos 1) (pos 0) (pos 0)
       ∷ row (pos 1) (pos 1) (pos 0) (pos 901) (pos 2) (pos 4) (pos 9) (pos 1) (minus 1) (minus 1) (pos 0) (pos 0) (pos 3)
       ∷ row (pos 2) (pos 0) (pos 0) (pos 0) (pos 1) (pos 4) (pos 9) (pos 1) (pos 1) (pos 0) (pos 1) (pos 0) (pos 0)
       ∷ row (pos 2) (pos 1) (pos 0) (pos 901) (pos 2) (pos 4) (pos 9) (pos 1) (minus 1) (pos 0) (pos 0) (pos 0) (pos 3)
       ∷ row (pos 3) (pos 0) (pos 0) (pos 901) (pos 0) (pos 4) (pos 9) (pos 1) (pos 2) (pos 0) (pos 0) (pos 0) (pos 0)
       ∷ [])
-      78)
+      84)
       (table 1 (position (pos 4) (pos 9) (pos 2) (pos 0) (pos 1) (pos 2) (pos 0) ∷ []) 7);
   requests =
       transfer (pos 3) (pos 0) (pos 4) (pos 5) (pos 9)
@@ -76,7 +79,7 @@ mergedBefore = record {
       ∷ [];
   replies = Booked (pos 2) (pos 0) ∷ Booked (pos 1) (pos 0) ∷ Booked (pos 3) (minus 2) ∷ Lineage (pos 0) (pos 1) ∷ [];
   finish = tablesOf
-      (table 11
+      (recordsTable 11
       (row (pos 1) (pos 0) (pos 0) (pos 0) (pos 1) (pos 4) (pos 9) (pos 1) (pos 1) (minus 1) (pos 1) (pos 0) (pos 0)
       ∷ row (pos 1) (pos 1) (pos 0) (pos 901) (pos 2) (pos 4) (pos 9) (pos 1) (minus 1) (minus 1) (pos 0) (pos 0) (pos 3)
       ∷ row (pos 2) (pos 0) (pos 0) (pos 0) (pos 1) (pos 4) (pos 9) (pos 1) (pos 1) (pos 0) (pos 1) (pos 0) (pos 0)
@@ -97,7 +100,7 @@ mergedBefore = record {
 -- second part has one link; that of a suffix which the id does not have is refused 5.
 abbrev pub sharedId : Example
 sharedId = record {
-  start = tablesOf (table 0 [] 91) (table 0 [] 7);
+  start = tablesOf (recordsTable 0 [] 98) (table 0 [] 7);
   requests =
       trade (pos 5) (pos 1) (pos 1) (pos 1) (pos 4) (minus 1)
       ∷ separate (pos 5) (pos 0) (pos 1) (pos 1) (pos 3 ∷ pos 1 ∷ [])
@@ -107,7 +110,7 @@ sharedId = record {
       ∷ [];
   replies = Booked (pos 1) (pos 0) ∷ Booked (pos 3) (pos 0) ∷ Booked (pos 3) (pos 0) ∷ Lineage (minus 1) (pos 1) ∷ Refused (pos 5) (pos 0) ∷ [];
   finish = tablesOf
-      (table 7
+      (recordsTable 7
       (row (pos 5) (pos 0) (pos 0) (pos 0) (pos 1) (pos 1) (pos 1) (pos 1) (pos 4) (minus 1) (pos 4) (pos 0) (pos 0)
       ∷ row (pos 5) (pos 1) (pos 0) (pos 6) (pos 2) (pos 1) (pos 1) (pos 1) (minus 4) (minus 1) (pos 0) (pos 0) (pos 0)
       ∷ row (pos 5) (pos 2) (pos 0) (pos 6) (pos 1) (pos 1) (pos 1) (pos 1) (pos 3) (minus 1) (pos 0) (pos 0) (pos 0)
@@ -121,4 +124,4 @@ sharedId = record {
 }
 
 abbrev pub others : List Example
-others = mostAccepted ∷ moreRefused ∷ emptySlice ∷ loneZeros ∷ belowZero ∷ P6-mirrored ∷ P6-as-sells ∷ P6-mirrored-as-sells ∷ mergedBefore ∷ sharedId ∷ []
+others = mostAccepted ∷ moreRefused ∷ emptySlice ∷ loneZeros ∷ headersAlone ∷ belowZero ∷ P6-mirrored ∷ P6-as-sells ∷ P6-mirrored-as-sells ∷ mergedBefore ∷ sharedId ∷ []

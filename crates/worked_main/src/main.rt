@@ -5,17 +5,19 @@ mod calls;
 
 // P1 to P3: a trade to close.
 fn closing(name: &[u8], positions: &mut [i64], quantity: i64) {
-    let mut records = [-1; 27];
+    let mut records = [-1; 30];
     records[0] = 0;
+    records[1] = 0;
     showing::start(name, &records, positions);
     calls::trade(&mut records, positions, 7, 1, 1, 3, quantity, 5);
 }
 
 // Two trades to open, of a side, and their merge.
 fn merging(name: &[u8], side: i64, q1: i64, p1: i64, q2: i64, p2: i64) {
-    let mut records = [-1; 79];
+    let mut records = [-1; 86];
     let mut positions = [-1; 8];
     records[0] = 0;
+    records[1] = 0;
     positions[0] = 0;
     showing::start(name, &records, &positions);
     calls::trade(&mut records, &mut positions, 1, 4, 9, side, q1, p1);
@@ -25,9 +27,10 @@ fn merging(name: &[u8], side: i64, q1: i64, p1: i64, q2: i64, p2: i64) {
 
 // A trade, then its separation.
 fn separating(name: &[u8], quantity: i64, parts: &[i64]) {
-    let mut records = [-1; 66];
+    let mut records = [-1; 72];
     let mut positions = [-1; 8];
     records[0] = 0;
+    records[1] = 0;
     positions[0] = 0;
     showing::start(name, &records, &positions);
     calls::trade(&mut records, &mut positions, 8, 1, 1, 1, quantity, 5);
@@ -36,9 +39,10 @@ fn separating(name: &[u8], quantity: i64, parts: &[i64]) {
 
 // The same pair twice.
 fn p10() {
-    let mut records = [-1; 66];
+    let mut records = [-1; 72];
     let mut positions = [-1; 8];
     records[0] = 0;
+    records[1] = 0;
     positions[0] = 0;
     showing::start(b"P10", &records, &positions);
     calls::trade(&mut records, &mut positions, 8, 1, 1, 1, 100, 5);
@@ -47,9 +51,10 @@ fn p10() {
 
 fn p11() {
     let id = 456_789;
-    let mut records = [-1; 105];
+    let mut records = [-1; 114];
     let mut positions = [-1; 22];
     records[0] = 0;
+    records[1] = 0;
     positions[0] = 0;
     showing::start(b"P11", &records, &positions);
     calls::trade(
@@ -68,9 +73,10 @@ fn p11() {
 
 // One trade on tables with room for its rows.
 fn trading(name: &[u8], side: i64, quantity: i64, price: i64) {
-    let mut records = [-1; 14];
+    let mut records = [-1; 16];
     let mut positions = [-1; 8];
     records[0] = 0;
+    records[1] = 0;
     positions[0] = 0;
     showing::start(name, &records, &positions);
     calls::trade(&mut records, &mut positions, 7, 1, 1, side, quantity, price);
@@ -83,9 +89,10 @@ fn without_room(name: &[u8], records: &mut [i64], positions: &mut [i64]) {
 }
 
 fn shared_id() {
-    let mut records = [-1; 92];
+    let mut records = [-1; 100];
     let mut positions = [-1; 8];
     records[0] = 0;
+    records[1] = 0;
     positions[0] = 0;
     showing::start(
         b"Two sources that share an id, and lineage",
@@ -101,14 +108,15 @@ fn shared_id() {
 
 // P6 as document 01's rule booked it, at 0 with a residual of 1; then the merged record is transferred, and merged with a trade.
 fn merged_before() {
-    let mut records = [-1; 144];
+    let mut records = [-1; 156];
     let mut positions = [-1; 15];
     records[0] = 0;
+    records[1] = 0;
     positions[0] = 0;
     book::trade(&mut records, &mut positions, 1, 4, 9, 1, 1, -1);
     book::trade(&mut records, &mut positions, 2, 4, 9, 1, 1, 0);
     book::merge(&mut records, &mut positions, 3, 4, 9, &[1, 0, 2, 0]);
-    records[62] = 0;
+    records[67] = 0;
     positions[5] = 1;
     positions[7] = 0;
     showing::start(b"A record merged before, at 0", &records, &positions);
@@ -143,6 +151,13 @@ fn empty_slices() {
     without_room(b"An empty slice", &mut one[0..0], &mut other[0..0]);
 }
 
+// A trade on tables of a header each.
+fn headers_alone() {
+    let mut records = [0, 0];
+    let mut positions = [0];
+    without_room(b"Records 0, 0", &mut records, &mut positions);
+}
+
 // The figures that carry no P, and the slips.
 fn others() {
     let mut one = [0];
@@ -151,6 +166,7 @@ fn others() {
     trading(b"Quantity 1,000,001", 1, 1_000_001, 5);
     empty_slices();
     without_room(b"Both tables a lone 0", &mut one, &mut other);
+    headers_alone();
     merging(b"V = -3 with Q = 4", 1, 3, -1, 1, 0);
     merging(b"P6 at 1 and 0", 1, 1, 1, 1, 0);
     merging(b"P6, sells", 2, 1, -1, 1, 0);
@@ -161,9 +177,10 @@ fn others() {
 
 // A batch of trades, with P1's position at the start.
 fn batch(name: &[u8], figures: &[i64], excess: &mut [i64]) {
-    let mut records = [-1; 40];
+    let mut records = [-1; 44];
     let mut positions = [1, 1, 1, 100, 120, 0, 0, 0, -1, -1, -1, -1, -1, -1, -1];
     records[0] = 0;
+    records[1] = 0;
     showing::start(name, &records, &positions);
     calls::trades(&mut records, &mut positions, figures, excess);
 }

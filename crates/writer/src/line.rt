@@ -31,6 +31,7 @@ fn heading_width(heading: Heading) -> usize
         Heading::Transfer => 1,
         Heading::Merge => 1,
         Heading::GiveUp(_) => 3,
+        Heading::Day => 1,
     }
 }
 
@@ -57,6 +58,7 @@ fn write_heading(text: &mut [u8], at: usize, heading: Heading) -> usize
             let after = fields::write_byte(&mut *text, tab, 9);
             fields::write_byte(text, after, letter)
         }
+        Heading::Day => fields::write_byte(text, at, 68),
     }
 }
 

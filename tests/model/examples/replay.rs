@@ -6,13 +6,14 @@ use model::{handle, Reply, Request};
 fn main() {
     let file = std::env::args().nth(1).expect("usage: replay FILE");
     let text = std::fs::read(&file).unwrap_or_else(|error| panic!("{file}: {error}"));
-    let mut tables = [(400, 13), (100, 7), (100, 9)].map(|(room, width)| vec![0; 1 + room * width]);
+    let layouts = [(2, 400, 14), (1, 100, 7), (1, 100, 9)];
+    let mut tables = layouts.map(|(header, room, width)| vec![0; header + room * width]);
     let [records, positions, processes] = &mut tables;
     match handle(records, positions, processes, &Request::Replay { text }).reply {
         Reply::BadLine { line } | Reply::LineRefused { line, .. } => println!("{line}"),
         _ => {
-            for (table, width) in tables.iter().zip([13, 7, 9]) {
-                for row in table[1..].chunks(width).take(table[0] as usize) {
+            for (table, (header, _, width)) in tables.iter().zip(layouts) {
+                for row in table[header..].chunks(width).take(table[0] as usize) {
                     println!("{}", row.iter().map(i64::to_string).collect::<Vec<String>>().join("\t"));
                 }
             }

@@ -6,8 +6,9 @@ fn handle(records: &mut [i64], positions: &mut [i64], request: &Request) -> Answ
     crate::handle(records, positions, &mut [], request)
 }
 
+/// The current day is 4.
 fn tables() -> (Vec<i64>, Vec<i64>) {
-    (std::iter::once(0).chain(vec![-7; 3 * 13]).collect(), std::iter::once(0).chain(vec![-7; 2 * 7]).collect())
+    ([vec![0, 4], vec![-7; 3 * 14]].concat(), [vec![0], vec![-7; 2 * 7]].concat())
 }
 
 fn batch(trades: &[[i64; 6]], cells: usize) -> Request {
@@ -23,10 +24,10 @@ fn all_booked() {
     let (mut records, mut positions) = tables();
     let answer = handle(&mut records, &mut positions, &batch(&[BUY, SELL], 2));
     assert_eq!(answer, Answer { reply: Reply::Booked { rows: 2, residual: 0 }, output: vec![0, 20] });
-    let rows = [[10, 0, 0, 10, 0, 1, 1, 4, 60, 5, -40, 20, 0], [30, 0, 0, 0, 0, 1, 1, 1, 40, 5, 40, 0, 0]];
-    assert_eq!(records[..27], [vec![2], rows.concat()].concat());
+    let rows = [[10, 0, 0, 10, 0, 1, 1, 4, 60, 5, -40, 20, 0, 4], [30, 0, 0, 0, 0, 1, 1, 1, 40, 5, 40, 0, 0, 4]];
+    assert_eq!(records[..30], [vec![2, 4], rows.concat()].concat());
     assert_eq!(positions[..8], [1, 1, 1, 0, 20, 0, -20, -100]);
-    assert!(records[27..].iter().chain(&positions[8..]).all(|cell| *cell == -7));
+    assert!(records[30..].iter().chain(&positions[8..]).all(|cell| *cell == -7));
 }
 
 #[test]
@@ -64,5 +65,5 @@ fn refused() {
     }
     assert_eq!(number(&mut [], &batch(&[], 0)), 1);
     assert_eq!((records, positions), before);
-    assert_eq!(handle(&mut [0], &mut [], &batch(&[], 0)).reply, Reply::Refused { number: 2, place: 0 });
+    assert_eq!(handle(&mut [0, 0], &mut [], &batch(&[], 0)).reply, Reply::Refused { number: 2, place: 0 });
 }

@@ -16,6 +16,8 @@ pub struct Record {
     pub long: i64,
     pub short: i64,
     pub into: i64,
+    /// Document 02, K8: the day of booking.
+    pub day: i64,
 }
 
 /// A positions row without its key, which is (account, series).
@@ -62,6 +64,8 @@ pub type Sums = BTreeMap<(i64, i64), [i128; 2]>;
 
 #[derive(Clone, Debug, Default)]
 pub struct Books {
+    /// Document 02, K8: the current day.
+    pub day: i64,
     pub records: Records,
     pub positions: Positions,
     /// Empty, without room, for a request that is not lent the process table.
@@ -100,6 +104,11 @@ impl Books {
     /// "an absent row reads as zeros"
     pub fn position(&self, account: i64, series: i64) -> Position {
         self.positions.get(&(account, series)).cloned().unwrap_or_default()
+    }
+
+    /// K8: "new rows take the header's" day
+    pub fn add_record(&mut self, key: (i64, i64), row: Record) {
+        self.records.insert(key, Record { day: self.day, ..row });
     }
 
     /// Adds to the row of that key, which is "made with zeros" where it is absent.

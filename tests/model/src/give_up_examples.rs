@@ -10,13 +10,14 @@ struct Book {
     processes: Vec<i64>,
 }
 
-fn cells(rows: usize, width: usize) -> Vec<i64> {
-    std::iter::once(0).chain(vec![-7; rows * width]).collect()
+/// An empty table with so many cells before its rows.
+fn cells(header: usize, rows: usize, width: usize) -> Vec<i64> {
+    [vec![0; header], vec![-7; rows * width]].concat()
 }
 
 impl Book {
     fn new() -> Book {
-        let mut book = Book { records: cells(5, 13), positions: cells(2, 7), processes: cells(2, 9) };
+        let mut book = Book { records: cells(2, 5, 14), positions: cells(1, 2, 7), processes: cells(1, 2, 9) };
         for (id, side) in [(7, 1), (8, 2)] {
             assert_eq!(book.ask(&Request::Trade { id, account: 1, series: 1, side, quantity: 100, price: 5 }), booked(1));
         }
@@ -60,17 +61,17 @@ fn from_the_opening_to_the_booked_rows() {
     for steps in [[Claim, ApproveGiver, ApproveTaker], [Claim, ApproveTaker, ApproveGiver], [ApproveGiver, Claim, ApproveTaker]] {
         let mut book = Book::new();
         assert_eq!(book.steps(&[Open]), [booked(0)]);
-        assert_eq!(book.records[..6], [2, 7, 0, 0, 0, 3]);
+        assert_eq!(book.records[..7], [2, 0, 7, 0, 0, 0, 3]);
         assert_eq!(book.processes[..10], [1, 9, 7, 0, 1, 2, 1, 0, 0, 6]);
         assert_eq!(book.steps(&steps), [booked(0), booked(0), booked(2)]);
         let rows = [
-            [7, 0, 0, 0, 1, 1, 1, 1, 100, 5, 100, 0, 0],
-            [7, 1, 0, 20, 2, 1, 1, 1, -100, 5, -100, 0, 0],
-            [7, 2, 0, 30, 0, 2, 1, 1, 100, 5, 100, 0, 0],
-            [8, 0, 0, 0, 0, 1, 1, 2, 100, 5, 0, 100, 0],
-            [-7; 13],
+            [7, 0, 0, 0, 1, 1, 1, 1, 100, 5, 100, 0, 0, 0],
+            [7, 1, 0, 20, 2, 1, 1, 1, -100, 5, -100, 0, 0, 0],
+            [7, 2, 0, 30, 0, 2, 1, 1, 100, 5, 100, 0, 0, 0],
+            [8, 0, 0, 0, 0, 1, 1, 2, 100, 5, 0, 100, 0, 0],
+            [-7; 14],
         ];
-        assert_eq!(book.records, [vec![4], rows.concat()].concat());
+        assert_eq!(book.records, [vec![4, 0], rows.concat()].concat());
         assert_eq!(book.positions, [2, 1, 1, 0, 100, 0, -100, -500, 2, 1, 100, 0, 0, 100, 500]);
         assert_eq!(book.processes, [&[1, 9, 7, 0, 1, 2, 1, 1, 1, 0], [-7; 9].as_slice()].concat());
         // Nothing follows the end; the row in the new account can be given up in its turn.
@@ -137,11 +138,11 @@ fn order_of_the_tests() {
         let (process, id, suffix, giving, taking, series) = claim;
         assert_eq!(book.ask(&Request::GiveUp { step: Claim, process, id, suffix, giving, taking, series }), refused(18), "{claim:?}");
     }
-    for (cell, value, number) in [(1, 6, 5), (6, 3, 6), (5, 0, 7), (5, 1, 7), (8, 3, 8), (8, 1, 0)] {
+    for (cell, value, number) in [(2, 6, 5), (7, 3, 6), (6, 0, 7), (6, 1, 7), (9, 3, 8), (9, 1, 0)] {
         book.records[cell] = value;
         let expected = if number == 0 { booked(0) } else { refused(number) };
         assert_eq!(book.steps(&[Claim]), [expected], "cell {cell}");
-        (book.records[1], book.records[5], book.records[6]) = (7, 3, 1);
+        (book.records[2], book.records[6], book.records[7]) = (7, 3, 1);
     }
     // Refused steps have changed nothing.
     assert_eq!(book.processes[..10], [1, 9, 7, 0, 1, 2, 1, 0, 0, 9]);
@@ -153,7 +154,7 @@ fn its_own_room_last() {
     book.steps(&[Open]);
     assert_eq!(book.ask(&opening(2, 8, 0, 1, 2, 1)), refused(23));
     assert_eq!(book.ask(&opening(2, 8, 0, 1, 2, 2)), refused(6));
-    assert_eq!(book.records[1 + 13 + 4], 0);
+    assert_eq!(book.records[2 + 14 + 4], 0);
 }
 
 /// "Adjusting or opening on status 3 is refused 17, one test with 7: a merge's first source failing it gives number and place."
@@ -178,10 +179,10 @@ fn what_the_completing_call_needs() {
         (12, |book| book.positions[3] = 99),
         (13, |book| {
             // suffix 65,534 beside suffix 0
-            book.records[1..].copy_within(..26, 13);
-            (book.records[0], book.records[15]) = (3, 65_534);
+            book.records[2..].copy_within(..28, 14);
+            (book.records[0], book.records[17]) = (3, 65_534);
         }),
-        (14, |book| book.records.truncate(1 + 3 * 13 + 12)),
+        (14, |book| book.records.truncate(2 + 3 * 14 + 13)),
         (15, |book| book.positions.truncate(1 + 7 + 6)),
         (16, |book| {
             book.positions[0] = 2;

@@ -1,4 +1,4 @@
-//! Document 02, K5: "Journal and replay." A line is read by the plainest means and counts only where the request that it names is written as just this line.
+//! Document 02, K5: "Journal and replay", with the days of K8. A line is read by the plainest means and counts only where the request that it names is written as just this line.
 
 use crate::books::Books;
 use crate::requests::{book, Refusal, Reply, Request, Step};
@@ -55,7 +55,7 @@ pub fn lines_of(writing: &Writing) -> Option<String> {
     }
 }
 
-/// On books without a row or room: 3 is the first of the tests there.
+/// On books without a row or room: 3 is the first of the tests there. Their day is 0, so of a day "its range alone is test 3" (K8).
 fn passes_test_3(request: &Request) -> bool {
     !matches!(book(&mut Books::default(), request), Err(Refusal { number: 3, .. }))
 }
@@ -71,7 +71,9 @@ pub fn line_of(request: &Request) -> Option<String> {
             let letter = letter_of(*step) as u8 as char;
             (format!("G\t{letter}"), vec![*process, *id, *suffix, *giving, *taking, *series], &[])
         }
-        Request::Lineage { .. } | Request::Trades { .. } | Request::Replay { .. } => return None,
+        // K8: "Journals gain a line D day"
+        Request::NewDay { day } => ("D".into(), vec![*day], &[]),
+        Request::Lineage { .. } | Request::Trades { .. } | Request::Reportable { .. } | Request::Replay { .. } => return None,
     };
     let fields: Vec<String> = std::iter::once(letters).chain(figures.iter().chain(list).map(i64::to_string)).collect();
     Some(fields.join("\t") + "\n")
@@ -97,6 +99,7 @@ fn named_by(fields: &[&str]) -> Option<Request> {
         ("S", &[id, suffix, account, series, ref parts @ ..]) => Some(Request::Separate { id, suffix, account, series, parts: parts.to_vec() }),
         ("A", &[id, suffix, from, to, series]) => Some(Request::Transfer { id, suffix, from, to, series }),
         ("M", &[id, account, series, ref pairs @ ..]) => Some(Request::Merge { id, account, series, pairs: pairs.to_vec() }),
+        ("D", &[day]) => Some(Request::NewDay { day }),
         ("G", &[process, id, suffix, giving, taking, series]) => Some(Request::GiveUp { step: step?.1, process, id, suffix, giving, taking, series }),
         _ => None,
     }

@@ -26,6 +26,8 @@ fn each_kind() -> Vec<(Request, &'static str)> {
         (step(Step::Refuse), "G\tR\t77\t456789\t0\t1\t2\t1\n"),
         (step(Step::ApproveGiver), "G\tG\t77\t456789\t0\t1\t2\t1\n"),
         (step(Step::ApproveTaker), "G\tT\t77\t456789\t0\t1\t2\t1\n"),
+        (Request::NewDay { day: 1 }, "D\t1\n"),
+        (Request::NewDay { day: 99_999 }, "D\t99999\n"),
     ]
 }
 
@@ -115,7 +117,7 @@ fn bad_lines() {
         b" T\t456789\t1\t1\t1\t100\t5\n",
         b"T 456789 1 1 1 100 5\n",
         b"T\t\xb9\t1\t1\t1\t100\t5\n",
-        b"D\t1\n",
+        b"D\t0\n",
         b"G\tZ\t77\t456789\t0\t1\t2\t1\n",
         b"G\t77\t456789\t0\t1\t2\t1\n",
         b"GO\t77\t456789\t0\t1\t2\t1\n",
@@ -127,7 +129,7 @@ fn bad_lines() {
 }
 
 fn tables() -> [Vec<i64>; 3] {
-    [13, 7, 9].map(|width| std::iter::once(0).chain(vec![-7; 4 * width]).collect())
+    [(2, 14), (1, 7), (1, 9)].map(|(header, width)| [vec![0; header], vec![-7; 4 * width]].concat())
 }
 
 fn replayed(text: &str) -> (Reply, [Vec<i64>; 3]) {
@@ -142,7 +144,7 @@ fn replays() {
     let day = [P11, "A\t456789\t0\t1\t2\t1\n", "G\tO\t77\t456789\t2\t2\t3\t1\n"].concat();
     let (reply, [records, positions, processes]) = replayed(&day);
     assert_eq!(reply, Reply::Replayed { lines: 3 });
-    assert_eq!((records[0], records[31]), (3, 3));
+    assert_eq!((records[0], records[2 + 2 * 14 + 4]), (3, 3));
     assert_eq!(positions[..15], [2, 1, 1, 0, 0, 0, 0, 0, 2, 1, 100, 0, 0, 100, 125_000_000_000]);
     assert_eq!(processes[..10], [1, 77, 456_789, 2, 2, 3, 1, 0, 0, 6]);
 

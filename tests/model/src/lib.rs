@@ -4,6 +4,7 @@
 
 mod batch;
 mod books;
+mod days;
 mod give_up;
 pub mod journal;
 mod requests;
@@ -17,7 +18,7 @@ use requests::Refusal;
 
 /// Handles one request on the lent tables: the answer, and the cells of the tables afterwards.
 ///
-/// A lineage question lends no positions table, and only the steps of a give-up and a replay lend a process table; whatever is passed for a table that is not
+/// A lineage question, a new day and the list lend no positions table, and only the steps of a give-up and a replay lend a process table; whatever is passed for a table that is not
 /// lent is neither read nor written.
 pub fn handle(records: &mut [i64], positions: &mut [i64], processes: &mut [i64], request: &Request) -> Answer {
     if let Request::Replay { text } = request {
@@ -26,8 +27,10 @@ pub fn handle(records: &mut [i64], positions: &mut [i64], processes: &mut [i64],
     match attempt(records, positions, processes, request) {
         Ok((answer, books)) => {
             if let Some(books) = books {
-                tables::write_records(records, &books.records);
-                tables::write_positions(positions, &books.positions);
+                tables::write_records(records, books.day, &books.records);
+                if request.lends_positions() {
+                    tables::write_positions(positions, &books.positions);
+                }
                 if request.lends_processes() {
                     tables::write_processes(processes, &books.processes);
                 }
@@ -41,15 +44,17 @@ pub fn handle(records: &mut [i64], positions: &mut [i64], processes: &mut [i64],
 
 /// The answer and, for a request that books, the books afterwards. Refusals 1, 2 and 19 are tested here, the others by the request.
 fn attempt(records: &[i64], positions: &[i64], processes: &[i64], request: &Request) -> Result<(Answer, Option<Books>), Refusal> {
-    let record_rows = tables::read_records(records).ok_or(Refusal::number(1))?;
+    let (day, record_rows) = tables::read_records(records).ok_or(Refusal::number(1))?;
     if let Request::Lineage { id, suffix } = *request {
         return Ok((requests::lineage(&record_rows, id, suffix)?.into(), None));
     }
+    let positions = if request.lends_positions() { positions } else { &[0] };
     let position_rows = tables::read_positions(positions).ok_or(Refusal::number(2))?;
     // "read by these steps only"; "if unsound, refused 19 after 2"
     let processes = if request.lends_processes() { processes } else { &[0] };
     let process_rows = tables::read_processes(processes).ok_or(Refusal::number(19))?;
     let mut books = Books {
+        day,
         records: record_rows,
         positions: position_rows,
         processes: process_rows,
@@ -58,11 +63,15 @@ fn attempt(records: &[i64], positions: &[i64], processes: &[i64], request: &Requ
         processes_room: tables::processes_room(processes),
     };
     let answer = requests::book(&mut books, request)?;
-    Ok((answer, Some(books)))
+    // The list only reads.
+    let books = Some(books).filter(|_| !matches!(request, Request::Reportable { .. }));
+    Ok((answer, books))
 }
 
 #[cfg(test)]
 mod batch_examples;
+#[cfg(test)]
+mod day_examples;
 #[cfg(test)]
 mod give_up_examples;
 #[cfg(test)]

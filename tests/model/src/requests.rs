@@ -1,11 +1,12 @@
 //! Document 01, "Booking rules" and "Replies". Each request runs its tests in the order of the refusals' numbers and then books. A batch of trades
-//! (document 02, K1) is in `batch`, the steps of a give-up (K3) are in `give_up`, lines of a journal (K5) in `journal`.
+//! (document 02, K1) is in `batch`, the steps of a give-up (K3) are in `give_up`, lines of a journal (K5) in `journal`, a new day and the list (K8) in `days`.
 
 use crate::books::{Books, Record, Records};
 use crate::tables::{is_sound_position, ACCOUNTS, IDS, PRICES, QUANTITIES, SERIES, SIDES, SUFFIXES};
-use crate::{batch, give_up};
+use crate::{batch, days, give_up};
 
-/// What is asked of the book, with any figures. A batch has six figures for each trade, and the number of cells that are lent for the excesses.
+/// What is asked of the book, with any figures. A batch has six figures for each trade, and the number of cells that are lent for the excesses;
+/// the list has the number of cells that are lent for its pairs.
 #[derive(Clone, Debug, PartialEq, Eq)]
 pub enum Request {
     Trade { id: i64, account: i64, series: i64, side: i64, quantity: i64, price: i64 },
@@ -16,6 +17,8 @@ pub enum Request {
     Trades { figures: Vec<i64>, cells: usize },
     GiveUp { step: Step, process: i64, id: i64, suffix: i64, giving: i64, taking: i64, series: i64 },
     Replay { text: Vec<u8> },
+    NewDay { day: i64 },
+    Reportable { cells: usize },
 }
 
 /// A step of a give-up (document 02, K3).
@@ -30,6 +33,11 @@ pub enum Step {
 }
 
 impl Request {
+    /// "(not for lineage)", 01; of a new day and the list K8: "It and the list skip test 2"
+    pub fn lends_positions(&self) -> bool {
+        !matches!(self, Request::Lineage { .. } | Request::NewDay { .. } | Request::Reportable { .. })
+    }
+
     /// "a lent process table, read by these steps only", and so by a text's lines that are steps
     pub fn lends_processes(&self) -> bool {
         matches!(self, Request::GiveUp { .. } | Request::Replay { .. })
@@ -47,6 +55,7 @@ pub enum Reply {
     Replayed { lines: i64 },
     BadLine { line: i64 },
     LineRefused { line: i64, number: i64, place: i64 },
+    Listed { records: i64 },
 }
 
 /// A reply, and what is written to the lent output, from its first cell on.
@@ -93,8 +102,10 @@ fn ensure_each<T>(list: &[T], number: i64, mut holds: impl FnMut(usize, &T) -> b
 
 /// The tests of a request that books, from 3 on, and its booking. The caller drops the books of a refused one.
 pub fn book(books: &mut Books, request: &Request) -> Result<Answer, Refusal> {
-    if let Request::Trades { figures, cells } = request {
-        return batch::trades(books, figures, *cells);
+    match request {
+        Request::Trades { figures, cells } => return batch::trades(books, figures, *cells),
+        Request::Reportable { cells } => return days::reportable(books, *cells),
+        _ => {}
     }
     let sums = books.sums();
     let reply = match request {
@@ -106,7 +117,8 @@ pub fn book(books: &mut Books, request: &Request) -> Result<Answer, Refusal> {
         Request::GiveUp { step, process, id, suffix, giving, taking, series } => {
             give_up::give_up(books, *step, *process, *id, *suffix, *giving, *taking, *series)?
         }
-        Request::Trades { .. } | Request::Replay { .. } => unreachable!("its trades or lines are handed in one by one"),
+        Request::NewDay { day } => days::new_day(books, *day)?,
+        Request::Trades { .. } | Request::Reportable { .. } | Request::Replay { .. } => unreachable!("it is handled elsewhere"),
     };
     books.add_the_change(sums);
     fits(books)?;
@@ -137,7 +149,7 @@ fn trade(books: &mut Books, id: i64, account: i64, series: i64, side: i64, quant
         }
     };
     let kind = if excess > 0 { 10 } else { 0 };
-    books.records.insert((id, 0), Record { parent: 0, kind, status: 0, account, series, side, quantity, price, long, short, into: 0 });
+    books.add_record((id, 0), Record { parent: 0, kind, status: 0, account, series, side, quantity, price, long, short, into: 0, day: 0 });
     books.move_position(account, series, long, short, 0);
     Ok(if excess > 0 { Reply::ClosingError { excess } } else { Reply::Booked { rows: 1, residual: 0 } })
 }
@@ -214,7 +226,7 @@ fn merge(books: &mut Books, new: i64, account: i64, series: i64, pairs: &[i64]) 
     }
     ensure(sources.iter().all(|key| books.greatest_suffix(key.0) <= Some(*SUFFIXES.end())), 13)?;
     let merged = Record { parent: 0, kind: 901, status: 0, quantity, price: average as i64, long: 0, short: 0, into: 0, ..rows[0].clone() };
-    books.records.insert((new, 0), merged);
+    books.add_record((new, 0), merged);
     books.move_position(account, series, 0, 0, residual);
     Ok(Reply::Booked { rows: sources.len() as i64 + 1, residual })
 }
@@ -272,7 +284,7 @@ pub fn set_status(books: &mut Books, key: (i64, i64), status: i64) {
 /// Puts a row under the next suffix of its id.
 fn append(books: &mut Books, id: i64, row: Record) {
     let suffix = books.next_suffix(id);
-    books.records.insert((id, suffix), row);
+    books.add_record((id, suffix), row);
 }
 
 /// Tests 14 to 16, on the books as they would be "after the whole request" (K7). A step that adds no row passes them.

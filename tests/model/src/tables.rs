@@ -1,9 +1,12 @@
-//! Document 01, "The two tables", with the totals of document 02, K7, and the process table of K3: how rows lie in the lent cells, and when a table is sound.
+//! Document 01, "The two tables", with what document 02 adds to them, the totals (K7) and the days (K8), and the process table of K3: how rows lie in the lent
+//! cells, and when a table is sound.
 
 use crate::books::{Position, Positions, Process, Processes, Record, Records, Stage};
 use std::ops::RangeInclusive;
 
-pub const RECORD_CELLS: usize = 13;
+/// K8: "the records table's header gains the current day as cell 1, the rows following it"; "Records gain a last cell"
+pub const RECORDS_HEADER: usize = 2;
+pub const RECORD_CELLS: usize = 14;
 pub const POSITION_CELLS: usize = 7;
 pub const PROCESS_CELLS: usize = 9;
 const MOST_RECORDS: usize = 4_096;
@@ -21,11 +24,13 @@ pub const LONG_OR_SHORT: RangeInclusive<i64> = 0..=1_000_000_000_000;
 pub const CASH: RangeInclusive<i64> = -1_000_000_000_000_000..=1_000_000_000_000_000;
 /// Document 02, K7: "Each magnitude stays within 4,000,000,000,000,000,000"
 pub const TOTALS: RangeInclusive<i64> = -4_000_000_000_000_000_000..=4_000_000_000_000_000_000;
+/// K8: "one outside 1 to 99,999, is refused 3"
+pub const DAYS: RangeInclusive<i64> = 1..=99_999;
 const BOOKED: RangeInclusive<i64> = -1_000_000..=1_000_000;
 
-/// "Room is the whole rows that fit after cell 0, at most 4,096."
+/// "Room is the whole rows that fit after cell 0, at most 4,096"; after the header, with K8.
 pub fn records_room(cells: &[i64]) -> usize {
-    MOST_RECORDS.min(cells.len().saturating_sub(1) / RECORD_CELLS)
+    MOST_RECORDS.min(cells.len().saturating_sub(RECORDS_HEADER) / RECORD_CELLS)
 }
 
 /// "Room likewise, at most 1,024."
@@ -38,16 +43,19 @@ pub fn processes_room(cells: &[i64]) -> usize {
     MOST_PROCESSES.min(cells.len().saturating_sub(1) / PROCESS_CELLS)
 }
 
-/// The rows that cell 0 counts, or nothing where there is no cell 0 or the count is not between 0 and the room.
-fn counted(cells: &[i64], width: usize, room: usize) -> Option<Vec<&[i64]>> {
-    let count = usize::try_from(*cells.first()?).ok()?;
-    (count <= room).then(|| cells[1..].chunks(width).take(count).collect())
+/// The rows that cell 0 counts, which follow so many cells, or nothing where there are fewer cells or the count is not between 0 and the room.
+fn counted(cells: &[i64], header: usize, width: usize, room: usize) -> Option<Vec<&[i64]>> {
+    let rows = cells.get(header..)?;
+    let count = usize::try_from(cells[0]).ok()?;
+    (count <= room).then(|| rows.chunks(width).take(count).collect())
 }
 
-/// The rows of a sound records table.
-pub fn read_records(cells: &[i64]) -> Option<Records> {
+/// The current day and the rows of a sound records table. K8: "sound tables have a header day from 0 to 99,999 and row days from 0 to it"
+pub fn read_records(cells: &[i64]) -> Option<(i64, Records)> {
     let mut rows = Records::new();
-    for row in counted(cells, RECORD_CELLS, records_room(cells))? {
+    let listed = counted(cells, RECORDS_HEADER, RECORD_CELLS, records_room(cells))?;
+    let day = Some(cells[1]).filter(|day| (0..=*DAYS.end()).contains(day))?;
+    for row in listed {
         let key = (row[0], row[1]);
         let record = Record {
             parent: row[2],
@@ -61,14 +69,15 @@ pub fn read_records(cells: &[i64]) -> Option<Records> {
             long: row[10],
             short: row[11],
             into: row[12],
+            day: row[13],
         };
         let rises = rows.last_key_value().map_or(true, |(last, _)| *last < key);
-        if !rises || !is_sound_record(key, &record) {
+        if !rises || !is_sound_record(key, &record) || !(0..=day).contains(&record.day) {
             return None;
         }
         rows.insert(key, record);
     }
-    Some(rows)
+    Some((day, rows))
 }
 
 fn is_sound_record((id, suffix): (i64, i64), r: &Record) -> bool {
@@ -95,7 +104,7 @@ fn is_sound_record((id, suffix): (i64, i64), r: &Record) -> bool {
 /// The rows of a sound positions table. Nothing is asked of account and series but that the rows rise by them.
 pub fn read_positions(cells: &[i64]) -> Option<Positions> {
     let mut rows = Positions::new();
-    for row in counted(cells, POSITION_CELLS, positions_room(cells))? {
+    for row in counted(cells, 1, POSITION_CELLS, positions_room(cells))? {
         let key = (row[0], row[1]);
         let position = Position { long: row[2], short: row[3], cash: row[4], quantity: row[5], value: row[6] };
         let rises = rows.last_key_value().map_or(true, |(last, _)| *last < key);
@@ -116,7 +125,7 @@ pub fn is_sound_position(p: &Position) -> bool {
 /// The rows of a sound process table: "process ids (ranged as transaction ids) strictly rising, figures in range, approvals 0 or 1, a stage below".
 pub fn read_processes(cells: &[i64]) -> Option<Processes> {
     let mut rows = Processes::new();
-    for row in counted(cells, PROCESS_CELLS, processes_room(cells))? {
+    for row in counted(cells, 1, PROCESS_CELLS, processes_room(cells))? {
         let key = row[0];
         let rises = rows.last_key_value().map_or(true, |(last, _)| *last < key);
         if !rises || !IDS.contains(&key) {
@@ -162,12 +171,13 @@ fn stage_number(stage: Stage) -> i64 {
     STAGES.into_iter().find(|(_, named)| *named == stage).expect("each stage has a number").0
 }
 
-/// Writes the count and the rows. Cells past the last row stay as they are.
-pub fn write_records(cells: &mut [i64], rows: &Records) {
+/// Writes the count, the current day and the rows. Cells past the last row stay as they are.
+pub fn write_records(cells: &mut [i64], day: i64, rows: &Records) {
     cells[0] = rows.len() as i64;
-    let places = cells[1..].chunks_mut(RECORD_CELLS);
+    cells[1] = day;
+    let places = cells[RECORDS_HEADER..].chunks_mut(RECORD_CELLS);
     for (cells, ((id, suffix), r)) in places.zip(rows) {
-        cells.copy_from_slice(&[*id, *suffix, r.parent, r.kind, r.status, r.account, r.series, r.side, r.quantity, r.price, r.long, r.short, r.into]);
+        cells.copy_from_slice(&[*id, *suffix, r.parent, r.kind, r.status, r.account, r.series, r.side, r.quantity, r.price, r.long, r.short, r.into, r.day]);
     }
 }
 

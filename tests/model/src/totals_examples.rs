@@ -9,13 +9,14 @@ struct Book {
     processes: Vec<i64>,
 }
 
-fn cells(rows: usize, width: usize) -> Vec<i64> {
-    std::iter::once(0).chain(vec![-7; rows * width]).collect()
+/// An empty table with so many cells before its rows.
+fn cells(header: usize, rows: usize, width: usize) -> Vec<i64> {
+    [vec![0; header], vec![-7; rows * width]].concat()
 }
 
 impl Book {
     fn new() -> Book {
-        Book { records: cells(8, 13), positions: cells(3, 7), processes: cells(1, 9) }
+        Book { records: cells(2, 8, 14), positions: cells(1, 3, 7), processes: cells(1, 1, 9) }
     }
 
     /// With one position, of account 1 and series 1: long, short, cash, quantity, value.

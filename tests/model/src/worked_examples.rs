@@ -7,7 +7,7 @@ fn handle(records: &mut [i64], positions: &mut [i64], request: &Request) -> Repl
 }
 
 fn tables(records: usize, positions: usize) -> (Vec<i64>, Vec<i64>) {
-    (std::iter::once(0).chain(vec![-7; records * 13]).collect(), std::iter::once(0).chain(vec![-7; positions * 7]).collect())
+    ([vec![0, 0], vec![-7; records * 14]].concat(), [vec![0], vec![-7; positions * 7]].concat())
 }
 
 fn trade(id: i64, side: i64, quantity: i64, price: i64) -> Request {
@@ -27,7 +27,7 @@ fn closing(long: i64, short: i64, quantity: i64) -> (Reply, [i64; 3]) {
     let (mut records, mut positions) = tables(2, 2);
     positions[..8].copy_from_slice(&[1, 1, 1, long, short, 0, 0, 0]);
     let reply = handle(&mut records, &mut positions, &trade(7, 3, quantity, 5));
-    (reply, [records[4], records[11], records[12]])
+    (reply, [records[5], records[12], records[13]])
 }
 
 /// Two trades to open and their merge: the answer and the average.
@@ -36,7 +36,7 @@ fn merging(side: i64, first: (i64, i64), second: (i64, i64)) -> (Reply, i64) {
     assert_eq!(handle(&mut records, &mut positions, &trade(1, side, first.0, first.1)), booked(1, 0));
     assert_eq!(handle(&mut records, &mut positions, &trade(2, side, second.0, second.1)), booked(1, 0));
     let reply = handle(&mut records, &mut positions, &Request::Merge { id: 3, account: 1, series: 1, pairs: vec![1, 0, 2, 0] });
-    (reply, records[1 + 4 * 13 + 9])
+    (reply, records[2 + 4 * 14 + 9])
 }
 
 #[test]
@@ -92,16 +92,16 @@ fn p11() {
     let separate = Request::Separate { id: 456_789, suffix: 2, account: 2, series: 1, parts: vec![50, 25, 25] };
     assert_eq!(handle(&mut records, &mut positions, &separate), booked(4, 0));
     let rows = [
-        [456789, 0, 0, 0, 1, 1, 1, 1, 100, 1250000000, 100, 0, 0],
-        [456789, 1, 0, 4, 2, 1, 1, 1, -100, 1250000000, -100, 0, 0],
-        [456789, 2, 0, 4, 1, 2, 1, 1, 100, 1250000000, 100, 0, 0],
-        [456789, 3, 2, 6, 2, 2, 1, 1, -100, 1250000000, 0, 0, 0],
-        [456789, 4, 2, 6, 0, 2, 1, 1, 50, 1250000000, 0, 0, 0],
-        [456789, 5, 2, 6, 0, 2, 1, 1, 25, 1250000000, 0, 0, 0],
-        [456789, 6, 2, 6, 0, 2, 1, 1, 25, 1250000000, 0, 0, 0],
+        [456789, 0, 0, 0, 1, 1, 1, 1, 100, 1250000000, 100, 0, 0, 0],
+        [456789, 1, 0, 4, 2, 1, 1, 1, -100, 1250000000, -100, 0, 0, 0],
+        [456789, 2, 0, 4, 1, 2, 1, 1, 100, 1250000000, 100, 0, 0, 0],
+        [456789, 3, 2, 6, 2, 2, 1, 1, -100, 1250000000, 0, 0, 0, 0],
+        [456789, 4, 2, 6, 0, 2, 1, 1, 50, 1250000000, 0, 0, 0, 0],
+        [456789, 5, 2, 6, 0, 2, 1, 1, 25, 1250000000, 0, 0, 0, 0],
+        [456789, 6, 2, 6, 0, 2, 1, 1, 25, 1250000000, 0, 0, 0, 0],
     ];
-    let expected: Vec<i64> = std::iter::once(7).chain(rows.concat()).chain([-7; 13]).collect();
-    assert_eq!(records, expected);
+    // K8: "P11's cell 1 and new cells are 0."
+    assert_eq!(records, [vec![7, 0], rows.concat(), vec![-7; 14]].concat());
     // K7: "P11's rows then end 0, 0 and 100, 125,000,000,000."
     let rows = [[1, 1, 0, 0, 0, 0, 0], [2, 1, 100, 0, 0, 100, 125_000_000_000], [-7; 7]];
     assert_eq!(positions, [vec![2], rows.concat()].concat());
@@ -115,5 +115,7 @@ fn the_rest() {
     assert_eq!(handle(&mut records, &mut positions, &trade(8, 1, 1_000_001, 5)), refused(3, 0));
     assert_eq!(handle(&mut records, &mut positions, &trade(8, 1, 1_000_000, 5)), booked(1, 0));
     assert_eq!(handle(&mut [], &mut positions, &trade(8, 1, 1, 5)), refused(1, 0));
-    assert_eq!(handle(&mut [0], &mut [0], &trade(8, 1, 1, 5)), refused(14, 0));
+    // K8: "two lone 0s now refuse a trade 1; records 0, 0 refuse it 14"
+    assert_eq!(handle(&mut [0], &mut [0], &trade(8, 1, 1, 5)), refused(1, 0));
+    assert_eq!(handle(&mut [0, 0], &mut [0], &trade(8, 1, 1, 5)), refused(14, 0));
 }

@@ -1,5 +1,5 @@
 -- `batch::outcome_of` meets its contract: each arm is given which reply it is, at which `outcomeOf` computes, and that its numbers fit 64 bits. Assumes nothing.
-use mathlib.Core.Path.{_≡_, sym, ap, ap₂, _∙_}
+use mathlib.Core.Path.{sym, ap, ap₂, _∙_}
 use borrow.Author.Needs.{needs, sfits-of}
 use mir.Facts.{toZ-ofZ}
 use Rattle.batch.specs.Outcome.{outcomeOf}
@@ -34,10 +34,14 @@ returns-8 c = sym (ap outcomeOf (c .before .reply8 .given .1))
 returns-9 : tie.Need-returns-9
 returns-9 c = sym (ap outcomeOf (c .before .reply9 .given .1))
 
+returns-10 : tie.Need-returns-10
+returns-10 c = sym (ap outcomeOf (c .before .reply10 .given .1))
+
 pub outcome-of-spec : {M : Type 1} → statement M
 outcome-of-spec =
     tie.close
     (tie.spec
+    (λ c. search needs)
     (λ c. search needs)
     (λ c. search needs)
     (λ c. search needs)
@@ -55,4 +59,5 @@ outcome-of-spec =
     returns-6
     returns-7
     returns-8
-    returns-9)
+    returns-9
+    returns-10)

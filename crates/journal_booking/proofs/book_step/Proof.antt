@@ -10,7 +10,8 @@ use mir.Facts.{toZ-ofZ}
 use mir.Syntax.{w64}
 use mir.Val.{SFits}
 use Rattle.rules.specs.Reader.{requestNamed}
-use Rattle.rules.specs.Tables.{soundProcesses}
+use Rattle.rules.specs.Tables.{allTables, soundProcesses}
+use Rattle.soundness.specs.SoundTables.{SoundTables}
 use Rattle.journal_booking.proofs.Booked.{step-booked, step-refused}
 use Rattle.journal_booking.proofs.book_step.Statement.{statement}
 use Rattle.journal_booking.proofs.book_step.Tie as tie
@@ -23,6 +24,9 @@ returns c =
 
 processes-sound : (c : tie.Else1) → soundProcesses (c .before .args .processes .now) ≡ true
 processes-sound c = sym (c .before .pre .2) ∙ not-false (c .before .args .sound) (c .if1 .left)
+
+all-sound : (c : tie.Else1) → SoundTables (allTables (c .before .args .records .now) (c .before .args .positions .now) (c .before .args .processes .now))
+all-sound c = record { records = c .before .pre .0; positions = c .before .pre .1; processes = processes-sound c }
 
 -- Each figure that was read fits 64 bits.
 module _ (c : tie.After-series) where
@@ -53,13 +57,13 @@ module _ (c : tie.After-series) where
 on-sound-requires : tie.Need-on-sound-requires
 on-sound-requires c κs =
     let p : tie.After-series = c .before .before .before in
-    record { records = e p .before .pre .0; positions = e p .before .pre .1; processes = processes-sound (e p) }
+    all-sound (e p)
 
 returns-2 : tie.Need-returns-2
 unfolding requestNamed
 returns-2 c =
     let p : tie.After-series = c .before .before .before .before .before .before .before .before in
-    step-booked (processes-sound (e p))
+    step-booked (all-sound (e p))
     (simp (toZ-ofZ (process-fits p), toZ-ofZ (id-fits p), toZ-ofZ (suffix-fits p), toZ-ofZ (giving-fits p), toZ-ofZ (taking-fits p), toZ-ofZ (series-fits p)) at (c .before .before .before .before .on-sound .ensures)) (c .verdict-of .ensures)
 
 pub book-step-spec : {M : Type 1} → statement M

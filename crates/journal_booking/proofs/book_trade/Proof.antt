@@ -41,7 +41,7 @@ returns : tie.Need-returns
 unfolding requestNamed
 returns c =
     let p : tie.After-price = c .before .before .before .before .before .before in
-    two-booked (simp (toZ-ofZ (id-fits p), toZ-ofZ (account-fits p), toZ-ofZ (series-fits p), toZ-ofZ (side-fits p), toZ-ofZ (quantity-fits p), toZ-ofZ (price-fits p)) at (c .before .before .before .on-sound .ensures)) (c .verdict-of .ensures)
+    two-booked (s p .pre .1) (simp (toZ-ofZ (id-fits p), toZ-ofZ (account-fits p), toZ-ofZ (series-fits p), toZ-ofZ (side-fits p), toZ-ofZ (quantity-fits p), toZ-ofZ (price-fits p)) at (c .before .before .before .on-sound .ensures)) (c .verdict-of .ensures)
 
 pub book-trade-spec : {M : Type 1} → statement M
 book-trade-spec =

@@ -38,7 +38,7 @@ returns : tie.Need-returns
 unfolding requestNamed
 returns c =
     let p : tie.After-series = c .before .before .before .before .before .before in
-    two-booked (simp (toZ-ofZ (id-fits p), toZ-ofZ (suffix-fits p), toZ-ofZ (from-fits p), toZ-ofZ (to-fits p), toZ-ofZ (series-fits p)) at (c .before .before .before .on-sound .ensures)) (c .verdict-of .ensures)
+    two-booked (s p .pre .1) (simp (toZ-ofZ (id-fits p), toZ-ofZ (suffix-fits p), toZ-ofZ (from-fits p), toZ-ofZ (to-fits p), toZ-ofZ (series-fits p)) at (c .before .before .before .on-sound .ensures)) (c .verdict-of .ensures)
 
 pub book-transfer-spec : {M : Type 1} → statement M
 book-transfer-spec =

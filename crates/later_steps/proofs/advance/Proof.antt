@@ -1,5 +1,5 @@
 -- `later_steps::advance` meets its contract: the record's status and the row of the process are written, and nothing else. Assumes nothing.
-use mathlib.Core.Path.{_≡_, sym, _∙_, ap, subst}
+use mathlib.Core.Path.{_≡_, sym, _∙_, ap}
 use mathlib.Core.List.{List}
 use lib.IntN.{ℤ}
 use borrow.Author.Needs.{needs}
@@ -10,6 +10,7 @@ use Rattle.rules.specs.GiveUp.{recordAfter}
 use Rattle.rules.specs.Layout.{rowsOf, write}
 use Rattle.rules.specs.Tables.{recordsLayout}
 use Rattle.rules.specs.declared.Record.{Record}
+use Rattle.cells.proofs.SoundCells.{record-rows-sound}
 use Rattle.later_steps.proofs.LaterSteps.{later-advanced}
 use Rattle.later_steps.proofs.Ready.{adjustable-again, stepped-ready}
 use Rattle.later_steps.proofs.advance.Statement.{statement}
@@ -28,7 +29,7 @@ module _ (s : tie.Start) where
 restate-requires : tie.Need-restate-requires
 restate-requires c κs =
     let s : tie.Start = c .before .before in (
-      s .pre .0 .ready .sound .records,
+      record-rows-sound (rs s) (s .pre .0 .ready .sound .records),
       s .pre .0 .record-known .row-within,
       adjustable-again (rs s) (ps s) (qs s) (s .args .step) (s .args .g) (s .args .at) (s .args .p) (s .args .named) (s .pre .0),
       s .pre .0 .ready .later,

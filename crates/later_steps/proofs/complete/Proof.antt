@@ -9,6 +9,7 @@ use Rattle.rules.specs.ProcessRows.{rowOfProcess}
 use Rattle.rules.specs.GiveUp.{stepped, finished}
 use Rattle.rules.specs.declared.ProcessRow.{ProcessRow}
 use Rattle.rules.specs.declared.Record.{Record}
+use Rattle.cells.proofs.SoundCells.{record-rows-sound}
 use Rattle.scan.proofs.ReadBack.{read-back}
 use Rattle.requests.specs.KnownPosition.{KnownPosition}
 use Rattle.verdict.specs.Moving.{movingEffects, movingVerdict, recordsAfter, positionsAfter}
@@ -77,7 +78,7 @@ verdict-on-positions-requires c κs =
       read-back (g s .taking) (f .struct-told .given .1 .1 .1 .1 .0 .1),
       read-back (g s .series) (f .struct-told .given .1 .1 .1 .1 .1 .0 .1),
     )
-    ((s .pre .0 .ready .sound .records, s .pre .0 .ready .sound .positions), (s .pre .0 .record-known, old-known (first h), new-known h))
+    ((record-rows-sound (rs s) (s .pre .0 .ready .sound .records), s .pre .0 .ready .sound .positions), (s .pre .0 .record-known, old-known (first h), new-known h))
 
 abbrev held : tie.After-verdict-on-positions → tie.After-position-held2
 held c = c .before .before .before .before .before .before .before .before

@@ -1,6 +1,5 @@
 -- `later_steps::on_turn` meets its contract: the record is looked up once (5), judged by 6 to 8, and the step completes the give-up or advances it. Assumes nothing.
 use mathlib.Core.Path.{_≡_, sym, _∙_, ap}
-use mathlib.Core.Bool.{Bool}
 use mathlib.Core.List.{List}
 use lib.IntN.{ℤ}
 use borrow.Author.Needs.{needs}
@@ -10,6 +9,7 @@ use Rattle.rules.specs.Refusal.{firstRefusal}
 use Rattle.rules.specs.GiveUp.{stepped, isComplete}
 use Rattle.rules.specs.Tables.{recordsLayout}
 use Rattle.rules.specs.declared.ProcessRow.{ProcessRow}
+use Rattle.cells.proofs.SoundCells.{record-rows-sound}
 use Rattle.lookup.specs.Lookup.{recordSought}
 use Rattle.lookup.proofs.TableLookup.{records-first}
 use Rattle.lookup.proofs.TableSought.{AbsentAt, table-lacks}
@@ -70,7 +70,7 @@ record-named-requires c κs =
       read-back (g s .suffix) (told l .struct-told .given .1 .1 .0 .1),
       read-back (k .before .row .given .0 .1 .0) (k .known-told .given .1 .0 .1),
     )
-    (s .pre .sound .records, sym (looked l) ∙ k .before .row .given .1)
+    (record-rows-sound (rs s) (s .pre .sound .records), sym (looked l) ∙ k .before .row .given .1)
 
 module _ (c : tie.After-record-named) where
   abbrev found : tie.After-look-up
@@ -140,7 +140,7 @@ pub on-turn-spec : {M : Type 1} → statement M
 on-turn-spec =
     tie.close
     (tie.spec
-    (λ c κs. search needs)
+    (λ c κs. let s : tie.Start = c .before .before .before in record-rows-sound (rs s) (s .pre .sound .records))
     (λ c. search needs)
     (λ c. search needs)
     (λ c. search needs)

@@ -17,7 +17,7 @@ use Rattle.integers.specs.Order.{eqZ}
 use Rattle.integers.proofs.Linear.{zarith, +-lin}
 use Rattle.rules.specs.Figures.{validSuffix, greatestOfSuffixes}
 use Rattle.rules.specs.Rows.{keyOf, recordKey}
-use Rattle.rules.specs.Tables.{recordsLayout, soundRecords}
+use Rattle.rules.specs.Tables.{recordsLayout, soundRecordRows}
 use Rattle.figures.proofs.Tests.{is-literal, not-literal}
 use Rattle.lookup.specs.Lookup.{recordSought}
 use Rattle.lookup.proofs.TableLookup.{records-first}
@@ -83,7 +83,7 @@ module _ (t : ℕ) where
     abbrev suffix : ℤ
     suffix = s .args .suffix
 
-    sound : soundRecords cells ≡ true
+    sound : soundRecordRows cells ≡ true
     sound = s .pre .1 .0
 
   looked : (c : Looked) → c .look-up .result ≡ recordSought (cells (c .before)) (id (c .before)) (suffix (c .before))

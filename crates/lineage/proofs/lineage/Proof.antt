@@ -11,6 +11,7 @@ use Rattle.rules.specs.Request as Request
 use Rattle.rules.specs.Tables.{soundRecords}
 use Rattle.figures.proofs.Tests.{failed, passed}
 use Rattle.scan.proofs.ReadBack.{read-back}
+use Rattle.cells.proofs.SoundCells.{record-rows-sound}
 use Rattle.verdict.proofs.Handled.{unsound-records}
 use Rattle.verdict.proofs.LineageAnswer.{lineage-refused-id, lineage-refused-suffix, lineage-refused-missing, lineage-answered}
 use Rattle.lineage.specs.Origin.{originFound}
@@ -80,7 +81,7 @@ returns-3 c =
     (lineage-refused-suffix (cells s) [] (id s) (suffix s) (sound (e .before .before)) (id-valid e) (failed (suffix-answer (c .before)) (c .if3 .taken))))
 
 origin-requires : tie.Need-origin-requires
-origin-requires c κs = simp (toZ-ofZ (start c .fits .suffix)) (sound (c .before .before .before .before), suffix-valid c)
+origin-requires c κs = simp (toZ-ofZ (start c .fits .suffix)) (record-rows-sound (cells (start c)) (sound (c .before .before .before .before)), suffix-valid c)
 
 enum-known-price : tie.Need-enum-known-price
 enum-known-price c = search needs

@@ -13,6 +13,7 @@ use Rattle.rules.specs.Refusal.{firstRefusal}
 use Rattle.rules.specs.Layout.{rowAt, rowsOf}
 use Rattle.rules.specs.Tables.{recordsLayout, processesLayout}
 use Rattle.rules.specs.declared.Record.{Record}
+use Rattle.cells.proofs.SoundCells.{record-rows-sound}
 use Rattle.figures.proofs.Tests.{failed, passed}
 use Rattle.lookup.specs.Lookup.{soughtIn, recordSought}
 use Rattle.lookup.specs.declared.Greatest.{Greatest}
@@ -154,7 +155,7 @@ module _ (c : tie.After-known-told2) where
 read-record-requires : tie.Need-read-record-requires
 read-record-requires c κs =
     let k : tie.After-known-told2 = c .before in
-    (s k .pre .records, there k .row-within)
+    (record-rows-sound (rs (s k)) (s k .pre .records), there k .row-within)
 
 -- ---- the verdict
 
@@ -214,9 +215,9 @@ module _ (c : tie.After-enum-told5) where
 
   ready : OpeningReady (rs s7) (qs s7) (row (named at)) (place (known (found (named at)))) terms
   ready = record {
-    records-sound = s7 .pre .records;
+    records-sound = record-rows-sound (rs s7) (s7 .pre .records);
     row-within = there (named at) .row-within;
-    restated-sound = accepted-restated (qs s7) (r at) (terms .giving) (terms .series) accepted (rs s7) (s7 .pre .records) (terms .id) (terms .suffix) (there (named at) .found);
+    restated-sound = accepted-restated (qs s7) (r at) (terms .giving) (terms .series) accepted (rs s7) (record-rows-sound (rs s7) (s7 .pre .records)) (terms .id) (terms .suffix) (there (named at) .found);
     processes-sound = s7 .pre .processes;
     opened-sound = sound-process _ (give-up-figures (terms .process) (terms .id) (terms .suffix) (terms .giving) (terms .taking) (terms .series) (figures (look (known (found (named at))))) .opened);
     unused = unused (found (named at));
@@ -252,7 +253,7 @@ on-sound-spec =
     (λ c. search needs)
     (λ c. search needs)
     returns-3
-    (λ c κs. search needs)
+    (λ c κs. let s : tie.Start = start18 (c .before .before .before .before .before) in record-rows-sound (rs s) (s .pre .records))
     (λ c. search needs)
     (λ c. search needs)
     (λ c. search needs)

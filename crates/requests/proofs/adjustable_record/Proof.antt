@@ -17,6 +17,7 @@ returns c =
       read-back (r .series) (known .1 .1 .1 .1 .1 .1 .0 .1),
       read-back (r .side) (known .1 .1 .1 .1 .1 .1 .1 .0 .1),
       read-back (r .price) (known .1 .1 .1 .1 .1 .1 .1 .1 .1 .0 .1),
+      toZ-ofZ (s .fits .today),
       toZ-ofZ (s .fits .suffix),
       toZ-ofZ (s .fits .kind),
       toZ-ofZ (s .fits .account),

@@ -24,8 +24,8 @@ negated-fits q h =
 negated : (q : ℤ) → mag q < 2 ^ 63 → magnitudeAtMost 1000000 q ≡ true → toZ w64 (ofZ w64 (pos 0 -ℤ toZ w64 (ofZ w64 q))) ≡ negℤ q
 negated q h k = ap (λ (z : ℤ). toZ w64 (ofZ w64 (pos 0 -ℤ z))) (read-back q h) ∙ toZ-ofZ (negated-fits q k) ∙ +ℤ-idl (negℤ q)
 
-sub-t7 : tie.Need-sub-t7
-sub-t7 c =
+sub-t8 : tie.Need-sub-t8
+sub-t8 c =
     let s : tie.Start = c .before .before in
     let q : ℤ = s .args .r .quantity in
     subst (λ (z : ℤ). SFits w64 (pos 0 -ℤ z)) (sym (read-back q (c .struct-told .given .1 .1 .1 .1 .1 .1 .1 .1 .0 .1))) (negated-fits q (s .pre))
@@ -44,6 +44,7 @@ returns c =
       read-back (r .series) (known .1 .1 .1 .1 .1 .1 .0 .1),
       read-back (r .side) (known .1 .1 .1 .1 .1 .1 .1 .0 .1),
       read-back (r .price) (known .1 .1 .1 .1 .1 .1 .1 .1 .1 .0 .1),
+      toZ-ofZ (s .fits .today),
       toZ-ofZ (s .fits .suffix),
       toZ-ofZ (s .fits .kind),
       toZ-ofZ (s .fits .long),
@@ -52,4 +53,4 @@ returns c =
     ))
 
 pub inverse-record-spec : {M : Type 1} → statement M
-inverse-record-spec = tie.close (tie.spec sub-t7 returns)
+inverse-record-spec = tie.close (tie.spec sub-t8 returns)

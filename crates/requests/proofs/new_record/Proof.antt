@@ -7,6 +7,7 @@ use Rattle.requests.proofs.new_record.Tie as tie
 returns : tie.Need-returns
 unfolding newRecord
 returns s = simp (
+  toZ-ofZ (s .fits .today),
   toZ-ofZ (s .fits .id),
   toZ-ofZ (s .fits .kind),
   toZ-ofZ (s .fits .account),

@@ -14,6 +14,7 @@ use Rattle.rules.specs.Separation.{separationFigures}
 use Rattle.rules.specs.Layout.{rowsOf}
 use Rattle.rules.specs.Tables.{recordsLayout}
 use Rattle.rules.specs.declared.Record.{Record}
+use Rattle.cells.proofs.SoundCells.{record-rows-sound}
 use Rattle.figures.proofs.Tests.{failed, passed}
 use Rattle.lookup.specs.Lookup.{recordSought}
 use Rattle.lookup.proofs.TableLookup.{records-first}
@@ -84,7 +85,7 @@ record-named-requires c κs =
     let w : tie.After-row = c .before .before in
     let l : tie.After-look-up = w .before .before in
     let s : tie.Start = s5 l in
-    simp (toZ-ofZ (s .fits .id), toZ-ofZ (s .fits .suffix), read-back (w .row .given .0 .1 .0) (c .before .known-told .given .1 .0 .1)) (s .pre .0, sym (answer l) ∙ w .row .given .1)
+    simp (toZ-ofZ (s .fits .id), toZ-ofZ (s .fits .suffix), read-back (w .row .given .0 .1 .0) (c .before .known-told .given .1 .0 .1)) (record-rows-sound (rs s) (s .pre .0), sym (answer l) ∙ w .row .given .1)
 
 module _ (c : tie.After-record-named) where
   abbrev look : tie.After-look-up
@@ -144,7 +145,7 @@ on-sound-spec =
     (tie.spec
     (λ c κs. search needs)
     returns
-    (λ c κs. search needs)
+    (λ c κs. let s : tie.Start = c .before .before .before in record-rows-sound (rs s) (s .pre .0))
     (λ c. search needs)
     (λ c. search needs)
     (λ c. search needs)

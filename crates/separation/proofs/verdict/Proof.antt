@@ -22,6 +22,7 @@ use Rattle.rules.specs.Refusal.{allOf}
 use Rattle.rules.specs.Layout.{rowsOf}
 use Rattle.rules.specs.Tables.{recordsLayout}
 use Rattle.rules.specs.declared.Record.{Record}
+use Rattle.cells.proofs.SoundCells.{record-rows-sound}
 use Rattle.figures.proofs.Tests.{is-literal, not-literal}
 use Rattle.requests.proofs.StatusRefusal.{status-number}
 use Rattle.scan.proofs.ReadBack.{read-back}
@@ -66,7 +67,7 @@ module _ (s : tie.Start) where
 
   last-fits : SFits w64 (next +ℤ count)
   last-fits =
-      let range : (pos 0 ≤ℤ next) × (next ≤ℤ pos 65536) = next-range (s .args .records .now) (s .pre .0) (s .args .id) in
+      let range : (pos 0 ≤ℤ next) × (next ≤ℤ pos 65536) = next-range (s .args .records .now) (record-rows-sound (s .args .records .now) (s .pre .0)) (s .args .id) in
       omega (zarith, parts .0, +-lin next count)
 
 abbrev start : tie.After-is-elsewhere → tie.Start
@@ -160,7 +161,7 @@ at-14 : (c : tie.Else4) → From (s13 (c .before)) 14
 at-14 c = at-13 (else3 (c .before)) past rw (last-is (c .before)) at (c .if4 .left)
 
 lacks-records-room-requires : tie.Need-lacks-records-room-requires
-lacks-records-room-requires c κs = (s13 (c .before) .pre .0, omega (arith, parts (s13 (c .before)) .0))
+lacks-records-room-requires c κs = (record-rows-sound (s13 (c .before) .args .records .now) (s13 (c .before) .pre .0), omega (arith, parts (s13 (c .before)) .0))
 
 returns-5 : tie.Need-returns-5
 returns-5 c = stops (at-14 (c .before .before)) (sym (c .before .lacks-records-room .ensures) ∙ c .if5 .taken)

@@ -7,10 +7,10 @@ use Rattle.showing.proofs.rows.Statement.{statement}
 use Rattle.showing.proofs.rows.Tie as tie
 
 abbrev Inv-loop : tie.InvT-loop
-Inv-loop cells count width row₀ at₀ row at = (row ≤ count) × (at ≤ length cells)
+Inv-loop cells count header width row₀ at₀ row at = (row ≤ count) × (at ≤ length cells)
 
 abbrev μ-loop : tie.MeasureT-loop
-μ-loop cells count width row₀ at₀ row at = count - row
+μ-loop cells count header width row₀ at₀ row at = count - row
 
 loop-holds : tie.Need-loop-holds Inv-loop μ-loop
 loop-holds c = search needs

@@ -11,9 +11,9 @@ use borrow.Author.Needs.{needs}
 use Rattle.rules.specs.Keyed.{Key}
 use Rattle.rules.specs.Rows.{keyOf, recordKey}
 use Rattle.rules.specs.Layout.{rowsOf}
-use Rattle.rules.specs.Tables.{recordsLayout, soundRecords}
+use Rattle.rules.specs.Tables.{recordsLayout, soundRecordRows}
 use Rattle.cells.proofs.Count.{room-most}
-use Rattle.cells.proofs.SoundCells.{records-known}
+use Rattle.cells.proofs.SoundCells.{record-rows-sound, records-known}
 use Rattle.figures.proofs.Tests.{passed}
 use Rattle.lookup.specs.Lookup.{placeIn, recordSought}
 use Rattle.lookup.proofs.TableLookup.{records-first, table-place}
@@ -28,8 +28,8 @@ module _ (c : tie.Else1) where
   abbrev key : Key
   key = keyOf (c .before .before .args .id) (c .before .before .args .suffix)
 
-  sound : soundRecords cells ≡ true
-  sound = passed (c .before .records-sound .ensures) (c .if1 .left)
+  sound : soundRecordRows cells ≡ true
+  sound = record-rows-sound cells (passed (c .before .records-sound .ensures) (c .if1 .left))
 
   few : length (rowsOf recordsLayout cells) ≤ 4096
   few = omega (arith, records-known cells sound .rows-fit, room-most recordsLayout cells)

@@ -16,7 +16,7 @@ use Rattle.rules.specs.Figures.{validQuantity, validPrice}
 use Rattle.rules.specs.Keyed.{Key, find, absentFrom}
 use Rattle.rules.specs.Rows.{recordKey, positionKey, newRecord, moved, soundRecord, soundPosition}
 use Rattle.rules.specs.Layout.{roomOf, rowsOf}
-use Rattle.rules.specs.Tables.{recordsLayout, positionsLayout, soundRecords, soundPositions}
+use Rattle.rules.specs.Tables.{recordsLayout, positionsLayout, currentDay, soundRecordRows, soundPositions}
 use Rattle.rules.specs.Trade.{tradeKind}
 use Rattle.rules.specs.Handle.{answered}
 use Rattle.rules.specs.declared.Record.{Record}
@@ -25,6 +25,7 @@ use Rattle.rules.specs.declared.Movement.{Movement}
 use Rattle.rules.specs.declared.Reply.the-variants.{ClosingError}
 use Rattle.lookup.specs.Lookup.{foundIn, placeIn}
 use Rattle.lookup.specs.declared.Found.{Found}
+use Rattle.cells.proofs.SoundCells.{record-rows-sound}
 use Rattle.scan.proofs.ReadBack.{read-back}
 use Rattle.verdict.proofs.Puts.{putOne}
 use Rattle.verdict.proofs.Ready.{InsertReady, PutReady}
@@ -39,7 +40,7 @@ use Rattle.trade.proofs.book.Tie as tie
 
 -- What `insert_record` and `write_position` ask.
 abbrev PlaceReady : List ℤ → ℕ → Record → Type 0
-PlaceReady cells place r = (soundRecords cells ≡ true) × (soundRecord r ≡ true) × (find recordKey (recordKey r) (rowsOf recordsLayout cells) ≡ none)
+PlaceReady cells place r = (soundRecordRows cells ≡ true) × (soundRecord r ≡ true) × (find recordKey (recordKey r) (rowsOf recordsLayout cells) ≡ none)
     × (length (rowsOf recordsLayout cells) < roomOf recordsLayout cells) × (place ≡ placeIn recordsLayout (recordKey r) cells)
 
 abbrev WriteReady : List ℤ → Found → Position → Type 0
@@ -61,7 +62,7 @@ module _ (s : tie.Start) where
   errorOf = tradeError ps (s .args .account) (s .args .series) (s .args .side) (s .args .quantity)
 
   abbrev rowOf : Record
-  rowOf = tradeRow ps (s .args .account) (s .args .series) (s .args .side) (s .args .quantity) (s .args .id) (s .args .price)
+  rowOf = tradeRow ps (s .args .account) (s .args .series) (s .args .side) (s .args .quantity) (currentDay rs) (s .args .id) (s .args .price)
 
   abbrev leftOf : Position
   leftOf = tradePosition ps (s .args .account) (s .args .series) (s .args .side) (s .args .quantity) (s .args .price)
@@ -121,26 +122,29 @@ module _ (c : tie.After-booking-of) where
 -- The row that is made.
 module _ (c : tie.After-new-record) where
   abbrev b : tie.After-booking-of
-  b = c .before .before .before .before .before
+  b = c .before .before .before .before .before .before .before
 
-  kind : toZ w64 (c .before .before .before .if1 .kind) ≡ tradeKind (b .booking-of .result .error)
+  kind : toZ w64 (c .before .before .before .before .before .if1 .kind) ≡ tradeKind (b .booking-of .result .error)
   unfolding tradeKind
   kind =
       ⊎-elim
       (λ w. ap (toZ w64) (w .1) ∙ sym (ap tradeKind (w .0 .taken)))
       (λ w. ap (toZ w64) (w .1) ∙ sym (ap tradeKind (w .0 .left)))
-      (c .before .before .before .if1 .came)
+      (c .before .before .before .before .before .if1 .came)
 
   row : c .new-record .result ≡ rowOf (s b)
   row =
-      let kind-is : toZ w64 (c .before .before .before .if1 .kind) ≡ tradeKind (errorOf (s b)) = kind ∙ ap tradeKind (error b) in
+      let kind-is : toZ w64 (c .before .before .before .before .before .if1 .kind) ≡ tradeKind (errorOf (s b)) = kind ∙ ap tradeKind (error b) in
       let long-is : toZ w64 (ofZ w64 (b .booking-of .result .movement .long)) ≡ tradeLong (ps (s b)) (s b .args .account) (s b .args .series) (s b .args .side) (s b .args .quantity)
       = read-back (b .booking-of .result .movement .long) (c .before .before .struct-told .given .0 .1) ∙ ap (λ (m : Movement). m .long) (movement b) in
       let short-is : toZ w64 (ofZ w64 (b .booking-of .result .movement .short)) ≡ tradeShort (ps (s b)) (s b .args .account) (s b .args .series) (s b .args .side) (s b .args .quantity)
       = read-back (b .booking-of .result .movement .short) (c .before .struct-told2 .given .1 .0 .1) ∙ ap (λ (m : Movement). m .short) (movement b) in
+      let today-is : toZ w64 (ofZ w64 (c .before .before .before .today .result)) ≡ currentDay (rs (s b))
+      = read-back (c .before .before .before .today .result) (c .before .before .before .today .ok) ∙ c .before .before .before .today .ensures in
       c .new-record .ensures
       ∙ (λ i.
       newRecord
+      (today-is i)
       (toZ-ofZ (s b .fits .id) i)
       (kind-is i)
       (toZ-ofZ (s b .fits .account) i)
@@ -192,6 +196,9 @@ module _ (c : tie.After-struct-told3) where
 booking-of-requires : tie.Need-booking-of-requires
 booking-of-requires c κs =
     simp (toZ-ofZ (c .before .fits .quantity), toZ-ofZ (c .before .fits .price)) (quantity-valid (c .before), read-sound (c .before), price-valid (c .before))
+
+today-requires : tie.Need-today-requires
+today-requires c κs = let s : tie.Start = s (c .before .before .before) in record-rows-sound (rs s) (s .pre .0)
 
 new-record-requires : tie.Need-new-record-requires
 new-record-requires c κs = search needs
@@ -249,6 +256,7 @@ book-spec =
     tie.close
     (tie.spec
     booking-of-requires
+    today-requires
     new-record-requires
     insert-record-requires
     moved-requires

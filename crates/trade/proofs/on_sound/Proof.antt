@@ -16,6 +16,7 @@ use Rattle.rules.specs.Tables.{recordsLayout}
 use Rattle.rules.specs.Trade.{tradeFigures}
 use Rattle.rules.specs.Handle.{answered}
 use Rattle.rules.specs.declared.Reply.the-variants.{Refused}
+use Rattle.cells.proofs.SoundCells.{record-rows-sound}
 use Rattle.figures.proofs.Tests.{failed, passed}
 use Rattle.lookup.specs.Lookup.{recordSought}
 use Rattle.lookup.proofs.RowFound.{nothing-none, suffix-some}
@@ -176,7 +177,7 @@ on-sound-spec =
     (tie.spec
     (λ c κs. search needs)
     returns
-    (λ c κs. search needs)
+    (λ c κs. record-rows-sound (rs (c .before .before .before)) (c .before .before .before .pre .0))
     (λ c. search needs)
     (λ c. search needs)
     (λ c. search needs)

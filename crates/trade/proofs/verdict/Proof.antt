@@ -12,6 +12,7 @@ use Rattle.rules.specs.Keyed.{isSome}
 use Rattle.rules.specs.Rows.{soundPosition}
 use Rattle.rules.specs.Layout.{roomOf, rowsOf}
 use Rattle.rules.specs.Tables.{positionsLayout}
+use Rattle.cells.proofs.SoundCells.{record-rows-sound}
 use Rattle.figures.proofs.Tests.{failed, passed}
 use Rattle.verdict.specs.Verdict.{absentPosition}
 use Rattle.verdict.proofs.Remaining.{_past_, stops, ends}
@@ -104,7 +105,7 @@ pub verdict-spec : {M : Type 1} → statement M
 verdict-spec =
     tie.close
     (tie.spec
-    (λ c κs. search needs)
+    (λ c κs. (record-rows-sound (c .args .records .now) (c .pre .0), omega arith))
     returns
     (λ c κs. search needs)
     lacks-positions-room-requires

@@ -37,6 +37,7 @@ returns c =
     let b : tie.After-in-short = c .before .before in
     let s : tie.Start = s b in
     simp (
+      toZ-ofZ (s .fits .today),
       toZ-ofZ (s .fits .suffix),
       toZ-ofZ (s .fits .kind),
       toZ-ofZ (s .fits .to),

@@ -15,11 +15,11 @@ use Rattle.rules.specs.Keyed.{Key}
 use Rattle.rules.specs.Rows.{keyOf, recordKey, positionKey, soundPosition, inverseRecord, adjustableRecord, moved}
 use Rattle.rules.specs.Transfer.{inSide}
 use Rattle.rules.specs.Layout.{rowsOf}
-use Rattle.rules.specs.Tables.{recordsLayout, positionsLayout, soundPositions}
+use Rattle.rules.specs.Tables.{currentDay, recordsLayout, positionsLayout, soundPositions}
 use Rattle.rules.specs.declared.Record.{Record}
 use Rattle.rules.specs.declared.Position.{Position}
 use Rattle.cells.proofs.RowCells.{positions-lawful}
-use Rattle.cells.proofs.SoundCells.{positions-known}
+use Rattle.cells.proofs.SoundCells.{record-rows-sound, positions-known}
 use Rattle.soundness.proofs.NamedRecord.{nextOf}
 use Rattle.soundness.proofs.ReadPosition.{read-key}
 use Rattle.lookup.specs.Lookup.{foundIn}
@@ -78,7 +78,7 @@ module _ (s : tie.Start) where
   reached = movingNew ps r to series
 
   found : FoundRecord id suffix r
-  found = found-record rs (s .pre .records-sound) id suffix r (s .pre .record-known .found)
+  found = found-record rs (record-rows-sound rs (s .pre .records-sound)) id suffix r (s .pre .record-known .found)
 
   may : Movable rs ps id suffix from to series leaving arriving r
   may = record {
@@ -101,10 +101,10 @@ module _ (s : tie.Start) where
   next-fits : SFits w64 (next +ℤ pos 1)
   next-fits = omega (zarith, +-lin next (pos 1), suffixes)
 
-  adjusts : AdjustReady rs id suffix (s .args .named) (movingInverse leaving r next) (movingArrived arriving r next to) (r .quantity ∷ [])
+  adjusts : AdjustReady rs id suffix (s .args .named) (movingInverse leaving (currentDay rs) r next) (movingArrived arriving (currentDay rs) r next to) (r .quantity ∷ [])
   unfolding inverseRecord adjustableRecord
   adjusts = record {
-    sound = s .pre .records-sound;
+    sound = record-rows-sound rs (s .pre .records-sound);
     known = s .pre .record-known;
     adjusted-sound = moving-adjusted rs ps id suffix from to series leaving arriving r may;
     inverse-key = λ i. keyOf (found .id-is i) (sym (s .pre .record-known .next-is) i);
@@ -145,13 +145,16 @@ module _ (s : tie.Start) where
 
 module _ (c : tie.After-inverse-row) where
   abbrev start : tie.Start
-  start = c .before .before .before
+  start = c .before .before .before .before .before
+
+  today-is : toZ w64 (ofZ w64 (c .before .today .result)) ≡ currentDay (rs start)
+  today-is = read-back (c .before .today .result) (c .before .today .ok) ∙ c .before .today .ensures
 
   next-is : toZ w64 (ofZ w64 (start .args .named .next)) ≡ next start
-  next-is = read-back (start .args .named .next) (c .before .struct-told .given .1 .1 .0 .1) ∙ start .pre .record-known .next-is
+  next-is = read-back (start .args .named .next) (c .before .before .before .struct-told .given .1 .1 .0 .1) ∙ start .pre .record-known .next-is
 
-  inverse-is : c .inverse-row .result ≡ movingInverse (leaving start) (r start) (next start)
-  inverse-is = simp (next-is, toZ-ofZ (start .fits .leaving)) at (c .inverse-row .ensures)
+  inverse-is : c .inverse-row .result ≡ movingInverse (leaving start) (currentDay (rs start)) (r start) (next start)
+  inverse-is = simp (today-is, next-is, toZ-ofZ (start .fits .leaving)) at (c .inverse-row .ensures)
 
 module _ (c : tie.After-arrived-row) where
   abbrev start2 : tie.Start
@@ -160,8 +163,8 @@ module _ (c : tie.After-arrived-row) where
   last-is : toZ w64 (ofZ w64 (toZ w64 (ofZ w64 (start2 .args .named .next)) +ℤ pos 1)) ≡ (next start2 +ℤ pos 1)
   last-is = ap (λ (z : ℤ). toZ w64 (ofZ w64 (z +ℤ pos 1))) (next-is (c .before)) ∙ toZ-ofZ (next-fits start2)
 
-  arrived-is : c .arrived-row .result ≡ movingArrived (arriving start2) (r start2) (next start2) (to start2)
-  arrived-is = simp (last-is, toZ-ofZ (start2 .fits .to), toZ-ofZ (start2 .fits .arriving)) at (c .arrived-row .ensures)
+  arrived-is : c .arrived-row .result ≡ movingArrived (arriving start2) (currentDay (rs start2)) (r start2) (next start2) (to start2)
+  arrived-is = simp (today-is (c .before), last-is, toZ-ofZ (start2 .fits .to), toZ-ofZ (start2 .fits .arriving)) at (c .arrived-row .ensures)
 
 -- The one quantity of the rows that come out of the record.
 quantity-is : (c : tie.After-struct-told2) → toZ w64 (ofZ w64 (r (start2 (c .before)) .quantity)) ≡ r (start2 (c .before)) .quantity
@@ -174,7 +177,7 @@ module _ (c : tie.After-adjust-named) where
   abbrev start3 : tie.Start
   start3 = start2 (at-quantity .before)
 
-  records-put : c .adjust-named .last .0 ≡ putAll recordsLayout recordKey (rs start3) (movingRows (leaving start3) (arriving start3) (r start3) (next start3) (to start3))
+  records-put : c .adjust-named .last .0 ≡ putAll recordsLayout recordKey (rs start3) (movingRows (leaving start3) (arriving start3) (currentDay (rs start3)) (r start3) (next start3) (to start3))
   unfolding rowsLike adjustableRecord
   records-put = simp (inverse-is (at-quantity .before .before), arrived-is (at-quantity .before), quantity-is at-quantity) at (c .adjust-named .ensures)
 
@@ -205,7 +208,10 @@ module _ (c : tie.After-given-to) where
 -- ---- what the calls require
 
 inverse-row-requires : tie.Need-inverse-row-requires
-inverse-row-requires c κs = found (c .before .before) .quantity-small
+inverse-row-requires c κs = found (c .before .before .before .before) .quantity-small
+
+today-requires : tie.Need-today-requires
+today-requires c κs = let s : tie.Start = c .before .before .before in record-rows-sound (rs s) (s .pre .records-sound)
 
 add-arrived-row : tie.Need-add-arrived-row
 add-arrived-row c = rw (next-is c) (next-fits (start c))
@@ -252,6 +258,7 @@ pub book-moved-spec : {M : Type 1} → statement M
 book-moved-spec =
     tie.close
     (tie.spec
+    today-requires
     inverse-row-requires
     add-arrived-row
     (λ c κs. search needs)

@@ -42,7 +42,7 @@ sub-left c =
 returns : tie.Need-returns
 returns c =
     let s : tie.Start = s (c .before) in
-    simp (toZ-ofZ (s .fits .next), toZ-ofZ (s .fits .kind), long-is (c .before), short-is (c .before)) at (c .inverse-record .ensures)
+    simp (toZ-ofZ (s .fits .today), toZ-ofZ (s .fits .next), toZ-ofZ (s .fits .kind), long-is (c .before), short-is (c .before)) at (c .inverse-record .ensures)
 
 pub inverse-row-spec : {M : Type 1} → statement M
 inverse-row-spec = tie.close (tie.spec sub-left (λ c κs. search needs) (λ c κs. search needs) (λ c κs. search needs) returns)

@@ -12,6 +12,7 @@ use Rattle.rules.specs.Request.{Request, transfer}
 use Rattle.rules.specs.Transfer.{transferFigures}
 use Rattle.rules.specs.Tables.{recordsLayout}
 use Rattle.rules.specs.declared.Record.{Record}
+use Rattle.cells.proofs.SoundCells.{record-rows-sound}
 use Rattle.figures.proofs.Tests.{failed, passed}
 use Rattle.lookup.specs.Lookup.{recordSought}
 use Rattle.lookup.proofs.TableLookup.{records-first}
@@ -99,7 +100,7 @@ record-named-requires c κs =
     let l : tie.After-look-up = k .before .before .before in
     let s : tie.Start = start l in
     simp (toZ-ofZ (s .fits .id), toZ-ofZ (s .fits .suffix), read-back (k .before .row .given .0 .1 .0) (k .known-told .given .1 .0 .1))
-    (s .pre .0, sym (looked l) ∙ k .before .row .given .1)
+    (record-rows-sound (rs s) (s .pre .0), sym (looked l) ∙ k .before .row .given .1)
 
 module _ (c : tie.After-position-held2) where
   abbrev at-named : tie.After-record-named
@@ -127,7 +128,7 @@ verdict-requires c κs =
     let h : tie.After-position-held2 = c .before .before in
     let s : tie.Start = s h in
     simp (toZ-ofZ (s .fits .id), toZ-ofZ (s .fits .suffix), toZ-ofZ (s .fits .from), toZ-ofZ (s .fits .to), toZ-ofZ (s .fits .series))
-    (s .pre, (figures (found h), named h, old h, new h))
+    ((record-rows-sound (rs s) (s .pre .0), s .pre .1), (figures (found h), named h, old h, new h))
 
 module _ (v : tie.After-verdict) where
   abbrev held : tie.After-position-held2
@@ -170,7 +171,7 @@ on-sound-spec =
     (tie.spec
     (λ c κs. search needs)
     returns
-    (λ c κs. search needs)
+    (λ c κs. let s : tie.Start = c .before .before .before in record-rows-sound (rs s) (s .pre .0))
     (λ c. search needs)
     (λ c. search needs)
     (λ c. search needs)

@@ -45,6 +45,9 @@ enum-known-r-8 c = search needs
 enum-known-r-9 : tie.Need-enum-known-r-9
 enum-known-r-9 c = search needs
 
+enum-known-r-10 : tie.Need-enum-known-r-10
+enum-known-r-10 c = search needs
+
 returns : tie.Need-returns
 returns c = read-back _ (sfits-of (c .known-told .given .0 .1)) (sfits-of (c .known-told .given .1 .0 .1)) ∙ sym (ap codeOf (c .before .r .given .1))
 
@@ -74,6 +77,9 @@ returns-9 : tie.Need-returns-9
 returns-9 c =
     read-back-3 _ (sfits-of (c .known-told9 .given .0 .1)) (sfits-of (c .known-told9 .given .1 .0 .1)) (sfits-of (c .known-told9 .given .1 .1 .0 .1)) ∙ sym (ap codeOf (c .before .r9 .given .1))
 
+returns-10 : tie.Need-returns-10
+returns-10 c = ap (λ z. codeFrom _ z _ _) (toZ-ofZ (sfits-of (c .known-told10 .given .0 .1))) ∙ sym (ap codeOf (c .before .r10 .given .1))
+
 pub code-of-spec : {M : Type 1} → statement M
 code-of-spec =
-    tie.close (tie.spec enum-known-r enum-known-r-2 enum-known-r-3 enum-known-r-4 enum-known-r-5 enum-known-r-6 enum-known-r-7 enum-known-r-8 enum-known-r-9 returns returns-2 returns-3 returns-4 returns-5 returns-6 returns-7 returns-8 returns-9)
+    tie.close (tie.spec enum-known-r enum-known-r-2 enum-known-r-3 enum-known-r-4 enum-known-r-5 enum-known-r-6 enum-known-r-7 enum-known-r-8 enum-known-r-9 enum-known-r-10 returns returns-2 returns-3 returns-4 returns-5 returns-6 returns-7 returns-8 returns-9 returns-10)

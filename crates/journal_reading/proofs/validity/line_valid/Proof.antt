@@ -34,6 +34,11 @@ returns-5 c =
     let step : Step = c .before .before .heading .given .0 .0 in
     c .step-valid .ensures ∙ any-step step (s .args .figures .now) ∙ ap (λ (h : Heading). isValidLine h (s .args .figures .now)) (sym (c .before .before .heading .given .1))
 
+returns-6 : tie.Need-returns-6
+returns-6 c =
+    let s : tie.Start = c .before .before .before in
+    c .day-valid .ensures ∙ ap (λ (h : Heading). isValidLine h (s .args .figures .now)) (sym (c .before .enum-told5 .given .1))
+
 pub line-valid-spec : {M : Type 1} → statement M
 line-valid-spec =
     tie.close
@@ -48,8 +53,11 @@ line-valid-spec =
     (λ c κs. search needs)
     (λ c. search needs)
     (λ c κs. search needs)
+    (λ c. search needs)
+    (λ c κs. search needs)
     returns
     returns-2
     returns-3
     returns-4
-    returns-5)
+    returns-5
+    returns-6)

@@ -19,7 +19,7 @@ use Rattle.rules.specs.Keyed.{Key, find, upsert, upsertAll, absentFrom}
 use Rattle.rules.specs.Rows.{recordKey, positionKey, soundRecord, soundPosition, newRecord, byResidual, moved}
 use Rattle.rules.specs.Refusal.{anyOf, allOf}
 use Rattle.rules.specs.Layout.{roomOf, rowsOf, write}
-use Rattle.rules.specs.Tables.{recordsLayout, positionsLayout, soundPositions}
+use Rattle.rules.specs.Tables.{currentDay, soundRecordRows, recordsLayout, positionsLayout, soundPositions}
 use Rattle.rules.specs.Merge.{pairsOf, firstOf, sumOfQuantities, sumOfValues, mergeResidual, mergedRecord, mergeInverses}
 use Rattle.rules.specs.Handle.{answered}
 use Rattle.rules.specs.declared.Record.{Record}
@@ -27,6 +27,7 @@ use Rattle.rules.specs.declared.Position.{Position}
 use Rattle.rules.specs.declared.Reply.the-variants.{Booked}
 use Rattle.lookup.specs.Lookup.{foundIn}
 use Rattle.lookup.specs.declared.Found.{Found}
+use Rattle.cells.proofs.SoundCells.{record-rows-sound}
 use Rattle.scan.proofs.ReadBack.{read-back}
 use Rattle.soundness.proofs.ReadPosition.{read-key}
 use Rattle.verdict.proofs.Moves.{merge-moves}
@@ -74,11 +75,14 @@ module _ (s : tie.Start) where
   abbrev sources : List Record
   sources = sourceRecords rs list
 
+  rows-sound : soundRecordRows rs ≡ true
+  rows-sound = record-rows-sound rs (s .pre .0)
+
   facts : MergeFacts rs ps id account series list (sourcesIn rs list)
   facts = merge-accepted-facts rs ps id account series list (s .pre .0) (s .pre .1) (s .pre .2)
 
   found : allFound rs list ≡ true
-  found = all-found rs ps id account series list (s .pre .0) facts
+  found = all-found rs ps id account series list rows-sound facts
 
   count : (2 ≤ length list / 2) × (length list ≤ 2000)
   count = figures-count id account series list (facts .passed .figures)
@@ -87,7 +91,7 @@ module _ (s : tie.Start) where
   differ = ap anyOf (sym (sources-stood-earlier rs list)) ∙ facts .passed .sources-differ
 
   ready : Averageable (sumOfValues sources) (sumOfQuantities sources)
-  ready = sources-averageable rs list (s .pre .0) found (facts .passed .sources-adjustable) (facts .passed .sum-small) (omega (arith, count .0))
+  ready = sources-averageable rs list rows-sound found (facts .passed .sources-adjustable) (facts .passed .sum-small) (omega (arith, count .0))
 
   small-residual : magnitudeAtMost 1000000 (mergeResidual sources) ≡ true
   unfolding mergeResidual
@@ -104,8 +108,17 @@ module _ (s : tie.Start) where
 
 -- ---- what the sources come to
 
+-- The current day, as it was read.
+abbrev start0 : tie.After-today → tie.Start
+start0 c = c .before .before .before
+
 abbrev start1 : tie.After-source-record → tie.Start
-start1 c = c .before .before .before
+start1 c = start0 (c .before .before)
+
+today-is : (c : tie.After-source-record) → toZ w64 (ofZ w64 (c .before .before .today .result)) ≡ currentDay (rs (start1 c))
+today-is c =
+    let t : tie.After-today = c .before .before in
+    read-back (t .today .result) (t .today .ok) ∙ t .today .ensures
 
 sum-is : (c : tie.After-sum-of-quantities) → toZ w64 (ofZ w64 (c .sum-of-quantities .result)) ≡ sumOfQuantities (sources (start1 (c .before .before)))
 sum-is c = let f : SFits w64 (c .sum-of-quantities .result) = sfits-of (c .sum-of-quantities .ok) in toZ-ofZ f ∙ c .sum-of-quantities .ensures
@@ -154,7 +167,7 @@ residual-is c =
     ∙ ap (λ (z : ℤ). residualOf buy (sumOfValues (sources (start3 c))) z) (sum-is (v .before .before))
     ∙ ap (λ (b : Bool). residualOf b (sumOfValues (sources (start3 c))) (sumOfQuantities (sources (start3 c)))) (buy-is (c .before))
 
-merged-is : (c : tie.After-merged-row) → c .merged-row .result ≡ mergedRecord (id (start3 (c .before))) (sources (start3 (c .before)))
+merged-is : (c : tie.After-merged-row) → c .merged-row .result ≡ mergedRecord (currentDay (rs (start3 (c .before)))) (id (start3 (c .before))) (sources (start3 (c .before)))
 unfolding mergedRecord
 merged-is c =
     let s : tie.Start = start3 (c .before) in
@@ -162,15 +175,15 @@ merged-is c =
     let a : tie.After-source-record = read v in
     let q : ℤ = sumOfQuantities (sources s) in
     let p : ℤ = averageOf (sumOfValues (sources s)) q in
-    let e : c .merged-row .result ≡ newRecord (id s) mergeKind (a .source-record .result .account) (a .source-record .result .series) (a .source-record .result .side)
+    let e : c .merged-row .result ≡ newRecord (currentDay (rs s)) (id s) mergeKind (a .source-record .result .account) (a .source-record .result .series) (a .source-record .result .side)
     (toZ w64 (ofZ w64 (v .before .before .sum-of-quantities .result))) (toZ w64 (ofZ w64 (c .before .before .before .before .average .result))) (pos 0) (pos 0)
-    = simp (toZ-ofZ (s .fits .id)) at (c .merged-row .ensures) in
+    = simp (today-is a, toZ-ofZ (s .fits .id)) at (c .merged-row .ensures) in
     e
-    ∙ ap (λ (z : ℤ). newRecord (id s) mergeKind (a .source-record .result .account) (a .source-record .result .series) (a .source-record .result .side) z
+    ∙ ap (λ (z : ℤ). newRecord (currentDay (rs s)) (id s) mergeKind (a .source-record .result .account) (a .source-record .result .series) (a .source-record .result .side) z
     (toZ w64 (ofZ w64 (c .before .before .before .before .average .result))) (pos 0) (pos 0)) (sum-is (v .before .before))
-    ∙ ap (λ (z : ℤ). newRecord (id s) mergeKind (a .source-record .result .account) (a .source-record .result .series) (a .source-record .result .side) q z (pos 0) (pos 0))
+    ∙ ap (λ (z : ℤ). newRecord (currentDay (rs s)) (id s) mergeKind (a .source-record .result .account) (a .source-record .result .series) (a .source-record .result .side) q z (pos 0) (pos 0))
     (price-is (c .before .before .before .before))
-    ∙ ap (λ (r : Record). newRecord (id s) mergeKind (r .account) (r .series) (r .side) q p (pos 0) (pos 0)) (sym (first-is a))
+    ∙ ap (λ (r : Record). newRecord (currentDay (rs s)) (id s) mergeKind (r .account) (r .series) (r .side) q p (pos 0) (pos 0)) (sym (first-is a))
 
 -- ---- the position as the merge leaves it
 
@@ -194,13 +207,17 @@ adjusted-is c = c .adjust-sources .ensures .0
 abbrev start6 : tie.After-insert-inverses → tie.Start
 start6 c = start5 (c .before .before .before)
 
+-- Where the first source was read, seen from the sources adjusted.
+abbrev first-read : tie.After-adjust-sources → tie.After-source-record
+first-read c = read (summed (c .before .before .before .before .before))
+
 inserted-is : (c : tie.After-insert-inverses) → c .insert-inverses .last .0 ≡ inversesInserted (rs (start6 c)) (id (start6 c)) (list (start6 c))
 inserted-is c =
     let s : tie.Start = start6 c in
     let before : List ℤ = c .before .before .before .adjust-sources .last .0 in
-    let e : c .insert-inverses .last .0 ≡ write recordsLayout before (upsertAll recordKey (mergeInverses (id s) [] (sourcesIn before (list s))) (rowsOf recordsLayout before))
-    = simp (toZ-ofZ (s .fits .id)) at (c .insert-inverses .ensures .0) in
-    e ∙ ap (λ (xs : List ℤ). write recordsLayout xs (upsertAll recordKey (mergeInverses (id s) [] (sourcesIn xs (list s))) (rowsOf recordsLayout xs))) (adjusted-is (c .before .before .before))
+    let e : c .insert-inverses .last .0 ≡ write recordsLayout before (upsertAll recordKey (mergeInverses (currentDay (rs s)) (id s) [] (sourcesIn before (list s))) (rowsOf recordsLayout before))
+    = simp (today-is (first-read (c .before .before .before)), toZ-ofZ (s .fits .id)) at (c .insert-inverses .ensures .0) in
+    e ∙ ap (λ (xs : List ℤ). write recordsLayout xs (upsertAll recordKey (mergeInverses (currentDay (rs s)) (id s) [] (sourcesIn xs (list s))) (rowsOf recordsLayout xs))) (adjusted-is (c .before .before .before))
 
 abbrev start7 : tie.After-insert-merged → tie.Start
 start7 c = start6 (c .before .before .before)
@@ -214,7 +231,7 @@ records-are c =
     let i : tie.After-insert-inverses = c .before .before .before in
     c .insert-merged .ensures .0
     ∙ ap (λ (r : Record). write recordsLayout (i .insert-inverses .last .0) (upsert recordKey r (rowsOf recordsLayout (i .insert-inverses .last .0)))) (merged-is (made i))
-    ∙ ap (λ (xs : List ℤ). write recordsLayout xs (upsert recordKey (mergedRecord (id (start7 c)) (sources (start7 c))) (rowsOf recordsLayout xs))) (inserted-is i)
+    ∙ ap (λ (xs : List ℤ). write recordsLayout xs (upsert recordKey (mergedRecord (currentDay (rs (start7 c))) (id (start7 c)) (sources (start7 c))) (rowsOf recordsLayout xs))) (inserted-is i)
 
 -- Where the position was made, seen from the last insertion.
 abbrev moved-at : tie.After-insert-merged → tie.After-moved
@@ -230,16 +247,19 @@ rows-bits s = toZ-pos w64 (omega (arith, count s .1))
 rows-fit : (s : tie.Start) → SFits w64 (pos (length (list s) / 2) +ℤ pos 1)
 rows-fit s = record { sfits = omega (arith, count s .1) }
 
+today-requires : tie.Need-today-requires
+today-requires c κs = rows-sound (c .before .before)
+
 source-record-requires : tie.Need-source-record-requires
-source-record-requires c κs = let s : tie.Start = c .before .before in (s .pre .0, s .pre .3, omega (arith, count s .0))
+source-record-requires c κs = let s : tie.Start = start0 (c .before) in (rows-sound s, s .pre .3, omega (arith, count s .0))
 
 sum-of-quantities-requires : tie.Need-sum-of-quantities-requires
-sum-of-quantities-requires c κs = let s : tie.Start = start1 (c .before) in (s .pre .0, s .pre .3, found s, count s .1)
+sum-of-quantities-requires c κs = let s : tie.Start = start1 (c .before) in (rows-sound s, s .pre .3, found s, count s .1)
 
 sum-of-values-requires : tie.Need-sum-of-values-requires
 sum-of-values-requires c κs =
     let s : tie.Start = start1 (c .before .before .before) in
-    (s .pre .0, s .pre .3, found s, count s .1, facts s .passed .sources-adjustable, facts s .passed .sum-small)
+    (rows-sound s, s .pre .3, found s, count s .1, facts s .passed .sources-adjustable, facts s .passed .sum-small)
 
 average-requires : tie.Need-average-requires
 average-requires c κs = rw (value-is c, sum-is (c .before .before)) (ready (start2 c))
@@ -258,7 +278,7 @@ moved-requires c κs =
 adjust-sources-requires : tie.Need-adjust-sources-requires
 adjust-sources-requires c κs =
     let s : tie.Start = start4 (c .before) in
-    (s .pre .0, found s, facts s .passed .sources-adjustable, differ s, s .pre .3)
+    (rows-sound s, found s, facts s .passed .sources-adjustable, differ s, s .pre .3)
 
 insert-inverses-requires : tie.Need-insert-inverses-requires
 insert-inverses-requires c κs =
@@ -266,24 +286,24 @@ insert-inverses-requires c κs =
     let s : tie.Start = start5 a in
     let e : sourcesAdjusted (rs s) (id s) (list s) ≡ a .adjust-sources .last .0 = sym (adjusted-is a) in (
       a .adjust-sources .ensures .1,
-      subst (λ (xs : List ℤ). allFound xs (list s) ≡ true) e (found-adjusted (rs s) (ps s) (id s) (account s) (series s) (list s) (s .pre .0) (facts s)),
-      simp (toZ-ofZ (s .fits .id))
-          (subst (λ (xs : List ℤ). allOf (map soundRecord (mergeInverses (id s) [] (sourcesIn xs (list s)))) ≡ true) e
-          (inverses-sound (rs s) (ps s) (id s) (account s) (series s) (list s) (s .pre .0) (facts s))),
+      subst (λ (xs : List ℤ). allFound xs (list s) ≡ true) e (found-adjusted (rs s) (ps s) (id s) (account s) (series s) (list s) (rows-sound s) (facts s)),
+      simp (today-is (first-read a), toZ-ofZ (s .fits .id))
+          (subst (λ (xs : List ℤ). allOf (map soundRecord (mergeInverses (currentDay (rs s)) (id s) [] (sourcesIn xs (list s)))) ≡ true) e
+          (inverses-sound (rs s) (ps s) (id s) (account s) (series s) (list s) (rows-sound s) (facts s))),
       subst (λ (xs : List ℤ). length (rowsOf recordsLayout xs) + length (pairsOf (list s)) ≤ roomOf recordsLayout xs) e
-          (inverses-room (rs s) (ps s) (id s) (account s) (series s) (list s) (s .pre .0) (facts s)),
+          (inverses-room (rs s) (ps s) (id s) (account s) (series s) (list s) (rows-sound s) (facts s)),
     )
 
 insert-merged-requires : tie.Need-insert-merged-requires
 insert-merged-requires c κs =
     let i : tie.After-insert-inverses = c .before .before in
     let s : tie.Start = start6 i in
-    let absent-with-room : (find recordKey (recordKey (mergedRecord (id s) (sources s))) (rowsOf recordsLayout (i .insert-inverses .last .0)) ≡ none)
+    let absent-with-room : (find recordKey (recordKey (mergedRecord (currentDay (rs s)) (id s) (sources s))) (rowsOf recordsLayout (i .insert-inverses .last .0)) ≡ none)
     × (length (rowsOf recordsLayout (i .insert-inverses .last .0)) < roomOf recordsLayout (i .insert-inverses .last .0))
     = rw (inserted-is i)
-    (merged-absent (rs s) (ps s) (id s) (account s) (series s) (list s) (s .pre .0) (facts s), merged-room (rs s) (ps s) (id s) (account s) (series s) (list s) (s .pre .0) (facts s)) in
+    (merged-absent (rs s) (ps s) (id s) (account s) (series s) (list s) (rows-sound s) (facts s), merged-room (rs s) (ps s) (id s) (account s) (series s) (list s) (rows-sound s) (facts s)) in
     subst (λ (r : Record). InsertReady (i .insert-inverses .last .0) r) (sym (merged-is (made i)))
-    (i .insert-inverses .ensures .1, merged-sound (rs s) (ps s) (id s) (account s) (series s) (list s) (s .pre .0) (facts s), absent-with-room .0, absent-with-room .1)
+    (i .insert-inverses .ensures .1, merged-sound (rs s) (ps s) (id s) (account s) (series s) (list s) (rows-sound s) (facts s), absent-with-room .0, absent-with-room .1)
 
 write-position-requires : tie.Need-write-position-requires
 write-position-requires c κs =
@@ -307,12 +327,12 @@ returns c =
     let positions : c .before .write-position .last .0 ≡ write positionsLayout (ps s) (upsert positionKey (mergePosition (ps s) (account s) (series s) (sources s)) (rowsOf positionsLayout (ps s)))
     = c .before .write-position .ensures .0 ∙ ap (λ (p : Position). write positionsLayout (ps s) (upsert positionKey p (rowsOf positionsLayout (ps s)))) (left-is m) in
     (λ i. answered (Booked (rows i) (residual i)) (records-are j i) (positions i))
-    ∙ sym (merge-booked (rs s) (ps s) (id s) (account s) (series s) (list s) (s .pre .0) (facts s))
+    ∙ sym (merge-booked (rs s) (ps s) (id s) (account s) (series s) (list s) (rows-sound s) (facts s))
 
 pub book-spec : {M : Type 1} → statement M
 book-spec =
     tie.close
     (tie.spec
-    source-record-requires sum-of-quantities-requires sum-of-values-requires average-requires (λ c κs. search needs) residual-requires (λ c κs. search needs)
+    today-requires source-record-requires sum-of-quantities-requires sum-of-values-requires average-requires (λ c κs. search needs) residual-requires (λ c κs. search needs)
     (λ c κs. search needs) moved-requires adjust-sources-requires insert-inverses-requires insert-merged-requires write-position-requires cast-added add-added
     (λ c. search needs) (λ c. search needs) returns)

@@ -40,7 +40,7 @@ module _ (s : tie.Start) where
   key = keyOf (s .args .id) (s .args .suffix)
 
   abbrev inverse : Record
-  inverse = inverseNamed cells key (s .args .into)
+  inverse = inverseNamed (s .args .today) cells key (s .args .into)
 
   -- Its key, at which nothing stands: it has the id's next suffix.
   inverse-key : (r : Record) → find recordKey key rows ≡ some r → recordKey inverse ≡ keyOf (s .args .id) (nextOf rows (s .args .id))
@@ -106,10 +106,10 @@ module _ (c : tie.After-inverse-record) where
   inverse-is : c .inverse-record .result ≡ inverse from
   inverse-is =
       let m = n .record-named .result in
-      let e : c .inverse-record .result ≡ inverseRecord (m .record) (m .next) mergeKind (pos 0) (pos 0) (from .args .into)
-      = simp (read-back (m .next) (c .before .struct-told .given .1 .1 .0 .1), toZ-ofZ (from .fits .into)) at (c .inverse-record .ensures) in
+      let e : c .inverse-record .result ≡ inverseRecord (from .args .today) (m .record) (m .next) mergeKind (pos 0) (pos 0) (from .args .into)
+      = simp (read-back (m .next) (c .before .struct-told .given .1 .1 .0 .1), toZ-ofZ (from .fits .today), toZ-ofZ (from .fits .into)) at (c .inverse-record .ensures) in
       let record-is : m .record ≡ theRecord (find recordKey (key from) (rows from)) = sym (found-record (find recordKey (key from) (rows from)) (m .record) (known n .found)) in
-      e ∙ (λ i. inverseRecord (record-is i) (known n .next-is i) mergeKind (pos 0) (pos 0) (from .args .into))
+      e ∙ (λ i. inverseRecord (from .args .today) (record-is i) (known n .next-is i) mergeKind (pos 0) (pos 0) (from .args .into))
 
 returns : tie.Need-returns
 returns c =

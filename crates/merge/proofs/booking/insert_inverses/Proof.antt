@@ -21,10 +21,10 @@ use Rattle.merge.proofs.booking.insert_inverses.Statement.{statement}
 use Rattle.merge.proofs.booking.insert_inverses.Tie as tie
 
 abbrev Inv-loop : tie.InvT-loop
-Inv-loop records₀ pairs into count i₀ records i = InvertedSoFar (toZ w64 into) records₀ pairs records i
+Inv-loop records₀ today pairs into count i₀ records i = InvertedSoFar (toZ w64 today) (toZ w64 into) records₀ pairs records i
 
 abbrev μ-loop : tie.MeasureT-loop
-μ-loop records₀ pairs into count i₀ records i = length pairs / 2 - i
+μ-loop records₀ today pairs into count i₀ records i = length pairs / 2 - i
 
 -- ---- the turn
 
@@ -38,8 +38,11 @@ module _ (l : tie.At-loop Inv-loop μ-loop) where
   abbrev into : ℤ
   into = l .before .args .into
 
-  so-far : InvertedSoFar into cells list (l .loop .records) (l .loop .i)
-  so-far = simp (toZ-ofZ (l .before .fits .into)) at (l .loop .inv)
+  abbrev today : ℤ
+  today = l .before .args .today
+
+  so-far : InvertedSoFar today into cells list (l .loop .records) (l .loop .i)
+  so-far = simp (toZ-ofZ (l .before .fits .today), toZ-ofZ (l .before .fits .into)) at (l .loop .inv)
 
 module _ (k : tie.In-loop Inv-loop μ-loop) where
   abbrev a : tie.At-loop Inv-loop μ-loop
@@ -64,14 +67,14 @@ module _ (c : tie.After-insert-inverse-arg3 Inv-loop μ-loop) where
 
 put : (c : tie.After-insert-inverse Inv-loop μ-loop) → c .insert-inverse .last .0
     ≡ write recordsLayout (a (turn (c .before)) .loop .records)
-    (upsert recordKey (inverseNamed (a (turn (c .before)) .loop .records) (pairAt (list (a (turn (c .before)))) (a (turn (c .before)) .loop .i)) (into (a (turn (c .before)))))
+    (upsert recordKey (inverseNamed (today (a (turn (c .before)))) (a (turn (c .before)) .loop .records) (pairAt (list (a (turn (c .before)))) (a (turn (c .before)) .loop .i)) (into (a (turn (c .before)))))
     (rowsOf recordsLayout (a (turn (c .before)) .loop .records)))
 unfolding pairAt
 put c =
-    simp (toZ-ofZ (id-fits (c .before)), toZ-ofZ (suffix-fits (c .before)), toZ-ofZ (a (turn (c .before)) .before .fits .into)) at (c .insert-inverse .ensures .0)
+    simp (toZ-ofZ (id-fits (c .before)), toZ-ofZ (suffix-fits (c .before)), toZ-ofZ (a (turn (c .before)) .before .fits .today), toZ-ofZ (a (turn (c .before)) .before .fits .into)) at (c .insert-inverse .ensures .0)
 
 loop-holds : tie.Need-loop-holds Inv-loop μ-loop
-loop-holds c = simp (toZ-ofZ (c .fits .into)) (inverted-start (c .args .into) (c .args .records .now) (c .args .pairs .now) (c .pre .1) (c .pre .0))
+loop-holds c = simp (toZ-ofZ (c .fits .today), toZ-ofZ (c .fits .into)) (inverted-start (c .args .today) (c .args .into) (c .args .records .now) (c .args .pairs .now) (c .pre .1) (c .pre .0))
 
 mul-insert-inverse : tie.Need-mul-insert-inverse Inv-loop μ-loop
 mul-insert-inverse c = omega (arith, fit (c .before))
@@ -100,11 +103,11 @@ insert-inverse-requires c κs =
     let k : tie.In-loop Inv-loop μ-loop = turn c in
     let l : tie.At-loop Inv-loop μ-loop = a k in
     let p = l .before .pre in
-    simp (toZ-ofZ (id-fits c), toZ-ofZ (suffix-fits c), toZ-ofZ (l .before .fits .into)) (
+    simp (toZ-ofZ (id-fits c), toZ-ofZ (suffix-fits c), toZ-ofZ (l .before .fits .today), toZ-ofZ (l .before .fits .into)) (
       l .loop .inv .sound,
-      insert-found (into l) (cells l) (list l) (p .1) (p .2) (p .3) (l .loop .records) (l .loop .i) (so-far l) (more k),
-      insert-sound (into l) (cells l) (list l) (p .1) (p .2) (p .3) (l .loop .records) (l .loop .i) (so-far l) (more k),
-      insert-room (into l) (cells l) (list l) (p .1) (p .2) (p .3) (l .loop .records) (l .loop .i) (so-far l) (more k),
+      insert-found (today l) (into l) (cells l) (list l) (p .1) (p .2) (p .3) (l .loop .records) (l .loop .i) (so-far l) (more k),
+      insert-sound (today l) (into l) (cells l) (list l) (p .1) (p .2) (p .3) (l .loop .records) (l .loop .i) (so-far l) (more k),
+      insert-room (today l) (into l) (cells l) (list l) (p .1) (p .2) (p .3) (l .loop .records) (l .loop .i) (so-far l) (more k),
     )
 
 add-i : tie.Need-add-i Inv-loop μ-loop
@@ -118,8 +121,8 @@ loop-again c =
     let k : tie.In-loop Inv-loop μ-loop = turn (c .before .before) in
     let l : tie.At-loop Inv-loop μ-loop = a k in
     let p = l .before .pre in
-    simp (toZ-ofZ (l .before .fits .into))
-    (insert-next (into l) (cells l) (list l) (p .1) (p .2) (p .3) (l .loop .records) (l .loop .i) (so-far l) (more k) (c .before .insert-inverse .last .0)
+    simp (toZ-ofZ (l .before .fits .today), toZ-ofZ (l .before .fits .into))
+    (insert-next (today l) (into l) (cells l) (list l) (p .1) (p .2) (p .3) (l .loop .records) (l .loop .i) (so-far l) (more k) (c .before .insert-inverse .last .0)
     (put (c .before)) (c .before .insert-inverse .ensures .1) (c .before .insert-inverse .kept .0))
 
 same-length : tie.Need-same-length Inv-loop μ-loop
@@ -128,7 +131,7 @@ same-length c = c .before .loop .inv .same-size
 returns : tie.Need-returns Inv-loop μ-loop
 returns c =
     let l : tie.At-loop Inv-loop μ-loop = c .before in
-    inverted-end (into l) (cells l) (list l) (l .before .pre .1) (l .loop .records) (l .loop .i) (c .loop-test .left) (so-far l)
+    inverted-end (today l) (into l) (cells l) (list l) (l .before .pre .1) (l .loop .records) (l .loop .i) (c .loop-test .left) (so-far l)
 
 pub insert-inverses-spec : {M : Type 1} → statement M
 insert-inverses-spec =

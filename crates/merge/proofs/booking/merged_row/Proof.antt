@@ -16,6 +16,7 @@ returns c =
       read-back (r .account) (c .before .before .before .struct-told .given .1 .1 .1 .1 .1 .0 .1),
       read-back (r .series) (c .before .before .struct-told2 .given .1 .1 .1 .1 .1 .1 .0 .1),
       read-back (r .side) (c .before .struct-told3 .given .1 .1 .1 .1 .1 .1 .1 .0 .1),
+      toZ-ofZ (s .fits .today),
       toZ-ofZ (s .fits .id),
       toZ-ofZ (s .fits .quantity),
       toZ-ofZ (s .fits .price),

@@ -5,6 +5,7 @@ use lib.IntN.{ℤ}
 use mir.Facts.{toZ-ofZ}
 use borrow.Author.Needs.{needs}
 use Rattle.rules.specs.Request.{Request, merge}
+use Rattle.cells.proofs.SoundCells.{record-rows-sound}
 use Rattle.scan.proofs.ReadBack.{read-back}
 use Rattle.verdict.specs.Verdict.{verdictOn}
 use Rattle.requests.proofs.OnSound.{refused-soundly, booked-soundly}
@@ -25,6 +26,12 @@ module _ (v : tie.After-verdict) where
   judged =
       simp (toZ-ofZ (s .fits .id), toZ-ofZ (s .fits .account), toZ-ofZ (s .fits .series))
       at (v .verdict .ensures .0)
+
+verdict-requires : tie.Need-verdict-requires
+verdict-requires c κs =
+    let h : tie.After-position-held = c .before .before .before .before in
+    let s : tie.Start = h .before .before in
+    (record-rows-sound (s .args .records .now) (s .pre .0), s .pre .1, h .position-held .ensures, search needs, search needs)
 
 book-requires : tie.Need-book-requires
 book-requires c κs =
@@ -61,7 +68,7 @@ on-sound-spec =
     (λ c κs. search needs)
     (λ c. search needs)
     (λ c. search needs)
-    (λ c κs. search needs)
+    verdict-requires
     (λ c. search needs)
     (λ c. search needs)
     (λ c. search needs)

@@ -29,7 +29,7 @@ use Rattle.merge.proofs.sources.suffix_above.Statement.{statement}
 use Rattle.merge.proofs.sources.suffix_above.Tie as tie
 
 abbrev above : List ℤ → List ℤ → List Bool
-above cells pairs = map suffixIsAbove (mergeInverses (pos 0) [] (sourcesIn cells pairs))
+above cells pairs = map suffixIsAbove (mergeInverses (pos 0) (pos 0) [] (sourcesIn cells pairs))
 
 abbrev Inv-loop : tie.InvT-loop
 Inv-loop records pairs suffixes count i₀ i = (i ≤ length pairs / 2) × (anyOf (take i (above records pairs)) ≡ false)

@@ -46,10 +46,14 @@ unfolding takeHeading
 returns-5 c = c .read-step .ensures ∙ sym (ap takeHeading (starts (c .before .before .before .before .before .before) (c .before .if5 .taken) (omega arith)))
 
 returns-6 : tie.Need-returns-6
-returns-6 c =
-    let e2 : tie.Else2 = c .before .before .before in
-    let a : tie.After-byte-at = e2 .before .before in
-    no-heading (text a) (at a) (a .byte-at .ensures) (e2 .before .if1 .left) (e2 .if2 .left) (c .before .before .if3 .left) (c .before .if4 .left) (c .if5 .left)
+unfolding takeHeading
+returns-6 c = sym (ap takeHeading (starts (c .before .before .before .before .before .before) (c .if6 .taken) (omega arith)))
+
+returns-7 : tie.Need-returns-7
+returns-7 c =
+    let e3 : tie.Else3 = c .before .before .before in
+    let a : tie.After-byte-at = e3 .before .before .before in
+    no-heading (text a) (at a) (a .byte-at .ensures) (e3 .before .before .if1 .left) (e3 .before .if2 .left) (e3 .if3 .left) (c .before .before .if4 .left) (c .before .if5 .left) (c .if6 .left)
 
 pub read-heading-spec : {M : Type 1} → statement M
 read-heading-spec =
@@ -67,4 +71,6 @@ read-heading-spec =
     (λ c. omega (arith, within (c .before .before .before .before .before) (c .if5 .taken) (omega arith)))
     (λ c κs. search needs)
     returns-5
-    returns-6)
+    (λ c. omega (arith, within (c .before .before .before .before .before .before) (c .if6 .taken) (omega arith)))
+    returns-6
+    returns-7)

@@ -1,7 +1,6 @@
 -- `first_line_refused` meets its contract: no byte, a bad first line, or one that names a request. Assumes nothing.
 use mathlib.Core.Path.{subst}
 use borrow.Author.Needs.{needs}
-use mir.Facts.{toZ-ofZ}
 use Rattle.reader.specs.declared.LineRead.{LineRead}
 use Rattle.reader.specs.declared.LineRead.the-variants.{Read, Bad}
 use Rattle.journal_reading.specs.RequestRead.{RequestReadAs}
@@ -10,7 +9,7 @@ use Rattle.replaying.proofs.each_line.first_line_refused.Statement.{sta
 use Rattle.replaying.proofs.each_line.first_line_refused.Tie as tie
 
 returns : tie.Need-returns
-returns c = no-line _ _ _ (c .if1 .taken)
+returns c = no-line _ (c .if1 .taken)
 
 module _ (c : tie.After-read-request) where
   abbrev e : tie.Else1
@@ -27,14 +26,14 @@ returns-2 : tie.Need-returns-2
 returns-2 c =
     let r : tie.After-read-request = c .before .before .before in
     let w : As r Bad = subst (As r) (c .enum-told .given .1) (r .read-request .ensures) in
-    first-bad _ _ _ (e r .if1 .left) (w .request)
+    first-bad _ (e r .if1 .left) (w .request)
 
 returns-3 : tie.Need-returns-3
 returns-3 c =
     let r : tie.After-read-request = c .before .before .before .before in
     let w : As r (Read (c .before .heading .given .0 .0) (c .before .heading .given .0 .1 .0) (c .before .heading .given .0 .1 .1 .0)) =
     subst (As r) (c .before .heading .given .1) (r .read-request .ensures) in
-    simp (toZ-ofZ (s r .fits .number), toZ-ofZ (s r .fits .place)) (first-named _ _ _ (e r .if1 .left) _ (w .request))
+    first-named _ (e r .if1 .left) _ (w .request)
 
 pub first-line-refused-spec : {M : Type 1} → statement M
 first-line-refused-spec =

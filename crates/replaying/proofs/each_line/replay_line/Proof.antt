@@ -41,7 +41,7 @@ returns : tie.Need-returns
 returns c =
     let r : tie.After-read-request = c .before .before .before in
     let w : As r Bad = subst (As r) (c .enum-told .given .1) (r .read-request .ensures) in
-    (bad-replayed (start r) (text r) (s r .args .at) (figures r) (s r .pre .0) (s r .pre .1) w, w .cells)
+    (bad-replayed (start r) (text r) (s r .args .at) (figures r) (s r .pre .0) w, w .cells)
 
 -- The line that was read.
 module _ (c : tie.After-known-told) where

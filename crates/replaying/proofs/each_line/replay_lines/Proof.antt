@@ -16,22 +16,22 @@ use Rattle.scan.proofs.ReadBack.{read-back}
 use Rattle.replaying.specs.LineReplayed.{LineBooked, LineReplayed}
 use Rattle.replaying.specs.declared.Became.{Became}
 use Rattle.replaying.specs.declared.Became.the-variants.{Booked}
-use Rattle.replaying.proofs.LineLength.{four-fewer}
+use Rattle.replaying.proofs.LineLength.{three-fewer}
 use Rattle.replaying.proofs.ReplayedSoFar.{ReplayedSoFar, none-replayed, all-replayed, stops-bad, stops-refused, one-more}
 use Rattle.replaying.proofs.each_line.replay_lines.Statement.{statement}
 use Rattle.replaying.proofs.each_line.replay_lines.Tie as tie
 
 abbrev Inv-loop : tie.InvT-loop
-Inv-loop records₀ positions₀ processes₀ sound text figures₀ at₀ line₀ records positions processes figures at line =
+Inv-loop records₀ positions₀ processes₀ passes2 passes19 text figures₀ at₀ line₀ records positions processes figures at line =
     ReplayedSoFar (allTables records₀ positions₀ processes₀) text records positions processes figures at line
 
 abbrev μ-loop : tie.MeasureT-loop
-μ-loop records₀ positions₀ processes₀ sound text figures₀ at₀ line₀ records positions processes figures at line = length text - at
+μ-loop records₀ positions₀ processes₀ passes2 passes19 text figures₀ at₀ line₀ records positions processes figures at line = length text - at
 
 loop-holds : tie.Need-loop-holds Inv-loop μ-loop
 loop-holds c =
     let s : tie.Start Inv-loop μ-loop = c .before in
-    none-replayed (s .args .records .now) (s .args .positions .now) (s .args .processes .now) (s .args .figures .now) (s .args .text .now) (s .pre .0) (s .pre .1) (s .pre .3)
+    none-replayed (s .args .records .now) (s .args .positions .now) (s .args .processes .now) (s .args .figures .now) (s .args .text .now) (s .pre .0) (s .pre .3)
 
 -- A turn of the loop, up to what became of its line.
 module _ (c : tie.After-replay-line Inv-loop μ-loop) where
@@ -67,7 +67,7 @@ replay-line-requires : tie.Need-replay-line-requires Inv-loop μ-loop
 replay-line-requires c κs =
     let k : tie.At-loop Inv-loop μ-loop = c .before .before .before .before .before in
     let s₀ : tie.Start Inv-loop μ-loop = k .before .before in
-    (k .loop .inv .records-sound, k .loop .inv .positions-sound, s₀ .pre .2 ∙ sym (k .loop .inv .processes-sound), k .loop .inv .cells)
+    (k .loop .inv .records-sound, s₀ .pre .1 ∙ sym (k .loop .inv .positions-sound), s₀ .pre .2 ∙ sym (k .loop .inv .processes-sound), k .loop .inv .cells)
 
 -- ---- a bad line
 
@@ -124,7 +124,7 @@ module _ (c : tie.After-known-told2 Inv-loop μ-loop) where
   further : l d .loop .at < next
   further =
       let k : LineBooked (before d) (text d) (l d .loop .at) next (after d) = replayed .became in
-      let fewer : length (drop next (text d)) + 4 ≤ length (drop (l d .loop .at) (text d)) = four-fewer (drop (l d .loop .at) (text d)) (taken (k .request) (drop next (text d))) (k .read) in
+      let fewer : length (drop next (text d)) + 3 ≤ length (drop (l d .loop .at) (text d)) = three-fewer (drop (l d .loop .at) (text d)) (taken (k .request) (drop next (text d))) (k .read) in
       omega (arith, length-drop next (text d), length-drop (l d .loop .at) (text d), k .within)
 
 add-line : tie.Need-add-line Inv-loop μ-loop

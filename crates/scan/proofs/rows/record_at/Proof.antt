@@ -27,23 +27,24 @@ module _ (s : tie.Start) (k : ℕ) (h : k < recordsLayout .width) where
 
 returns : tie.Need-returns
 returns c =
-    let s : tie.Start = c .before .before .before .before .before .before .before .before .before .before .before .before .before in
+    let s : tie.Start = c .before .before .before .before .before .before .before .before .before .before .before .before .before .before in
     let cells : List ℤ = s .args .cells .now in
     let at : ℕ = s .args .at in
     simp (
-      read-back (getD cells at (pos 0)) (c .before .before .before .before .before .before .before .before .before .before .before .before .t5 .given),
-      read-back (getD cells (at + 1) (pos 0)) (c .before .before .before .before .before .before .before .before .before .before .before .t9 .given),
-      read-back (getD cells (at + 2) (pos 0)) (c .before .before .before .before .before .before .before .before .before .before .t13 .given),
-      read-back (getD cells (at + 3) (pos 0)) (c .before .before .before .before .before .before .before .before .before .t17 .given),
-      read-back (getD cells (at + 4) (pos 0)) (c .before .before .before .before .before .before .before .before .t21 .given),
-      read-back (getD cells (at + 5) (pos 0)) (c .before .before .before .before .before .before .before .t25 .given),
-      read-back (getD cells (at + 6) (pos 0)) (c .before .before .before .before .before .before .t29 .given),
-      read-back (getD cells (at + 7) (pos 0)) (c .before .before .before .before .before .t33 .given),
-      read-back (getD cells (at + 8) (pos 0)) (c .before .before .before .before .t37 .given),
-      read-back (getD cells (at + 9) (pos 0)) (c .before .before .before .t41 .given),
-      read-back (getD cells (at + 10) (pos 0)) (c .before .before .t45 .given),
-      read-back (getD cells (at + 11) (pos 0)) (c .before .t49 .given),
-      read-back (getD cells (at + 12) (pos 0)) (c .t53 .given),
+      read-back (getD cells at (pos 0)) (c .before .before .before .before .before .before .before .before .before .before .before .before .before .t5 .given),
+      read-back (getD cells (at + 1) (pos 0)) (c .before .before .before .before .before .before .before .before .before .before .before .before .t9 .given),
+      read-back (getD cells (at + 2) (pos 0)) (c .before .before .before .before .before .before .before .before .before .before .before .t13 .given),
+      read-back (getD cells (at + 3) (pos 0)) (c .before .before .before .before .before .before .before .before .before .before .t17 .given),
+      read-back (getD cells (at + 4) (pos 0)) (c .before .before .before .before .before .before .before .before .before .t21 .given),
+      read-back (getD cells (at + 5) (pos 0)) (c .before .before .before .before .before .before .before .before .t25 .given),
+      read-back (getD cells (at + 6) (pos 0)) (c .before .before .before .before .before .before .before .t29 .given),
+      read-back (getD cells (at + 7) (pos 0)) (c .before .before .before .before .before .before .t33 .given),
+      read-back (getD cells (at + 8) (pos 0)) (c .before .before .before .before .before .t37 .given),
+      read-back (getD cells (at + 9) (pos 0)) (c .before .before .before .before .t41 .given),
+      read-back (getD cells (at + 10) (pos 0)) (c .before .before .before .t45 .given),
+      read-back (getD cells (at + 11) (pos 0)) (c .before .before .t49 .given),
+      read-back (getD cells (at + 12) (pos 0)) (c .before .t53 .given),
+      read-back (getD cells (at + 13) (pos 0)) (c .t57 .given),
     )
 
 pub record-at-spec : {M : Type 1} → statement M
@@ -88,4 +89,7 @@ record-at-spec =
     (λ c. sum-fits (c .before .before .before .before .before .before .before .before .before .before .before .before) _ (lit< tt))
     (λ c. bytes-fit (c .before .before .before .before .before .before .before .before .before .before .before .before) _ (lit< tt))
     (λ c. within (c .before .before .before .before .before .before .before .before .before .before .before .before) _ (lit< tt))
+    (λ c. sum-fits (c .before .before .before .before .before .before .before .before .before .before .before .before .before) _ (lit< tt))
+    (λ c. bytes-fit (c .before .before .before .before .before .before .before .before .before .before .before .before .before) _ (lit< tt))
+    (λ c. within (c .before .before .before .before .before .before .before .before .before .before .before .before .before) _ (lit< tt))
     returns)

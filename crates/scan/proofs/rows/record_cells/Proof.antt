@@ -24,6 +24,7 @@ returns c =
       read-back (r .long) (known .1 .1 .1 .1 .1 .1 .1 .1 .1 .1 .0 .1),
       read-back (r .short) (known .1 .1 .1 .1 .1 .1 .1 .1 .1 .1 .1 .0 .1),
       read-back (r .into) (known .1 .1 .1 .1 .1 .1 .1 .1 .1 .1 .1 .1 .0 .1),
+      read-back (r .day) (known .1 .1 .1 .1 .1 .1 .1 .1 .1 .1 .1 .1 .1 .0 .1),
     )
 
 pub record-cells-spec : {M : Type 1} → statement M

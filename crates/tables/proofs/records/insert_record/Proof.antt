@@ -2,7 +2,7 @@
 use native.Mathlib.Omega.{arith}
 use borrow.Author.Needs.{needs}
 use Rattle.rules.specs.Rows.{recordKey, soundRecord}
-use Rattle.rules.specs.Tables.{recordsLayout, soundRecords}
+use Rattle.rules.specs.Tables.{recordsLayout, soundRecordRows}
 use Rattle.cells.specs.SoundTable.{SoundRecords}
 use Rattle.cells.proofs.RowCells.{records-lawful}
 use Rattle.cells.proofs.SoundCells.{records-known}
@@ -27,7 +27,7 @@ insert-row-requires c κs =
     )
 
 returns : tie.Need-returns
-unfolding soundRecords
+unfolding soundRecordRows
 returns c =
     let r : tie.After-record-cells = c .before .before .before .before in
     let n : tie.After-count = r .before in

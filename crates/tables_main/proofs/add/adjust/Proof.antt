@@ -10,10 +10,10 @@ use borrow.Author.Needs.{needs, sfits-of}
 use Rattle.integers.proofs.Bits.{ofZ-inj}
 use Rattle.rules.specs.Rows.{keyOf, recordKey, adjustedRecord}
 use Rattle.rules.specs.Layout.{rowsOf, rowAt}
-use Rattle.rules.specs.Tables.{recordsLayout, soundRecords}
+use Rattle.rules.specs.Tables.{recordsLayout, soundRecordRows}
 use Rattle.rules.specs.declared.Record.{Record}
 use Rattle.figures.proofs.Tests.{passed}
-use Rattle.cells.proofs.SoundCells.{records-known}
+use Rattle.cells.proofs.SoundCells.{record-rows-sound, records-known}
 use Rattle.lookup.specs.Lookup.{recordSought}
 use Rattle.lookup.proofs.TableLookup.{records-first}
 use Rattle.lookup.proofs.TableSought.{table-present}
@@ -25,8 +25,8 @@ module _ (c : tie.Else1) where
   abbrev start : tie.Start
   start = c .before .before .before
 
-  sound : soundRecords (start .args .cells .now) ≡ true
-  sound = passed (c .before .records-sound .ensures) (c .if1 .left)
+  sound : soundRecordRows (start .args .cells .now) ≡ true
+  sound = record-rows-sound (start .args .cells .now) (passed (c .before .records-sound .ensures) (c .if1 .left))
 
 -- The row that the lookup found is one of the table's.
 module _ (c : tie.After-row) where

@@ -7,8 +7,9 @@ use lib.ListN.{length}
 use borrow.Author.Needs.{needs}
 use Rattle.rules.specs.Rows.{recordKey, soundRecord}
 use Rattle.rules.specs.Layout.{roomOf, rowsOf}
-use Rattle.rules.specs.Tables.{recordsLayout, soundRecords}
+use Rattle.rules.specs.Tables.{recordsLayout, soundRecordRows}
 use Rattle.rules.specs.declared.Record.{Record}
+use Rattle.cells.proofs.SoundCells.{record-rows-sound}
 use Rattle.figures.proofs.Tests.{passed}
 use Rattle.lookup.specs.Lookup.{recordSought}
 use Rattle.lookup.proofs.TableLookup.{records-first}
@@ -25,8 +26,8 @@ module _ (c : tie.Else2) where
   abbrev new : Record
   new = c .before .before .before .before .before .original .result
 
-  table-sound : soundRecords (start .args .cells .now) ≡ true
-  table-sound = passed (c .before .before .before .records-sound .ensures) (c .before .before .if1 .left)
+  table-sound : soundRecordRows (start .args .cells .now) ≡ true
+  table-sound = record-rows-sound (start .args .cells .now) (passed (c .before .before .before .records-sound .ensures) (c .before .before .if1 .left))
 
   record-sound : soundRecord new ≡ true
   record-sound = passed (c .before .sound-record .ensures) (c .if2 .left)

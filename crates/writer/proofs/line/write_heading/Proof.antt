@@ -36,6 +36,12 @@ write-byte-requires-4 c κs = omega (arith, simp (c .before .enum-told4 .given .
 returns-4 : tie.Need-returns-4
 returns-4 c = rw (c .before .before .before .before .enum-told4 .given .1) (c .before .before .write-byte4 .ensures)
 
+write-byte-requires-8 : tie.Need-write-byte-requires-8
+write-byte-requires-8 c κs = omega (arith, simp (c .before .enum-told5 .given .1) at (c .before .before .before .before .pre))
+
+returns-6 : tie.Need-returns-6
+returns-6 c = rw (c .before .before .before .before .enum-told5 .given .1) (c .before .before .write-byte8 .ensures)
+
 -- ---- a give-up's three bytes
 
 give-up : (at next after end b letter : ℕ) (text t u v : List ℕ) → at + 3 ≤ length text → b ≡ letter → Wrote (71 ∷ []) at text next t → Wrote (tab ∷ []) next t after u
@@ -85,6 +91,8 @@ write-heading-spec =
     write-byte-requires-6
     write-byte-requires-7
     (λ c. search needs)
+    write-byte-requires-8
+    (λ c. search needs)
     returns
     (λ c. search needs)
     returns-2
@@ -93,4 +101,6 @@ write-heading-spec =
     (λ c. search needs)
     returns-4
     (λ c. search needs)
-    returns-5)
+    returns-5
+    (λ c. search needs)
+    returns-6)

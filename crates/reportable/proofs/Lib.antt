@@ -1,0 +1,3 @@
+pub mod RowPairs
+pub mod Listing
+pub mod Answers

@@ -1,0 +1,4 @@
+pub mod Standing
+pub mod Reported
+pub mod Listed
+pub mod Lists
