@@ -2,3 +2,4 @@ pub mod Answering
 pub mod OnAllTables
 pub mod StepVerdict
 pub mod StepBooked
+pub mod StepOrder

@@ -1,6 +1,6 @@
 -- The verdict on a step in the shape in which code meets it: test by test up to the record, then the tests of the record, then the room of the process table or, where the step
 -- completes, the tests of what moves. On sound tables. Assumes nothing.
-use Prim.Native.Nat.{_+_}
+use Prim.Native.Nat.{ℕ, _+_}
 use native.Mathlib.Omega.{arith}
 use mathlib.Core.Path.{_≡_, refl, sym, _∙_, ap, subst}
 use mathlib.Core.Bool.{Bool, true, false, cond, not, _&&_}
@@ -10,17 +10,18 @@ use lib.Dec.{ltb}
 use lib.IntN.{ℤ, pos}
 use lib.ListN.{length}
 use borrow.Author.Tests.{le-ltb}
+use Rattle.integers.specs.Order.{eqZ}
 use Rattle.rules.specs.Figures.{isToClose, transferKind, giveUpKind, takeUpKind}
-use Rattle.rules.specs.Keyed.{isSome, find, greatest, absentFrom}
+use Rattle.rules.specs.Keyed.{Key, isSome, find, greatest, absentFrom}
 use Rattle.rules.specs.Rows.{keyOf, recordKey, positionKey, orZeros}
-use Rattle.rules.specs.ProcessRows.{processKey}
+use Rattle.rules.specs.ProcessRows.{processKey, openedProcess, theProcess}
 use Rattle.rules.specs.NamedRecord.{theRecord, nextSuffix, isElsewhere}
 use Rattle.rules.specs.Refusal.{Test, test, anyOf, allOf, firstRefusal}
 use Rattle.rules.specs.Request.{Request, giveUp}
 use Rattle.rules.specs.Books.{viewOf}
 use Rattle.rules.specs.Plan.{withProcessRow, processRoomTest, bookingTests, planTests}
 use Rattle.rules.specs.Transfer.{holdsTooLittle}
-use Rattle.rules.specs.GiveUp.{giveUpFigures, isOutOfTurn, stepped, isComplete, stepStatusTest, stepEffects, finished, giveUpEffects, processBefore, giveUpPlan}
+use Rattle.rules.specs.GiveUp.{giveUpFigures, isOpening, isAt, isOutOfTurn, stepped, isComplete, stepStatusTest, stepEffects, finished, giveUpEffects, processBefore, giveUpPlan}
 use Rattle.rules.specs.Layout.{roomOf, rowsOf}
 use Rattle.rules.specs.Tables.{currentDay, Tables, allTables, tablesOf, booksOf, recordsLayout, positionsLayout, processesLayout}
 use Rattle.rules.specs.Handle.{planOf}
@@ -28,9 +29,13 @@ use Rattle.rules.specs.declared.Record.{Record}
 use Rattle.rules.specs.declared.Position.{Position}
 use Rattle.rules.specs.declared.ProcessRow.{ProcessRow}
 use Rattle.rules.specs.declared.Step.{Step}
-use Rattle.keys.proofs.Clauses.{isSome-none, isSome-some, absentFrom-nil, absentFrom-old}
+use Rattle.rules.specs.declared.Step.the-variants.{Open}
+use Rattle.keys.proofs.Clauses.{isSome-none, isSome-some, absentFrom-nil, absentFrom-new, absentFrom-old}
+use Rattle.keys.proofs.Greatest.{greatest-none}
+use Rattle.keys.proofs.Lookup.{find-key}
 use Rattle.cells.proofs.SoundCells.{record-rows-sound, records-known, positions-known, processes-known}
 use Rattle.soundness.specs.SoundTables.{SoundTables}
+use Rattle.soundness.proofs.GiveUp.{stepped-key}
 use Rattle.verdict.specs.Verdict.{verdictOf, verdictIn}
 use Rattle.verdict.specs.Moving.{movingEffects, movingVerdict}
 use Rattle.verdict.specs.declared.Verdict.the-variants.{Refused}
@@ -42,6 +47,12 @@ passing-end : (xs ys : List Test) → firstRefusal ys ≡ none → firstRefusal 
 unfolding firstRefusal
 passing-end [] ys h = h
 passing-end (t ∷ xs) ys h = ap (λ (o : Option Test). cond (t .applies) (some t) o) (passing-end xs ys h)
+
+-- Lists of tests that end alike.
+pub same-front : (xs ys zs : List Test) → firstRefusal ys ≡ firstRefusal zs → firstRefusal (xs ++ ys) ≡ firstRefusal (xs ++ zs)
+unfolding firstRefusal
+same-front [] ys zs h = h
+same-front (x ∷ xs) ys zs h = ap (λ (o : Option Test). cond (x .applies) (some x) o) (same-front xs ys zs h)
 
 module _ (rs ps qs : List ℤ) (process id suffix giving taking series : ℤ) where
   abbrev pub t : Tables
@@ -71,6 +82,15 @@ module _ (rs ps qs : List ℤ) (process id suffix giving taking series : ℤ) wh
   -- What the step makes of the process.
   abbrev pub after : Step → ProcessRow
   after step = stepped step (processBefore step process id suffix giving taking series foundProcess)
+
+  -- Of an opening: pending, so that it does not complete. Of a later step: by the row that it finds.
+  pub opened-waits : isComplete (after Open) ≡ false
+  unfolding stepped processBefore openedProcess isComplete isAt eqZ
+  opened-waits = refl
+
+  pub after-found : (step : Step) → isOpening step ≡ false → after step ≡ stepped step (theProcess foundProcess)
+  unfolding processBefore
+  after-found step later = ap (λ (b : Bool). stepped step (cond b (openedProcess process id suffix giving taking series) (theProcess foundProcess))) later
 
   -- The tests from 12 on, and from 6 on, of the record r.
   abbrev pub tail : Step → Record → List Test
@@ -144,6 +164,25 @@ module _ (rs ps qs : List ℤ) (process id suffix giving taking series : ℤ) wh
         le-ltb (roomOf processesLayout qs) (length (rowsOf processesLayout qs) + absentFrom processKey (rowsOf processesLayout qs) (p ∷ []))
         (omega (arith, processes-known qs (sound .processes) .rows-fit, absentFrom-old processKey (rowsOf processesLayout qs) p x [] e, absentFrom-nil processKey (rowsOf processesLayout qs))) in
         rw fits
+
+    -- A later step writes its row in the place of the one that it found,
+    pub stepped-stands : (step : Step) (p : ProcessRow) → foundProcess ≡ some p → find processKey (processKey (finished (stepped step p))) (rowsOf processesLayout qs) ≡ some p
+    stepped-stands step p found =
+        ap (λ (k : Key). find processKey k (rowsOf processesLayout qs)) (stepped-key step p ∙ find-key processKey (keyOf process id) (rowsOf processesLayout qs) p found) ∙ found
+
+    pub stepped-room : (step : Step) → isOpening step ≡ false → (p : ProcessRow) → foundProcess ≡ some p → firstRefusal (processRoomTest (booksOf t) (some (finished (after step)))) ≡ none
+    unfolding theProcess
+    stepped-room step later p found =
+        ap (λ (q : ProcessRow). firstRefusal (processRoomTest (booksOf t) (some (finished q)))) (after-found step later ∙ ap (λ (o : Option ProcessRow). stepped step (theProcess o)) found)
+        ∙ present-room (finished (stepped step p)) p (stepped-stands step p found)
+
+    -- and an opening, where its process id is not used, a row more: test 23.
+    pub opened-room : used ≡ none → firstRefusal (processRoomTest (booksOf t) (some (finished (after Open)))) ≡ firstRefusal (test 23 (ltb (roomOf processesLayout qs) (length (rowsOf processesLayout qs) + 1)) ∷ [])
+    unfolding processRoomTest booksOf stepped processBefore openedProcess finished isComplete isAt eqZ
+    opened-room unused =
+        ap (λ (n : ℕ). firstRefusal (test 23 (ltb (roomOf processesLayout qs) (length (rowsOf processesLayout qs) + n)) ∷ []))
+        (absentFrom-new processKey (rowsOf processesLayout qs) (openedProcess process id suffix giving taking series) [] (greatest-none processKey process id (rowsOf processesLayout qs) unused)
+        ∙ ap (λ (n : ℕ). 1 + n) (absentFrom-nil processKey (rowsOf processesLayout qs)))
 
     -- A step that completes has those of a record that moves, and then that of the room.
     pub complete-tail : (step : Step) (r : Record) → isComplete (after step) ≡ true

@@ -16,12 +16,13 @@ use Rattle.rules.specs.Day.{dayPlan}
 use Rattle.rules.specs.Reportable.{reportableTests, reportableRefusal, listedIn, handleReportable}
 use Rattle.rules.specs.Layout.{countOf}
 use Rattle.rules.specs.Tables.{Tables, allTables, tablesOf, recordsLayout, soundRecords, withCurrentDay, booksOf}
-use Rattle.rules.specs.Handle.{Answer, answer, answeredBy, handle, planOf, planTables, refusals, soundnessTests}
+use Rattle.rules.specs.Handle.{answer, answeredBy, handle, planOf, planTables, refusals, soundnessTests}
 use Rattle.rules.specs.declared.Reply.{Reply}
 use Rattle.rules.specs.declared.Reply.the-variants.{Booked}
 use Rattle.soundness.specs.RowsAnswered.{rowsAnswered}
 use Rattle.cells.proofs.SoundCells.{record-rows-sound, records-known}
 use Rattle.cells.proofs.DayCells.{day-written-count, day-written-books}
+use Rattle.history.specs.Beside.{besideOthers}
 use Rattle.history.specs.History.{isAccepted}
 use Rattle.history.proofs.Accepted.{accepted-reply, moved-on-sound, moved-tables}
 
@@ -53,10 +54,6 @@ module _ (t : Tables) (day : ℤ) (ok : isAccepted t (newDay day) ≡ true) wher
   day-reply = accepted-reply t (newDay day) ok
 
 -- ---- beside any tables
-
--- An answer on the records alone, with the other tables of these.
-abbrev pub besideOthers : Tables → Answer → Answer
-besideOthers t a = record { reply = a .reply; output = a .output; tables = allTables (a .tables .records) (t .positions) (t .processes) }
 
 moved-beside : (t u : Tables) (o : Option Test) (day : ℤ) (reply : Reply) → t .records ≡ u .records →
     answer o t (answeredBy reply (withCurrentDay day t)) ≡ besideOthers t (answer o u (answeredBy reply (withCurrentDay day u)))

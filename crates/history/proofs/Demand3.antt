@@ -6,12 +6,13 @@
 -- refuses, or does nothing, is shut out by the rules themselves (demand 2), and not by this theorem, which such a program would satisfy.
 --
 -- By the exchange of neighbours (TableExchange), carried to any reordering (Replay). Assumes nothing.
-use Prim.Native.Nat.{ℕ}
+use Prim.Native.Nat.{ℕ, zero, suc}
 use mathlib.Core.Path.{_≡_, refl, sym, _∙_, ap, ap₂, subst}
 use mathlib.Core.Bool.{Bool, true, false, cond}
 use mathlib.Core.List.{List, [], _∷_, _++_, map}
 use mathlib.Core.Logic.{_⊎_, inl, inr}
 use mathlib.Core.Option.{Option, none, some}
+use lib.ListN.{getElem?}
 use Rattle.rules.specs.Keyed.{isSome}
 use Rattle.rules.specs.Refusal.{Test}
 use Rattle.rules.specs.Tables.{Tables}
@@ -22,8 +23,8 @@ use Rattle.rules.specs.Reader.{readingOf}
 use Rattle.rules.specs.Replay.{replayAnswer, handleReplay}
 use Rattle.rules.specs.Call.{Call, one, trades, replay, reportable, handleCall}
 use Rattle.rules.specs.Run.{afterReply, run}
-use Rattle.keys.proofs.Split.{split, cond-true, cond-false}
-use Rattle.history.specs.History.{callAccepted, Entry, callsOf, entryOf, asEntry, bookedBy, entriesOf, acceptedEntries, entriesTouch, Reordering}
+use Rattle.keys.proofs.Split.{split, cond-true, cond-false, none-some, some-inj}
+use Rattle.history.specs.History.{callAccepted, Entry, callsOf, entryOf, asEntry, bookedBy, entriesOf, acceptedEntries, entriesTouch, Reordering, AcceptedAs, tablesBefore, AcceptedAgain}
 use Rattle.history.proofs.Accepted.{refused-tables}
 use Rattle.history.proofs.DayAlone.{list-stays}
 use Rattle.history.proofs.Replay.{Replays, replays-then, replay-reordered}
@@ -70,7 +71,15 @@ history-replays t [] = refl
 history-replays t (c ∷ rest) =
     replays-then Does next (entriesOf t c) (acceptedEntries (handleCall t c .tables) rest) t (handleCall t c .tables) _ (call-replays t c) (history-replays (handleCall t c .tables) rest)
 
--- A replay is a history in which every call is accepted.
+-- A replay is a history in which every call is accepted: at each place on the tables that the calls before it leave,
+each-accepted : (entries : List Entry) (t end : Tables) → Replays Does next t entries end → (place : ℕ) (e : Entry) → getElem? entries place ≡ some e → AcceptedAs (tablesBefore t entries place) e
+unfolding run afterReply
+each-accepted [] t end h place e found = none-some refl found
+each-accepted (x ∷ rest) t end h zero e found =
+    subst (λ (y : Entry). AcceptedAs t y) (some-inj refl found) (record { accepted = h .0 .0; reply = ap (λ (y : Entry). y .reply) (h .0 .1); output = ap (λ (y : Entry). y .output) (h .0 .1) })
+each-accepted (x ∷ rest) t end h (suc place) e found = each-accepted rest (next t x) end (h .1) place e found
+
+-- and its accepted entries are those that were handed in, no more and no fewer.
 replayed : (entries : List Entry) (t end : Tables) → Replays Does next t entries end →
     (acceptedEntries t (callsOf entries) ≡ entries) × (run t (callsOf entries) .tables ≡ end)
 unfolding acceptedEntries entriesOf run afterReply
@@ -79,6 +88,9 @@ replayed (e ∷ rest) t end h =
     let again : (acceptedEntries (next t e) (callsOf rest) ≡ rest) × (run (next t e) (callsOf rest) .tables ≡ end) = replayed rest (next t e) end (h .1) in
     let this : entriesOf t (e .call) ≡ e ∷ [] = cond-true (entryOf t (e .call) ∷ []) (bookedBy t (e .call)) (h .0 .0) ∙ ap (λ (x : Entry). x ∷ []) (h .0 .1) in
     (ap₂ (λ (l m : List Entry). l ++ m) this (again .0), again .1)
+
+accepted-again : (entries : List Entry) (t end : Tables) → Replays Does next t entries end → AcceptedAgain t entries end
+accepted-again entries t end h = record { each = each-accepted entries t end h; same-cells = replayed entries t end h .1 }
 
 -- Every order is such a reordering of itself.
 pub own-order : {Item : Type 0} (touches : Item → Item → Bool) (items : List Item) → Reordering touches items items
@@ -92,18 +104,20 @@ own-order touches items = record {
 }
 
 -- In the order of the first list itself, with what was refused left out.
-pub without-refused : (t : Tables) (calls : List Call) →
-    (acceptedEntries t (callsOf (acceptedEntries t calls)) ≡ acceptedEntries t calls)
-    × (run t (callsOf (acceptedEntries t calls)) .tables ≡ run t calls .tables)
-without-refused t calls = replayed (acceptedEntries t calls) t (run t calls .tables) (history-replays t calls)
+pub without-refused : (t : Tables) (calls : List Call) → AcceptedAgain t (acceptedEntries t calls) (run t calls .tables)
+without-refused t calls = accepted-again (acceptedEntries t calls) t (run t calls .tables) (history-replays t calls)
 
-pub demand-3 : (t : Tables) (calls : List Call) (new : List Entry) → Reordering entriesTouch (acceptedEntries t calls) new →
-    (acceptedEntries t (callsOf new) ≡ new) × (run t (callsOf new) .tables ≡ run t calls .tables)
-demand-3 t calls new order =
-    replayed new t (run t calls .tables)
-    (replay-reordered Does next entriesTouch entries-exchanged new (acceptedEntries t calls) t (run t calls .tables) order (history-replays t calls))
+module _ (t : Tables) (calls : List Call) (new : List Entry) (order : Reordering entriesTouch (acceptedEntries t calls) new) where
+  in-new-order : Replays Does next t new (run t calls .tables)
+  in-new-order = replay-reordered Does next entriesTouch entries-exchanged new (acceptedEntries t calls) t (run t calls .tables) order (history-replays t calls)
 
--- So the reporting list (document 02, K8) that is asked for afterwards, at the day's end, is the same whichever of these orders the day's requests had: its reply, its pairs and every cell.
-pub list-at-day's-end : (t : Tables) (calls : List Call) (new : List Entry) → Reordering entriesTouch (acceptedEntries t calls) new → (cells : ℕ) →
-    handleCall (run t (callsOf new) .tables) (reportable cells) ≡ handleCall (run t calls .tables) (reportable cells)
-list-at-day's-end t calls new order cells = ap (λ (u : Tables). handleCall u (reportable cells)) (demand-3 t calls new order .1)
+  pub demand-3 : AcceptedAgain t new (run t calls .tables)
+  demand-3 = accepted-again new t (run t calls .tables) in-new-order
+
+  -- So the second run's accepted entries are the new list: nothing in it is refused, or stands as anything but itself.
+  pub same-entries : acceptedEntries t (callsOf new) ≡ new
+  same-entries = replayed new t (run t calls .tables) in-new-order .0
+
+  -- And the reporting list (document 02, K8) that is asked for afterwards, at the day's end, is the same whichever of these orders the day's requests had: its reply, its pairs and every cell.
+  pub list-at-day's-end : (cells : ℕ) → handleCall (run t (callsOf new) .tables) (reportable cells) ≡ handleCall (run t calls .tables) (reportable cells)
+  list-at-day's-end cells = ap (λ (u : Tables). handleCall u (reportable cells)) (demand-3 .same-cells)

@@ -4,6 +4,7 @@ pub mod Named
 pub mod Refusals
 pub mod Locality
 pub mod ProcessesApart
+pub mod BatchApart
 pub mod Effects
 pub mod OwnKeys
 pub mod Unseen
@@ -23,6 +24,7 @@ pub mod Answers
 pub mod LineageAlone
 pub mod OnTables
 pub mod CallsOnTables
+pub mod TablesKept
 pub mod OpenProcesses
 pub mod RecordsUnder
 pub mod StepMatched

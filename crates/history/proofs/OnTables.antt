@@ -34,7 +34,8 @@ use Rattle.keys.proofs.Split.{split}
 use Rattle.history.specs.History.{isAccepted}
 use Rattle.history.proofs.Accepted.{refused-tables, accepted-rows, accepted-reply, all-sound, booked-on-sound}
 use Rattle.history.proofs.Locality.{same-sources}
-use Rattle.history.proofs.ProcessesApart.{withAnswer, apart-promised}
+use Rattle.history.specs.Beside.{withAnswer}
+use Rattle.history.proofs.ProcessesApart.{apart-promised}
 use Rattle.history.proofs.TableExchange.{accepts-as, no-step, no-processes-sound}
 use Rattle.history.proofs.Answers.{not-accepted-refused}
 use Rattle.history.proofs.LineageAlone.{lineage-stays}

@@ -20,11 +20,8 @@ use Rattle.rules.specs.Tables.{Tables, tablesOf, withProcesses, booksOf, writeB
 use Rattle.rules.specs.Handle.{Answer, answer, answeredBy, handle, planOf, soundProcessesTest, soundnessTests, refusals, writtenBy, planTables, refusalOf}
 use Rattle.rules.specs.declared.ProcessRow.{ProcessRow}
 use Rattle.keys.proofs.Split.{clash}
+use Rattle.history.specs.Beside.{withAnswer}
 use Rattle.history.proofs.Locality.{same-sources}
-
--- The answer, with another process table.
-abbrev pub withAnswer : List ℤ → Answer → Answer
-withAnswer processes a = record { reply = a .reply; output = a .output; tables = withProcesses processes (a .tables) }
 
 -- A plan that puts no process row.
 abbrev NoProcess : Plan → Type 0
@@ -86,7 +83,7 @@ module _ (processes : List ℤ) (t : Tables) where
   tables-apart (question tests reply) h = refl
   tables-apart (dayMove tests day) h = refl
 
-  answer-apart : (o : Option Test) (a b : Answer) → a ≡ withAnswer processes b → answer o other a ≡ withAnswer processes (answer o t b)
+  pub answer-apart : (o : Option Test) (a b : Answer) → a ≡ withAnswer processes b → answer o other a ≡ withAnswer processes (answer o t b)
   unfolding answer
   answer-apart none a b h = h
   answer-apart (some x) a b h = refl

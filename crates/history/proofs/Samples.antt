@@ -11,7 +11,7 @@ use Rattle.rules.specs.Call.{one}
 use Rattle.rules.specs.Run.{run}
 use Rattle.rules.specs.declared.Reply.the-variants.{Booked, ClosingError, BadLine, LineRefused}
 use Rattle.rules.proofs.Computed.{Computed}
-use Rattle.history.specs.History.{Entry, isAccepted, callAccepted, bookedBy, entriesOf, acceptedEntries, entriesTouch, callsOf, Reordering}
+use Rattle.history.specs.History.{Entry, isAccepted, callAccepted, bookedBy, entriesOf, acceptedEntries, entriesTouch, callsOf, Reordering, AcceptedAgain}
 use Rattle.history.specs.ByPlaces.{eachTwo, mayStand, isOrder}
 use Rattle.history.specs.UnderGiveUp.{isOpenFor, openFor}
 use Rattle.history.specs.Sample.{start, upToRefused, upToBad, history, accepted, places, past, another, finish, underWay, ended, buy, sell}
@@ -44,7 +44,7 @@ unfolding ComputedHistory
 sample-cells-again = refl
 
 -- The theorem says it of this order without computing.
-pub sample-by-demand-3 : (acceptedEntries start (callsOf another) ≡ another) × (run start (callsOf another) .tables ≡ run start history .tables)
+pub sample-by-demand-3 : AcceptedAgain start another (run start history .tables)
 sample-by-demand-3 = demand-3 start history another (subst (λ (l : List Entry). Reordering entriesTouch l another) (sym sample-accepted) sample-order)
 
 -- The fourth line is refused 4; in the other text the second is bad.

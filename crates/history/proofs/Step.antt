@@ -109,7 +109,7 @@ module _ (t : Tables) (sound : SoundTables t) (r : Request) (ok : isAccepted t r
 
   -- Of a request that leaves the current day.
   module _ (leaves : LeavesDay (planAt t r)) where
-    new-books-fit : Fitting t (after (booksOf t) r)
+    pub new-books-fit : Fitting t (after (booksOf t) r)
     new-books-fit =
         fitting t (sound .records) (sound .positions) (sound .processes) (after (booksOf t) r) (later (booksOf t) (planAt t r) .rooms)
         (record { records = new-books-sound .records-fit; positions = new-books-sound .positions-fit; processes = new-books-sound .processes-fit })

@@ -5,7 +5,7 @@ use mathlib.Core.Bool.{Bool, true, false, cond, not, _&&_}
 use mathlib.Core.List.{List, [], _∷_, _++_, map}
 use mathlib.Core.Option.{some}
 use lib.IntN.{ℤ}
-use lib.ListN.{length, getElem?}
+use lib.ListN.{length, getElem?, take}
 use Rattle.rules.specs.Keyed.{isSome}
 use Rattle.rules.specs.Request.{Request}
 use Rattle.rules.specs.Tables.{Tables}
@@ -16,6 +16,7 @@ use Rattle.rules.specs.Reader.{readingOf}
 use Rattle.rules.specs.Reportable.{reportableRefusal}
 use Rattle.rules.specs.Call.{Call, one, trades, replay, reportable, handleCall}
 use Rattle.rules.specs.Touching.{callsTouch}
+use Rattle.rules.specs.Run.{run}
 use Rattle.rules.specs.declared.Reply.{Reply}
 
 -- "A request is accepted when no refusal number applies to it."
@@ -75,3 +76,20 @@ pub record Reordering {Item : Type 0} (touches : Item → Item → Bool) (old ne
   pub once : (i j : ℕ) → i < length new → j < length new → from i ≡ from j → i ≡ j
   pub same : (j : ℕ) → j < length new → getElem? new j ≡ getElem? old (from j)
   pub kept : (i j : ℕ) (x y : Item) → i < j → getElem? new i ≡ some x → getElem? new j ≡ some y → touches x y ≡ true → from i < from j
+
+-- ---- "are accepted again with the same answers and end in the same cells"
+
+-- The call of an entry is accepted on these tables, and its reply and what it writes to a lent output are the entry's.
+pub record AcceptedAs (t : Tables) (e : Entry) : Type 0 where
+  pub accepted : callAccepted t (e .call) ≡ true
+  pub reply : handleCall t (e .call) .reply ≡ e .reply
+  pub output : handleCall t (e .call) .output ≡ e .output
+
+-- The tables that the calls before a place leave.
+abbrev pub tablesBefore : Tables → List Entry → ℕ → Tables
+tablesBefore t entries place = run t (callsOf (take place entries)) .tables
+
+-- Handed in one after the other from these tables, the call at each place is accepted with its entry's answer, and all of them end in these cells.
+pub record AcceptedAgain (t : Tables) (entries : List Entry) (end : Tables) : Type 0 where
+  pub each : (place : ℕ) (e : Entry) → getElem? entries place ≡ some e → AcceptedAs (tablesBefore t entries place) e
+  pub same-cells : run t (callsOf entries) .tables ≡ end

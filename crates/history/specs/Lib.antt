@@ -5,3 +5,5 @@ pub mod ByPlaces
 pub mod Sample
 pub mod UnderGiveUp
 pub mod EmptyTables
+pub mod Beside
+pub mod Kept

@@ -1,31 +1,27 @@
 -- A step on a give-up that is open, on sound tables: refused 18 where it finds no such process or it isn't its turn, else judged by the tests of the record, and where it completes by those of a
 -- record that moves. Booked, the tables are what the rules say. Assumes nothing.
-use mathlib.Core.Path.{_≡_, refl, sym, _∙_, ap, subst}
+use mathlib.Core.Path.{_≡_, refl, sym, _∙_, ap}
 use mathlib.Core.Bool.{Bool, true, false, cond, not, _&&_}
 use mathlib.Core.List.{List, [], _∷_, _++_}
 use mathlib.Core.Option.{Option, none, some}
 use lib.IntN.{ℤ, pos}
-use Rattle.integers.specs.Order.{eqZ}
 use Rattle.rules.specs.Figures.{giveUpKind, takeUpKind}
-use Rattle.rules.specs.Keyed.{Key, find, upsert, upsertAll}
-use Rattle.rules.specs.Rows.{keyOf, recordKey}
-use Rattle.rules.specs.ProcessRows.{processKey, openedProcess, theProcess}
-use Rattle.rules.specs.Refusal.{Test, test, firstRefusal}
+use Rattle.rules.specs.Keyed.{find, upsert, upsertAll}
+use Rattle.rules.specs.Rows.{recordKey}
+use Rattle.rules.specs.ProcessRows.{processKey, theProcess}
+use Rattle.rules.specs.Refusal.{Test, firstRefusal}
 use Rattle.rules.specs.Request.{Request}
 use Rattle.rules.specs.Plan.{processRoomTest}
-use Rattle.rules.specs.GiveUp.{giveUpFigures, isOpening, hasFigures, hasTurn, mayStep, isOutOfTurn, stepped, isComplete, stepStatusTest, recordAfter, finished, processBefore}
-use Rattle.rules.specs.NamedRecord.{statusTest}
+use Rattle.rules.specs.GiveUp.{giveUpFigures, isOpening, hasFigures, hasTurn, mayStep, isOutOfTurn, stepped, isComplete, stepStatusTest, recordAfter, finished}
 use Rattle.rules.specs.Layout.{rowsOf, write}
-use Rattle.rules.specs.Tables.{allTables, booksOf, recordsLayout, positionsLayout, processesLayout}
+use Rattle.rules.specs.Tables.{allTables, booksOf, recordsLayout, processesLayout}
 use Rattle.rules.specs.Handle.{answeredBy}
 use Rattle.rules.specs.declared.Record.{Record}
 use Rattle.rules.specs.declared.ProcessRow.{ProcessRow}
 use Rattle.rules.specs.declared.Reply.the-variants as Reply
 use Rattle.rules.specs.declared.Step.{Step}
 use Rattle.keys.proofs.Split.{none-some}
-use Rattle.keys.proofs.Lookup.{find-key}
 use Rattle.soundness.specs.SoundTables.{SoundTables}
-use Rattle.soundness.proofs.GiveUp.{stepped-key}
 use Rattle.verdict.specs.Verdict.{verdictOf, verdictIn}
 use Rattle.verdict.specs.Moving.{movingEffects, movingVerdict, recordsAfter, positionsAfter}
 use Rattle.verdict.specs.declared.Verdict.the-variants.{Accepted, Refused}
@@ -35,7 +31,7 @@ use Rattle.verdict.proofs.Remaining.{verdictBy}
 use Rattle.give_up_steps.specs.HandledIn.{HandledIn}
 use Rattle.give_up_steps.specs.StepTests.{laterTests}
 use Rattle.give_up_steps.proofs.Answering.{refused-soundly, booked-soundly}
-use Rattle.give_up_steps.proofs.StepVerdict.{request, used, foundProcess, foundRecord, after, tail, past-found, refuses-figures, refuses-turn, refuses-missing, step-tail, present-room, complete-tail}
+use Rattle.give_up_steps.proofs.StepVerdict.{request, used, foundProcess, foundRecord, after, after-found, tail, past-found, refuses-figures, refuses-turn, refuses-missing, step-tail, stepped-stands as written-in-place, stepped-room, complete-tail}
 use Rattle.give_up_steps.proofs.StepBooked.{processesWith, step-booked, complete-booked}
 
 -- Tests that pass at the front of a list change nothing.
@@ -85,20 +81,15 @@ module _ (rs ps qs : List ℤ) (sound : SoundTables (allTables rs ps qs)) (proce
 
         -- What the step makes of the row that it found.
         after-is : after rs ps qs process id suffix giving taking series step ≡ stepped step x
-        unfolding processBefore theProcess
-        after-is =
-            ap (λ (b : Bool). stepped step (cond b (openedProcess process id suffix giving taking series) (theProcess (foundProcess rs ps qs process id suffix giving taking series)))) later
-            ∙ ap (λ (o : Option ProcessRow). stepped step (theProcess o)) found
+        unfolding theProcess
+        after-is = after-found rs ps qs process id suffix giving taking series step later ∙ ap (λ (o : Option ProcessRow). stepped step (theProcess o)) found
 
         -- Its row has the key of the row that it found, and is written in its place.
         pub stepped-stands : find processKey (processKey (finished (stepped step x))) (rowsOf processesLayout qs) ≡ some x
-        stepped-stands =
-            ap (λ (k : Key). find processKey k (rowsOf processesLayout qs)) (stepped-key step x ∙ find-key processKey (keyOf process id) (rowsOf processesLayout qs) x found) ∙ found
+        stepped-stands = written-in-place rs ps qs process id suffix giving taking series sound step x found
 
         has-room : firstRefusal (processRoomTest (booksOf (allTables rs ps qs)) (some (finished (after rs ps qs process id suffix giving taking series step)))) ≡ none
-        has-room =
-            ap (λ (p : ProcessRow). firstRefusal (processRoomTest (booksOf (allTables rs ps qs)) (some (finished p)))) after-is
-            ∙ present-room rs ps qs process id suffix giving taking series sound (finished (stepped step x)) x stepped-stands
+        has-room = stepped-room rs ps qs process id suffix giving taking series sound step later x found
 
         pub later-missing : foundRecord rs ps qs process id suffix giving taking series ≡ none
             → HandledIn (allTables rs ps qs) steps (answeredBy (Reply.Refused (pos 5) (pos 0)) (allTables rs ps qs))

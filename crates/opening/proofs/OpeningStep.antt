@@ -1,44 +1,34 @@
 -- An opening on sound tables: refused 18 where the process id is used, else judged by the tests of the record and the process table's room; booked, the record has status 3 and the table the
 -- new row. Assumes nothing.
-use Prim.Native.Nat.{_+_}
 use mathlib.Core.Path.{_≡_, refl, sym, _∙_, ap}
 use mathlib.Core.Bool.{true, false}
 use mathlib.Core.List.{List, [], _∷_}
 use mathlib.Core.Option.{Option, none, some}
-use lib.Dec.{ltb}
 use lib.IntN.{ℤ, pos}
-use lib.ListN.{length}
 use Rattle.integers.specs.Order.{eqZ}
 use Rattle.rules.specs.Figures.{underGiveUp}
 use Rattle.rules.specs.Keyed.{isSome, upsert, upsertAll}
 use Rattle.rules.specs.Rows.{recordKey, withStatus}
 use Rattle.rules.specs.ProcessRows.{processKey, openedProcess}
-use Rattle.rules.specs.Refusal.{Test, test, firstRefusal}
+use Rattle.rules.specs.Refusal.{firstRefusal}
 use Rattle.rules.specs.Request.{Request}
-use Rattle.rules.specs.Plan.{processRoomTest}
 use Rattle.rules.specs.GiveUp.{giveUpFigures, isAt, isOutOfTurn, stepped, isComplete, stepStatusTest, recordAfter, finished, processBefore}
-use Rattle.rules.specs.Layout.{roomOf, rowsOf, write}
-use Rattle.rules.specs.Tables.{allTables, booksOf, recordsLayout, processesLayout}
+use Rattle.rules.specs.Layout.{rowsOf, write}
+use Rattle.rules.specs.Tables.{allTables, recordsLayout, processesLayout}
 use Rattle.rules.specs.Handle.{answeredBy}
 use Rattle.rules.specs.declared.Record.{Record}
 use Rattle.rules.specs.declared.ProcessRow.{ProcessRow}
 use Rattle.rules.specs.declared.Reply.the-variants as Reply
 use Rattle.rules.specs.declared.Step.the-variants.{Open}
-use Rattle.keys.proofs.Clauses.{isSome-none, isSome-some, upsertAll-nil, upsertAll-cons, absentFrom-nil, absentFrom-new}
-use Rattle.keys.proofs.Greatest.{greatest-none}
+use Rattle.keys.proofs.Clauses.{isSome-none, isSome-some, upsertAll-nil, upsertAll-cons}
 use Rattle.soundness.specs.SoundTables.{SoundTables}
 use Rattle.verdict.specs.Verdict.{verdictOf, verdictIn}
 use Rattle.verdict.specs.declared.Verdict.the-variants.{Accepted, Refused}
 use Rattle.give_up_steps.specs.HandledIn.{HandledIn}
 use Rattle.give_up_steps.specs.StepTests.{openingTests}
 use Rattle.give_up_steps.proofs.Answering.{refused-soundly, booked-soundly}
-use Rattle.give_up_steps.proofs.StepVerdict.{request, used, foundProcess, foundRecord, after, past-found, refuses-figures, refuses-turn, refuses-missing, step-tail}
+use Rattle.give_up_steps.proofs.StepVerdict.{same-front, request, used, foundProcess, foundRecord, after, opened-waits, opened-room, past-found, refuses-figures, refuses-turn, refuses-missing, step-tail}
 use Rattle.give_up_steps.proofs.StepBooked.{step-booked}
-
--- One after three others that are alike.
-fourth : (a b c : Test) (xs ys : List Test) → firstRefusal xs ≡ firstRefusal ys → firstRefusal (a ∷ b ∷ c ∷ xs) ≡ firstRefusal (a ∷ b ∷ c ∷ ys)
-unfolding firstRefusal
-fourth a b c xs ys h = rw h
 
 module _ (rs ps qs : List ℤ) (sound : SoundTables (allTables rs ps qs)) (process id suffix giving taking series : ℤ) where
   abbrev pub opens : Request
@@ -46,11 +36,6 @@ module _ (rs ps qs : List ℤ) (sound : SoundTables (allTables rs ps qs)) (proce
 
   abbrev row : ProcessRow
   row = openedProcess process id suffix giving taking series
-
-  -- The row that it makes is pending, so that it is not complete.
-  not-complete : isComplete (after rs ps qs process id suffix giving taking series Open) ≡ false
-  unfolding stepped processBefore openedProcess isComplete isAt eqZ
-  not-complete = refl
 
   row-finished : finished (after rs ps qs process id suffix giving taking series Open) ≡ row
   unfolding stepped processBefore openedProcess finished isComplete isAt eqZ
@@ -76,25 +61,15 @@ module _ (rs ps qs : List ℤ) (sound : SoundTables (allTables rs ps qs)) (proce
           → HandledIn (allTables rs ps qs) opens (answeredBy (Reply.Refused (pos 5) (pos 0)) (allTables rs ps qs))
       opening-missing e = refused-soundly (allTables rs ps qs) sound opens (pos 5) (pos 0) (refuses-missing rs ps qs process id suffix giving taking series Open figures turn e)
 
-      -- Test 23 counts one row more.
-      room-test : firstRefusal (processRoomTest (booksOf (allTables rs ps qs)) (some row))
-          ≡ firstRefusal (test 23 (ltb (roomOf processesLayout qs) (length (rowsOf processesLayout qs) + 1)) ∷ [])
-      unfolding processRoomTest booksOf openedProcess
-      room-test =
-          ap (λ (n : _). firstRefusal (test 23 (ltb (roomOf processesLayout qs) (length (rowsOf processesLayout qs) + n)) ∷ []))
-          (absentFrom-new processKey (rowsOf processesLayout qs) row [] (greatest-none processKey process id (rowsOf processesLayout qs) unused)
-          ∙ ap (λ (n : _). 1 + n) (absentFrom-nil processKey (rowsOf processesLayout qs)))
-
       pub opening-judged : (r : Record) → foundRecord rs ps qs process id suffix giving taking series ≡ some r
           → verdictIn (allTables rs ps qs) opens ≡ verdictOf (firstRefusal (openingTests qs r giving series))
       unfolding stepStatusTest
       opening-judged r e =
           past-found rs ps qs process id suffix giving taking series Open figures turn r e .is
           ∙ ap verdictOf
-          (fourth _ _ _ _ _
-          (step-tail rs ps qs process id suffix giving taking series sound Open r not-complete
-          ∙ ap (λ (p : ProcessRow). firstRefusal (processRoomTest (booksOf (allTables rs ps qs)) (some p))) row-finished
-          ∙ room-test))
+          (same-front (_ ∷ _ ∷ _ ∷ []) _ _
+          (step-tail rs ps qs process id suffix giving taking series sound Open r (opened-waits rs ps qs process id suffix giving taking series)
+          ∙ opened-room rs ps qs process id suffix giving taking series sound unused))
 
       pub opening-refused : (r : Record) → foundRecord rs ps qs process id suffix giving taking series ≡ some r → (n p : ℤ)
           → verdictOf (firstRefusal (openingTests qs r giving series)) ≡ Refused n p
@@ -110,7 +85,7 @@ module _ (rs ps qs : List ℤ) (sound : SoundTables (allTables rs ps qs)) (proce
       opening-booked r e v rs₁ qs₁ f g =
           booked-soundly (allTables rs ps qs) sound opens (opening-judged r e ∙ v) _
           ((λ i. answeredBy (Reply.Booked (pos 0) (pos 0)) (allTables ((f ∙ one-put) i) ps ((g ∙ as-finished) i)))
-          ∙ sym (step-booked rs ps qs process id suffix giving taking series Open r e not-complete (sound .positions)))
+          ∙ sym (step-booked rs ps qs process id suffix giving taking series Open r e (opened-waits rs ps qs process id suffix giving taking series) (sound .positions)))
         where
           one-put : write recordsLayout rs (upsert recordKey (withStatus underGiveUp r) (rowsOf recordsLayout rs))
               ≡ write recordsLayout rs (upsertAll recordKey (withStatus underGiveUp r ∷ []) (rowsOf recordsLayout rs))

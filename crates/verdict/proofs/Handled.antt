@@ -105,7 +105,7 @@ module _ (t : Tables) where
     processes-pass none rest = refl
     processes-pass (some p) rest = rw (sound .processes)
 
-    plan-sound : (plan : Plan) → firstRefusal (refusals t plan) ≡ firstRefusal (planTests (booksOf t) plan)
+    pub plan-sound : (plan : Plan) → firstRefusal (refusals t plan) ≡ firstRefusal (planTests (booksOf t) plan)
     unfolding refusals soundnessTests firstRefusal test
     plan-sound (booking tests e) = rw (sound .records, sound .positions) (processes-pass (e .process) (planTests (booksOf t) (booking tests e)))
     plan-sound (question tests reply) = rw (sound .records)
