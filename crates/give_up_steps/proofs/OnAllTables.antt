@@ -6,8 +6,8 @@ use mathlib.Core.Bool.{Bool, true, false, not}
 use mathlib.Core.List.{List, [], _∷_}
 use lib.IntN.{ℤ, pos}
 use Rattle.rules.specs.Refusal.{test, firstRefusal}
-use Rattle.rules.specs.Request.{giveUp}
-use Rattle.rules.specs.GiveUp.{giveUpEffects, giveUpPlan}
+use Rattle.rules.specs.Request.{giveUp, isStep}
+use Rattle.rules.specs.GiveUp.{giveUpPlan}
 use Rattle.rules.specs.Tables.{allTables, soundRecords, soundPositions, soundProcesses}
 use Rattle.rules.specs.Handle.{handle, answeredBy, planOf, soundProcessesTest, soundnessTests}
 use Rattle.rules.specs.declared.Reply.the-variants as Reply
@@ -50,7 +50,7 @@ module _ (rs ps qs : List ℤ) where
 module _ (rs ps qs : List ℤ) {v : Verdict} (judged : v ≡ verdictOnAllTables rs ps qs) where
   pub unsound-refused : (step : Step) (process id suffix giving taking series n p : ℤ) → v ≡ Verdict.Refused n p
       → answeredBy (Reply.Refused n p) (allTables rs ps qs) ≡ handle (allTables rs ps qs) (giveUp step process id suffix giving taking series)
-  unfolding verdictOnAllTables soundnessTests soundProcessesTest planOf giveUpPlan giveUpEffects
+  unfolding verdictOnAllTables soundnessTests soundProcessesTest isStep planOf giveUpPlan
   unsound-refused step process id suffix giving taking series n p refused =
       sym (unsound-in (allTables rs ps qs) (giveUp step process id suffix giving taking series) n p (sym judged ∙ refused))
 

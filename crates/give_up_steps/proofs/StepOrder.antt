@@ -26,7 +26,6 @@ use Rattle.rules.specs.declared.Step.the-variants.{Open}
 use Rattle.keys.proofs.Split.{split, clash, none-some, some-inj}
 use Rattle.keys.proofs.Counts.{isSome-absent}
 use Rattle.keys.proofs.Clauses.{isSome-none, isSome-some, greatest-nil, greatest-here, greatest-there}
-use Rattle.soundness.specs.SoundBooks.{planOn}
 use Rattle.soundness.specs.SoundTables.{SoundTables}
 use Rattle.history.proofs.Refusals.{no-refusal}
 use Rattle.verdict.proofs.Handled.{plan-sound}
@@ -82,7 +81,7 @@ module _ (t : Tables) (sound : SoundTables t) (process id suffix giving taking s
   pub opening-order : refusalOf t (giveUp Open process id suffix giving taking series) ≡ firstRefusal (openingRefusals t process id suffix giving taking series)
   unfolding planOf giveUpPlan planTests openingRefusals viewOf booksOf isOutOfTurn stepStatusTest
   opening-order =
-      plan-sound t sound (planOn (booksOf t) (giveUp Open process id suffix giving taking series))
+      plan-sound t sound (giveUp Open process id suffix giving taking series) _
       ∙ past-second _ 18 _ _ _ (λ unused.
       same-front (_ ∷ _ ∷ _ ∷ _ ∷ []) (tail rs ps qs process id suffix giving taking series Open (theRecord _)) _
       (step-tail rs ps qs process id suffix giving taking series sound Open (theRecord _) (opened-waits rs ps qs process id suffix giving taking series)
@@ -98,7 +97,7 @@ module _ (t : Tables) (sound : SoundTables t) (process id suffix giving taking s
       → refusalOf t (giveUp step process id suffix giving taking series) ≡ firstRefusal (laterRefusals step t process id suffix giving taking series)
   unfolding planOf giveUpPlan planTests laterRefusals completes viewOf booksOf isOutOfTurn stepStatusTest
   later-order step later waits =
-      plan-sound t sound (planOn (booksOf t) (giveUp step process id suffix giving taking series))
+      plan-sound t sound (giveUp step process id suffix giving taking series) _
       ∙ rw later
       (past-second _ 18 _ _ _ (λ turn.
       let (p, at) = found step (foundProcess rs ps qs process id suffix giving taking series) turn in

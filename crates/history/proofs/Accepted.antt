@@ -2,7 +2,7 @@
 -- its tests hold of the rows. Only a question and a new day are accepted where the positions are not sound; a question writes nothing, a new day the current day alone; a step of a give-up is accepted
 -- only where the processes are sound too. Assumes nothing.
 use mathlib.Core.Path.{_≡_, refl, sym, _∙_, ap, subst}
-use mathlib.Core.Bool.{true, false, not}
+use mathlib.Core.Bool.{Bool, true, false, cond, not}
 use mathlib.Core.List.{List, [], _∷_}
 use mathlib.Core.Logic.{_⊎_, inl, inr}
 use mathlib.Core.Option.{Option, none, some}
@@ -10,12 +10,11 @@ use borrow.Author.Tests.{not-true, not-false}
 use lib.IntN.{ℤ}
 use Rattle.rules.specs.Keyed.{isSome}
 use Rattle.rules.specs.Refusal.{Test, test, firstRefusal}
-use Rattle.rules.specs.Request.{Request}
+use Rattle.rules.specs.Request.{Request, isStep}
 use Rattle.rules.specs.Reply.{refusedBy}
 use Rattle.rules.specs.Plan.{Effects, Plan, booking, question, dayMove, planTests, planReply}
 use Rattle.rules.specs.Tables.{Tables, soundRecords, soundPositions, soundProcesses, withCurrentDay, booksOf}
 use Rattle.rules.specs.Handle.{soundProcessesTest, soundnessTests, refusals, planTables, answer, answeredBy, refusalOf, handle}
-use Rattle.rules.specs.declared.ProcessRow.{ProcessRow}
 use Rattle.soundness.specs.SoundBooks.{planOn, Accepts}
 use Rattle.soundness.specs.SoundTables.{SoundTables}
 use Rattle.keys.proofs.Counts.{isSome-absent, isSome-present}
@@ -24,39 +23,39 @@ use Rattle.history.specs.History.{isAccepted}
 use Rattle.history.proofs.Effects.{LeavesDay}
 use Rattle.history.proofs.Refusals.{no-refusal, test-passes, rest-passes, passes-test, left-passes, right-passes, both-pass}
 
--- Test 19, of a plan that puts a process row.
-abbrev pub ProcessesSound : Tables → Option ProcessRow → Type 0
-ProcessesSound t none = Unit {0}
-ProcessesSound t (some p) = soundProcesses (t .processes) ≡ true
-
-nineteen-passes : (t : Tables) (o : Option ProcessRow) → soundProcesses (t .processes) ≡ true → firstRefusal (soundProcessesTest t o) ≡ none
+-- Test 19.
+nineteen-passes : (t : Tables) (r : Request) → soundProcesses (t .processes) ≡ true → firstRefusal (soundProcessesTest t r) ≡ none
 unfolding soundProcessesTest
-nineteen-passes t none h = no-refusal
-nineteen-passes t (some p) h = passes-test 19 (not (soundProcesses (t .processes))) [] (ap not h) no-refusal
+nineteen-passes t r h = go (isStep r)
+  where
+    go : (b : Bool) → firstRefusal (cond b (test 19 (not (soundProcesses (t .processes))) ∷ []) []) ≡ none
+    go true = passes-test 19 (not (soundProcesses (t .processes))) [] (ap not h) no-refusal
+    go false = no-refusal
 
-nineteen-passed : (t : Tables) (o : Option ProcessRow) → firstRefusal (soundProcessesTest t o) ≡ none → ProcessesSound t o
+nineteen-passed : (t : Tables) (r : Request) → firstRefusal (soundProcessesTest t r) ≡ none → isStep r ≡ true → soundProcesses (t .processes) ≡ true
 unfolding soundProcessesTest
-nineteen-passed t none h = tt
-nineteen-passed t (some p) h = not-false (soundProcesses (t .processes)) (test-passes 19 _ _ h)
+nineteen-passed t r h step =
+    not-false (soundProcesses (t .processes))
+    (test-passes 19 _ _ (subst (λ (b : Bool). firstRefusal (cond b (test 19 (not (soundProcesses (t .processes))) ∷ []) []) ≡ none) step h))
 
 -- What is sound where a request that books is accepted.
-pub record BookedOn (t : Tables) (o : Option ProcessRow) : Type 0 where
+pub record BookedOn (t : Tables) (r : Request) : Type 0 where
   pub records : soundRecords (t .records) ≡ true
   pub positions : soundPositions (t .positions) ≡ true
-  pub processes : ProcessesSound t o
+  pub processes : isStep r ≡ true → soundProcesses (t .processes) ≡ true
 
-pub all-sound : (t : Tables) (o : Option ProcessRow) → BookedOn t o → soundProcesses (t .processes) ≡ true → SoundTables t
-all-sound t o b h = record { records = b .records; positions = b .positions; processes = h }
+pub all-sound : (t : Tables) (r : Request) → BookedOn t r → soundProcesses (t .processes) ≡ true → SoundTables t
+all-sound t r b h = record { records = b .records; positions = b .positions; processes = h }
 
 module _ (t : Tables) (r : Request) where
   abbrev pub planAt : Plan
   planAt = planOn (booksOf t) r
 
-  pub accepted-none : isAccepted t r ≡ true → firstRefusal (refusals t planAt) ≡ none
+  pub accepted-none : isAccepted t r ≡ true → firstRefusal (refusals t r planAt) ≡ none
   unfolding isAccepted
-  accepted-none h = isSome-absent (firstRefusal (refusals t planAt)) (not-true (isSome (firstRefusal (refusals t planAt))) h)
+  accepted-none h = isSome-absent (firstRefusal (refusals t r planAt)) (not-true (isSome (firstRefusal (refusals t r planAt))) h)
 
-  pub none-accepted : firstRefusal (refusals t planAt) ≡ none → isAccepted t r ≡ true
+  pub none-accepted : firstRefusal (refusals t r planAt) ≡ none → isAccepted t r ≡ true
   unfolding isAccepted
   none-accepted h = ap (λ (o : Option Test). not (isSome o)) h ∙ ap not (isSome-none Test)
 
@@ -84,29 +83,29 @@ module _ (t : Tables) (r : Request) where
 
   pub accepted-rows : isAccepted t r ≡ true → Accepts (booksOf t) r
   unfolding refusals
-  accepted-rows h = right-passes (soundnessTests t planAt) (planTests (booksOf t) planAt) (accepted-none h)
+  accepted-rows h = right-passes (soundnessTests t r planAt) (planTests (booksOf t) planAt) (accepted-none h)
 
   pub rows-accepted : SoundTables t → Accepts (booksOf t) r → isAccepted t r ≡ true
   unfolding refusals soundnessTests
-  rows-accepted sound h = none-accepted (both-pass (soundnessTests t planAt) (planTests (booksOf t) planAt) (go planAt) h)
+  rows-accepted sound h = none-accepted (both-pass (soundnessTests t r planAt) (planTests (booksOf t) planAt) (go planAt) h)
     where
-      go : (p : Plan) → firstRefusal (soundnessTests t p) ≡ none
+      go : (p : Plan) → firstRefusal (soundnessTests t r p) ≡ none
       go (booking tests e) =
-          passes-test 1 (not (soundRecords (t .records))) (test 2 (not (soundPositions (t .positions))) ∷ soundProcessesTest t (e .process)) (ap not (sound .records))
-          (passes-test 2 (not (soundPositions (t .positions))) (soundProcessesTest t (e .process)) (ap not (sound .positions)) (nineteen-passes t (e .process) (sound .processes)))
+          passes-test 1 (not (soundRecords (t .records))) (test 2 (not (soundPositions (t .positions))) ∷ soundProcessesTest t r) (ap not (sound .records))
+          (passes-test 2 (not (soundPositions (t .positions))) (soundProcessesTest t r) (ap not (sound .positions)) (nineteen-passes t r (sound .processes)))
       go (question tests reply) = passes-test 1 (not (soundRecords (t .records))) [] (ap not (sound .records)) no-refusal
       go (dayMove tests day) = passes-test 1 (not (soundRecords (t .records))) [] (ap not (sound .records)) no-refusal
 
   -- A request that books is accepted on sound records and positions alone, and a step of a give-up on sound processes.
-  pub booked-on-sound : (tests : List Test) (e : Effects) → planAt ≡ booking tests e → isAccepted t r ≡ true → BookedOn t (e .process)
+  pub booked-on-sound : (tests : List Test) (e : Effects) → planAt ≡ booking tests e → isAccepted t r ≡ true → BookedOn t r
   unfolding refusals soundnessTests
   booked-on-sound tests e q h =
-      let s : firstRefusal (soundnessTests t (booking tests e)) ≡ none =
-      ap (λ (p : Plan). firstRefusal (soundnessTests t p)) (sym q) ∙ left-passes (soundnessTests t planAt) (planTests (booksOf t) planAt) (accepted-none h) in
+      let s : firstRefusal (soundnessTests t r (booking tests e)) ≡ none =
+      ap (λ (p : Plan). firstRefusal (soundnessTests t r p)) (sym q) ∙ left-passes (soundnessTests t r planAt) (planTests (booksOf t) planAt) (accepted-none h) in
       record {
         records = not-false (soundRecords (t .records)) (test-passes 1 _ _ s);
         positions = not-false (soundPositions (t .positions)) (test-passes 2 _ _ (rest-passes _ _ s));
-        processes = nineteen-passed t (e .process) (rest-passes _ _ (rest-passes _ _ s));
+        processes = nineteen-passed t r (rest-passes _ _ (rest-passes _ _ s));
       }
 
   -- A new day is accepted on sound records alone, and writes the current day.
@@ -114,7 +113,7 @@ module _ (t : Tables) (r : Request) where
   unfolding refusals soundnessTests
   moved-on-sound tests day q h =
       not-false (soundRecords (t .records))
-      (test-passes 1 _ _ (ap (λ (p : Plan). firstRefusal (soundnessTests t p)) (sym q) ∙ left-passes (soundnessTests t planAt) (planTests (booksOf t) planAt) (accepted-none h)))
+      (test-passes 1 _ _ (ap (λ (p : Plan). firstRefusal (soundnessTests t r p)) (sym q) ∙ left-passes (soundnessTests t r planAt) (planTests (booksOf t) planAt) (accepted-none h)))
 
   pub moved-tables : (tests : List Test) (day : ℤ) → planAt ≡ dayMove tests day → isAccepted t r ≡ true → handle t r .tables ≡ withCurrentDay day t
   unfolding planTables
@@ -126,6 +125,6 @@ module _ (t : Tables) (r : Request) where
   sound-or-same processes stays h = go planAt refl
     where
       go : (p : Plan) → planAt ≡ p → (SoundTables t) ⊎ (handle t r .tables ≡ t)
-      go (booking tests e) q = inl (all-sound t (e .process) (booked-on-sound tests e q h) processes)
+      go (booking tests e) q = inl (all-sound t r (booked-on-sound tests e q h) processes)
       go (question tests reply) q = inr (accepted-tables h ∙ ap (λ (p : Plan). planTables p t) q)
       go (dayMove tests day) q = absurd (subst (λ (p : Plan). LeavesDay p) q stays)

@@ -81,22 +81,22 @@ grows-beside-sound : (t : Tables) → soundProcesses (t .processes) ≡ true →
 unfolding planOf tradePlan separationPlan transferPlan mergePlan lineagePlan giveUpPlan giveUpEffects planReply
 grows-beside-sound t h (trade id account series side quantity price) ok =
     let r : Request = trade id account series side quantity price in
-    grows-on-sound t r (all-sound t none (booked-on-sound t r _ _ refl ok) h) ok
+    grows-on-sound t r (all-sound t r (booked-on-sound t r _ _ refl ok) h) ok
 grows-beside-sound t h (separate id suffix account series parts) ok =
     let r : Request = separate id suffix account series parts in
-    grows-on-sound t r (all-sound t none (booked-on-sound t r _ _ refl ok) h) ok
+    grows-on-sound t r (all-sound t r (booked-on-sound t r _ _ refl ok) h) ok
 grows-beside-sound t h (transfer id suffix from to series) ok =
     let r : Request = transfer id suffix from to series in
-    grows-on-sound t r (all-sound t none (booked-on-sound t r _ _ refl ok) h) ok
+    grows-on-sound t r (all-sound t r (booked-on-sound t r _ _ refl ok) h) ok
 grows-beside-sound t h (merge id account series pairs) ok =
     let r : Request = merge id account series pairs in
-    grows-on-sound t r (all-sound t none (booked-on-sound t r _ _ refl ok) h) ok
+    grows-on-sound t r (all-sound t r (booked-on-sound t r _ _ refl ok) h) ok
 grows-beside-sound t h (lineage id suffix) ok =
     let r : Request = lineage id suffix in
     grows-by-none t r (ap (λ (u : Tables). countOf (u .records)) (lineage-stays t id suffix)) (ap (λ (reply : Reply). rowsAnswered reply) (accepted-reply t r ok) ∙ lineage-names-none _)
 grows-beside-sound t h (giveUp step process id suffix giving taking series) ok =
     let r : Request = giveUp step process id suffix giving taking series in
-    grows-on-sound t r (all-sound t _ (booked-on-sound t r _ _ refl ok) h) ok
+    grows-on-sound t r (all-sound t r (booked-on-sound t r _ _ refl ok) h) ok
 grows-beside-sound t h (newDay day) ok = grows-by-none t (newDay day) (day-count t day ok) (ap (λ (reply : Reply). rowsAnswered reply) (day-reply t day ok))
 
 -- Beside other processes no step is accepted, and what others do is the same beside any.
@@ -127,7 +127,7 @@ count-grows t r = go (split (isAccepted t r))
 -- A merge books, so it is accepted on sound tables alone.
 merge-on-sound : (t : Tables) (id account series : ℤ) (pairs : List ℤ) → soundProcesses (t .processes) ≡ true → isAccepted t (merge id account series pairs) ≡ true → SoundTables t
 unfolding planOf mergePlan
-merge-on-sound t id account series pairs h ok = all-sound t none (booked-on-sound t (merge id account series pairs) _ _ refl ok) h
+merge-on-sound t id account series pairs h ok = all-sound t (merge id account series pairs) (booked-on-sound t (merge id account series pairs) _ _ refl ok) h
 
 merge-no-step : (id account series : ℤ) (pairs : List ℤ) → isStep (merge id account series pairs) ≡ false
 unfolding isStep

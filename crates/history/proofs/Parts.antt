@@ -67,7 +67,7 @@ figures-pass : (t : Tables) (figures : List ℤ) (cells : ℕ) → batchRefusal 
 unfolding batchTests
 figures-pass t figures cells h = not-false (batchFigures figures cells) (test-passes 3 _ _ (rest-passes _ _ (rest-passes _ _ h)))
 
-batch-passes : (t : Tables) (figures : List ℤ) (cells : ℕ) → BookedOn t none → batchFigures figures cells ≡ true → batchRefusal t figures cells ≡ none
+batch-passes : (t : Tables) (figures : List ℤ) (cells : ℕ) → BookedOn t (tradeAt figures 0) → batchFigures figures cells ≡ true → batchRefusal t figures cells ≡ none
 unfolding batchTests
 batch-passes t figures cells sound ok =
     passes-test 1 _ _ (ap not (sound .records)) (passes-test 2 _ _ (ap not (sound .positions)) (passes-test 3 _ _ (ap not ok) no-refusal))
@@ -123,11 +123,11 @@ some-trade figures cells h =
     go zero k = clash k refl
     go (suc n) k = (decode tradeAt 6 n 6 figures, refl)
 
-trade-on-sound : (t : Tables) (figures : List ℤ) → isAccepted t (tradeAt figures 0) ≡ true → BookedOn t none
+trade-on-sound : (t : Tables) (figures : List ℤ) → isAccepted t (tradeAt figures 0) ≡ true → BookedOn t (tradeAt figures 0)
 unfolding planOf tradePlan
 trade-on-sound t figures ok = booked-on-sound t (tradeAt figures 0) _ _ refl ok
 
-batch-on-sound : (t end : Tables) (figures : List ℤ) (cells : ℕ) (done : List Done) → batchFigures figures cells ≡ true → requestsDone done ≡ tradesOf figures → DoneFrom t done end → BookedOn t none
+batch-on-sound : (t end : Tables) (figures : List ℤ) (cells : ℕ) (done : List Done) → batchFigures figures cells ≡ true → requestsDone done ≡ tradesOf figures → DoneFrom t done end → BookedOn t (tradeAt figures 0)
 batch-on-sound t end figures cells done ok these from = go done these from
   where
     first : (rest : List Request) × (tradesOf figures ≡ tradeAt figures 0 ∷ rest)
@@ -136,7 +136,7 @@ batch-on-sound t end figures cells done ok these from = go done these from
     none-listed : {X : Type 0} → [] ≡ tradeAt figures 0 ∷ first .0 → X
     none-listed e = let z : 0 ≡ suc (length (first .0)) = ap (λ (l : List Request). length l) e in absurd (omega arith)
 
-    go : (d : List Done) → requestsDone d ≡ tradesOf figures → DoneFrom t d end → BookedOn t none
+    go : (d : List Done) → requestsDone d ≡ tradesOf figures → DoneFrom t d end → BookedOn t (tradeAt figures 0)
     go [] e f = none-listed (e ∙ first .1)
     go (d ∷ rest) e f =
         trade-on-sound t figures
@@ -149,7 +149,7 @@ whole-call t end (one r) n reply output done from made =
     let f : DoneFrom t (record { request = r; reply = reply } ∷ []) end = subst (λ (d : List Done). DoneFrom t d end) (made .0) from in
     (f .0 .0, λ i. record { call = one r; reply = f .0 .1 i; output = (writes-nothing t r ∙ sym (made .1)) i }, f .1)
 whole-call t end (trades figures cells) n reply output done from made =
-    let sound : BookedOn t none = batch-on-sound t end figures cells done (made .0) (made .1) from in
+    let sound : BookedOn t (tradeAt figures 0) = batch-on-sound t end figures cells done (made .0) (made .1) from in
     let passes : batchRefusal t figures cells ≡ none = batch-passes t figures cells sound (made .0) in
     let all : untilRefused t (tradesOf figures) ≡ whole done end = ap (λ (l : List Request). untilRefused t l) (sym (made .1)) ∙ done-whole done t end from in
     let is : handleBatch t figures cells ≡ batchAnswer (whole done end) =

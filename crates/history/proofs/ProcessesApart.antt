@@ -57,19 +57,19 @@ module _ (processes : List ℤ) (t : Tables) where
   plan-apart (newDay day) h = refl
 
   -- Neither 19 nor 23 is among its tests.
-  nineteen-apart : (o : Option ProcessRow) → o ≡ none → soundProcessesTest other o ≡ soundProcessesTest t o
+  nineteen-apart : (r : Request) → isStep r ≡ false → soundProcessesTest other r ≡ soundProcessesTest t r
   unfolding soundProcessesTest
-  nineteen-apart o h = ap (λ (p : Option ProcessRow). soundProcessesTest other p) h ∙ sym (ap (λ (p : Option ProcessRow). soundProcessesTest t p) h)
+  nineteen-apart r h = rw h
 
   room-apart : (o : Option ProcessRow) → o ≡ none → processRoomTest (booksOf other) o ≡ processRoomTest (booksOf t) o
   unfolding processRoomTest
   room-apart o h = ap (λ (p : Option ProcessRow). processRoomTest (booksOf other) p) h ∙ sym (ap (λ (p : Option ProcessRow). processRoomTest (booksOf t) p) h)
 
-  tests-apart : (p : Plan) → NoProcess p → refusals other p ≡ refusals t p
+  tests-apart : (r : Request) → isStep r ≡ false → (p : Plan) → NoProcess p → refusals other r p ≡ refusals t r p
   unfolding refusals soundnessTests planTests bookingTests booksOf
-  tests-apart (booking tests e) h = rw (nineteen-apart (e .process) h, room-apart (e .process) h)
-  tests-apart (question tests reply) h = refl
-  tests-apart (dayMove tests day) h = refl
+  tests-apart r n (booking tests e) h = rw (nineteen-apart r n, room-apart (e .process) h)
+  tests-apart r n (question tests reply) h = refl
+  tests-apart r n (dayMove tests day) h = refl
 
   -- What it writes leaves the process table.
   written-apart : (e : Effects) (o : Option ProcessRow) → o ≡ none → writtenBy o other (booked e (booksOf other)) ≡ withProcesses processes (writtenBy o t (booked e (booksOf t)))
@@ -94,16 +94,16 @@ module _ (processes : List ℤ) (t : Tables) where
 
     pub refusal-apart : refusalOf other r ≡ refusalOf t r
     refusal-apart =
-        ap (λ (p : Plan). firstRefusal (refusals other p)) (plan-apart r no-step)
-        ∙ ap (λ (tests : List Test). firstRefusal tests) (tests-apart plan (no-process (viewOf (booksOf t)) r no-step))
+        ap (λ (p : Plan). firstRefusal (refusals other r p)) (plan-apart r no-step)
+        ∙ ap (λ (tests : List Test). firstRefusal tests) (tests-apart r no-step plan (no-process (viewOf (booksOf t)) r no-step))
 
     -- Beside another process table: the same answer, and every cell of that table stays.
     pub processes-apart : handle other r ≡ withAnswer processes (handle t r)
     unfolding handle
     processes-apart =
-        ap (λ (p : Plan). answer (firstRefusal (refusals other p)) other (answeredBy (planReply p) (planTables p other))) (plan-apart r no-step)
-        ∙ ap (λ (tests : List Test). answer (firstRefusal tests) other (answeredBy (planReply plan) (planTables plan other))) (tests-apart plan (no-process (viewOf (booksOf t)) r no-step))
-        ∙ answer-apart (firstRefusal (refusals t plan)) (answeredBy (planReply plan) (planTables plan other)) (answeredBy (planReply plan) (planTables plan t))
+        ap (λ (p : Plan). answer (firstRefusal (refusals other r p)) other (answeredBy (planReply p) (planTables p other))) (plan-apart r no-step)
+        ∙ ap (λ (tests : List Test). answer (firstRefusal tests) other (answeredBy (planReply plan) (planTables plan other))) (tests-apart r no-step plan (no-process (viewOf (booksOf t)) r no-step))
+        ∙ answer-apart (firstRefusal (refusals t r plan)) (answeredBy (planReply plan) (planTables plan other)) (answeredBy (planReply plan) (planTables plan t))
         (ap (λ (u : Tables). answeredBy (planReply plan) u) (tables-apart plan (no-process (viewOf (booksOf t)) r no-step)))
 
 -- On any tables, by the answer that the call promises: that beside a process table without rows.

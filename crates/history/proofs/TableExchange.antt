@@ -13,7 +13,7 @@ use Rattle.rules.specs.Request.{Request, trade, separate, transfer, merge, line
 use Rattle.rules.specs.Books.{Books, viewOf}
 use Rattle.rules.specs.Plan.{planReply}
 use Rattle.rules.specs.Tables.{Tables, tablesOf, noProcesses, withProcesses, soundProcesses, booksOf, writeBooks}
-use Rattle.rules.specs.GiveUp.{giveUpEffects, giveUpPlan}
+use Rattle.rules.specs.GiveUp.{giveUpPlan}
 use Rattle.rules.specs.Touching.{touchesAll, touch}
 use Rattle.rules.specs.Handle.{Answer, handle, planOf}
 use Rattle.rules.proofs.Computed.{Computed}
@@ -134,7 +134,7 @@ module _ (processes : List ℤ) where
 
 -- A step is refused 19 beside processes that are not sound.
 pub no-step : (t : Tables) (r : Request) → isAccepted t r ≡ true → soundProcesses (t .processes) ≡ false → isStep r ≡ false
-unfolding planOf giveUpPlan giveUpEffects isStep
+unfolding planOf giveUpPlan isStep
 no-step t (trade id account series side quantity price) ok h = refl
 no-step t (separate id suffix account series parts) ok h = refl
 no-step t (transfer id suffix from to series) ok h = refl
@@ -142,7 +142,7 @@ no-step t (merge id account series pairs) ok h = refl
 no-step t (lineage id suffix) ok h = refl
 no-step t (newDay day) ok h = refl
 no-step t (giveUp step process id suffix giving taking series) ok h =
-    clash (booked-on-sound t (giveUp step process id suffix giving taking series) _ _ refl ok .processes) h
+    clash (booked-on-sound t (giveUp step process id suffix giving taking series) _ _ refl ok .processes refl) h
 
 pub no-processes-sound : soundProcesses noProcesses ≡ true
 unfolding Computed

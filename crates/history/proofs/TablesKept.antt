@@ -15,7 +15,7 @@ use Rattle.rules.specs.Trade.{tradePlan}
 use Rattle.rules.specs.Separation.{separationPlan}
 use Rattle.rules.specs.Transfer.{transferPlan}
 use Rattle.rules.specs.Merge.{mergePlan}
-use Rattle.rules.specs.GiveUp.{giveUpEffects, giveUpPlan}
+use Rattle.rules.specs.GiveUp.{giveUpPlan}
 use Rattle.rules.specs.Day.{dayPlan}
 use Rattle.rules.specs.Tables.{Tables, recordsLayout, positionsLayout, processesLayout, tablesOf, dayWritten, soundRecords, soundPositions, soundProcesses, booksOf, writeBooks}
 use Rattle.rules.specs.Touching.{touchesAll}
@@ -106,14 +106,14 @@ on-sound t sound r ok not-all =
 booking-keeps : (t : Tables) (r : Request) (tests : List Test) (e : Effects) → planAt t r ≡ booking tests e → touchesAll r ≡ false → isAccepted t r ≡ true → TablesKept t (handle t r .tables)
 booking-keeps t r tests e q not-all ok = go (split (soundProcesses (t .processes)))
   where
-    on : BookedOn t (e .process)
+    on : BookedOn t r
     on = booked-on-sound t r tests e q ok
 
     two : Tables
     two = tablesOf (t .records) (t .positions)
 
     go : (soundProcesses (t .processes) ≡ true) ⊎ (soundProcesses (t .processes) ≡ false) → TablesKept t (handle t r .tables)
-    go (inl sound) = on-sound t (all-sound t (e .process) on sound) r ok not-all
+    go (inl sound) = on-sound t (all-sound t r on sound) r ok not-all
     go (inr unsound) =
         let n : isStep r ≡ false = no-step t r ok unsound in
         let sound-two : SoundTables two = record { records = on .records; positions = on .positions; processes = no-processes-sound } in
@@ -154,7 +154,7 @@ module _ (t : Tables) (day : ℤ) (ok : isAccepted t (newDay day) ≡ true) wher
 -- ---- every request
 
 accepted-keeps : (t : Tables) (r : Request) → isAccepted t r ≡ true → TablesKept t (handle t r .tables)
-unfolding planOf tradePlan separationPlan transferPlan mergePlan giveUpPlan giveUpEffects touchesAll
+unfolding planOf tradePlan separationPlan transferPlan mergePlan giveUpPlan touchesAll
 accepted-keeps t (trade id account series side quantity price) ok = booking-keeps t (trade id account series side quantity price) _ _ refl refl ok
 accepted-keeps t (separate id suffix account series parts) ok = booking-keeps t (separate id suffix account series parts) _ _ refl refl ok
 accepted-keeps t (transfer id suffix from to series) ok = booking-keeps t (transfer id suffix from to series) _ _ refl refl ok

@@ -19,7 +19,7 @@ use Rattle.rules.specs.Refusal.{Test}
 use Rattle.rules.specs.Request.{Request, trade, separate, transfer, merge, lineage, giveUp, newDay, isStep}
 use Rattle.rules.specs.Books.{Books, viewOf}
 use Rattle.rules.specs.Touching.{touchesAll}
-use Rattle.rules.specs.GiveUp.{giveUpEffects, giveUpPlan}
+use Rattle.rules.specs.GiveUp.{giveUpPlan}
 use Rattle.rules.specs.Layout.{countOf}
 use Rattle.rules.specs.Tables.{Tables, tablesOf, soundProcesses, recordsLayout, processesLayout, booksOf}
 use Rattle.rules.specs.Handle.{Answer, answer, handle, planOf}
@@ -75,10 +75,10 @@ other-matched t r no-step not-all ok m =
 
 give-up-matched : (t : Tables) (step : Step) (process id suffix giving taking series : ℤ) → isAccepted t (giveUp step process id suffix giving taking series) ≡ true →
     Matched (booksOf t) → Matched (booksOf (handle t (giveUp step process id suffix giving taking series) .tables))
-unfolding planOf giveUpPlan giveUpEffects
+unfolding planOf giveUpPlan isStep
 give-up-matched t step process id suffix giving taking series ok m =
     let r : Request = giveUp step process id suffix giving taking series in
-    let sound : SoundTables t = all-sound t _ (booked-on-sound t r _ _ refl ok) (booked-on-sound t r _ _ refl ok .processes) in
+    let sound : SoundTables t = all-sound t r (booked-on-sound t r _ _ refl ok) (booked-on-sound t r _ _ refl ok .processes refl) in
     subst Matched (sym (step-books t sound r ok)) (step-matched (booksOf t) (sound-books t sound) step process id suffix giving taking series (accepted-rows t r ok) m)
 
 accepted-matched : (t : Tables) (r : Request) → isAccepted t r ≡ true → Matched (booksOf t) → Matched (booksOf (handle t r .tables))

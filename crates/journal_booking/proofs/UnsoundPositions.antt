@@ -50,7 +50,7 @@ module _ (rs ps qs : List ℤ) (sound : soundRecords rs ≡ true) (unsound : sou
   booking-refused : (r : Request) (tests : List Test) (e : Effects) → planOn (booksOf t) r ≡ booking tests e → handle t r ≡ answeredBy (Reply.Refused (pos 2) (pos 0)) t
   unfolding soundnessTests firstRefusal test verdictOf
   booking-refused r tests e q =
-      unsound-in t r (pos 2) (pos 0) (subst (λ (plan : Plan). verdictOf (firstRefusal (soundnessTests t plan)) ≡ Verdict.Refused (pos 2) (pos 0)) (sym q) (rw (sound, unsound) refl))
+      unsound-in t r (pos 2) (pos 0) (subst (λ (plan : Plan). verdictOf (firstRefusal (soundnessTests t r plan)) ≡ Verdict.Refused (pos 2) (pos 0)) (sym q) (rw (sound, unsound) refl))
 
   each-refused : (r : Request) → isBooking r ≡ true → handle t r ≡ answeredBy (Reply.Refused (pos 2) (pos 0)) t
   unfolding planOf tradePlan separationPlan transferPlan mergePlan giveUpPlan

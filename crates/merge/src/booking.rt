@@ -52,6 +52,7 @@ fn insert_inverse(records: &mut [i64], today: i64, id: i64, suffix: i64, into: i
     ensures { λ done. ⌜ (now (records .exit) ≡ write recordsLayout (now (records .entry)) (upsert recordKey (inverseNamed today (now (records .entry)) (keyOf id suffix) into) (rowsOf recordsLayout (now (records .entry))))) × (soundRecordRows (now (records .exit)) ≡ true) ⌝ }
 {
     let Sought::Present(row, greatest, place) = records::look_up(records, id, suffix) else {
+        // Never reached: the source has its record, by the second premise.
         return;
     };
     let named = requests::record_named(records, id, suffix, row, greatest, place);
@@ -98,6 +99,7 @@ fn insert_merged(records: &mut [i64], merged: Record)
     let id = merged.id;
     let suffix = merged.suffix;
     let Sought::Absent(place, greatest) = records::look_up(records, id, suffix) else {
+        // Never reached: the new id has no record, by the third premise.
         return;
     };
     records::insert_record(records, place, merged);

@@ -38,7 +38,7 @@ module _ (t : Tables) (unsound : soundRecords (t .records) ≡ false) where
   unfolding soundnessTests firstRefusal test verdictOf
   each-refused r = unsound-in t r (pos 1) (pos 0) (go (planOn (booksOf t) r))
     where
-      go : (plan : Plan) → verdictOf (firstRefusal (soundnessTests t plan)) ≡ Verdict.Refused (pos 1) (pos 0)
+      go : (plan : Plan) → verdictOf (firstRefusal (soundnessTests t r plan)) ≡ Verdict.Refused (pos 1) (pos 0)
       go (booking tests e) = rw unsound
       go (question tests reply) = rw unsound
       go (dayMove tests day) = rw unsound

@@ -1,11 +1,11 @@
 -- What a request does to the lent tables, whatever their cells and its figures: the answer, and the tables afterwards.
-use mathlib.Core.Bool.{not}
+use mathlib.Core.Bool.{cond, not}
 use mathlib.Core.List.{List, [], _∷_, _++_}
 use mathlib.Core.Option.{Option, none, some}
 use lib.IntN.{ℤ}
 use Rattle.rules.specs.Refusal.{Test, test, firstRefusal}
 use Rattle.rules.specs.Reply.{refusedBy}
-use Rattle.rules.specs.Request.{Request, trade, separate, transfer, merge, lineage, giveUp, newDay}
+use Rattle.rules.specs.Request.{Request, trade, separate, transfer, merge, lineage, giveUp, newDay, isStep}
 use Rattle.rules.specs.Books.{Books, View, viewOf}
 use Rattle.rules.specs.Plan.{Plan, booking, question, dayMove, planTests, planReply, booked}
 use Rattle.rules.specs.Trade.{tradePlan}
@@ -35,21 +35,20 @@ planOf v (giveUp step process id suffix giving taking series) =
     (v .transactionOf process) (v .processAt process id) (v .recordAt id suffix) (v .greatestSuffix id) (v .positionAt giving series) (v .positionAt taking series)
 planOf v (newDay day) = dayPlan (v .day) day
 
--- 19: the process table; "if unsound, refused 19 after 2". It is "read by these steps only": a request that writes no process row has no such test.
-unfoldable pub soundProcessesTest : Tables → Option ProcessRow → List Test
-soundProcessesTest t none = []
-soundProcessesTest t (some p) = test 19 (not (soundProcesses (t .processes))) ∷ []
+-- 19: the process table, "read by these steps only"; "if unsound, refused 19 after 2"
+unfoldable pub soundProcessesTest : Tables → Request → List Test
+soundProcessesTest t r = cond (isStep r) (test 19 (not (soundProcesses (t .processes))) ∷ []) []
 
 -- 1: "records table not sound". 2: "positions table not sound (not for lineage)"; document 02, K8, of a new day: "It and the list skip test 2".
-unfoldable pub soundnessTests : Tables → Plan → List Test
-soundnessTests t (booking tests effects) =
-    test 1 (not (soundRecords (t .records))) ∷ test 2 (not (soundPositions (t .positions))) ∷ soundProcessesTest t (effects .process)
-soundnessTests t (question tests reply) = test 1 (not (soundRecords (t .records))) ∷ []
-soundnessTests t (dayMove tests day) = test 1 (not (soundRecords (t .records))) ∷ []
+unfoldable pub soundnessTests : Tables → Request → Plan → List Test
+soundnessTests t r (booking tests effects) =
+    test 1 (not (soundRecords (t .records))) ∷ test 2 (not (soundPositions (t .positions))) ∷ soundProcessesTest t r
+soundnessTests t r (question tests reply) = test 1 (not (soundRecords (t .records))) ∷ []
+soundnessTests t r (dayMove tests day) = test 1 (not (soundRecords (t .records))) ∷ []
 
--- Document 01's table of refusals for this plan, in its order.
-unfoldable pub refusals : Tables → Plan → List Test
-refusals t plan = soundnessTests t plan ++ planTests (booksOf t) plan
+-- Document 01's table of refusals for this request and its plan, in its order.
+unfoldable pub refusals : Tables → Request → Plan → List Test
+refusals t r plan = soundnessTests t r plan ++ planTests (booksOf t) plan
 
 -- The whole answer: the reply, what is written to a lent output, from its first cell on, and the tables afterwards.
 pub record Answer : Type 0 where
@@ -85,8 +84,8 @@ answer (some refusal) t done = answeredBy (refusedBy refusal) t
 unfoldable pub handle : Tables → Request → Answer
 handle t r =
     let plan : Plan = planOf (viewOf (booksOf t)) r in
-    answer (firstRefusal (refusals t plan)) t (answeredBy (planReply plan) (planTables plan t))
+    answer (firstRefusal (refusals t r plan)) t (answeredBy (planReply plan) (planTables plan t))
 
 -- The first refusal of the table that applies to this request on these tables, where one does.
 abbrev pub refusalOf : Tables → Request → Option Test
-refusalOf t r = firstRefusal (refusals t (planOf (viewOf (booksOf t)) r))
+refusalOf t r = firstRefusal (refusals t r (planOf (viewOf (booksOf t)) r))

@@ -132,7 +132,8 @@ allTables records positions processes = record { records = records; positions = 
 abbrev pub noProcesses : List ℤ
 noProcesses = pos 0 ∷ []
 
--- The two tables that such a request is lent.
+-- The two tables that such a request is lent. Its call promises the answer beside a process table without rows; that this is the answer beside any is `apart-promised` (history/proofs/ProcessesApart), of a batch
+-- `batch-promised` (BatchApart).
 abbrev pub tablesOf : (records positions : List ℤ) → Tables
 tablesOf records positions = allTables records positions noProcesses
 

@@ -4,7 +4,6 @@
 use mathlib.Core.Path.{_≡_, refl, sym, _∙_, ap, subst}
 use mathlib.Core.Bool.{true, false}
 use mathlib.Core.List.{List}
-use mathlib.Core.Option.{none}
 use lib.IntN.{ℤ}
 use Rattle.rules.specs.Request.{Request, trade, separate, transfer, merge, lineage, giveUp, newDay, isStep}
 use Rattle.rules.specs.Books.{Books, viewOf}
@@ -13,7 +12,7 @@ use Rattle.rules.specs.Separation.{separationPlan}
 use Rattle.rules.specs.Transfer.{transferPlan}
 use Rattle.rules.specs.Merge.{Source, pairsOf, recordsOf, mergeResidual, mergePlan}
 use Rattle.rules.specs.Lineage.{lineagePlan}
-use Rattle.rules.specs.GiveUp.{giveUpEffects, giveUpPlan}
+use Rattle.rules.specs.GiveUp.{giveUpPlan}
 use Rattle.rules.specs.Tables.{Tables, tablesOf, booksOf}
 use Rattle.rules.specs.Handle.{Answer, handle, planOf, planTables}
 use Rattle.keys.proofs.Split.{clash}
@@ -57,7 +56,7 @@ module _ (t : Tables) where
   amounts-apart (newDay day) n = refl
   amounts-apart (giveUp step process id suffix giving taking series) n = clash refl n
 
-  beside : (r : Request) → isStep r ≡ false → BookedOn t none → isAccepted t r ≡ true → HandledAdds t r
+  beside : (r : Request) → isStep r ≡ false → BookedOn t r → isAccepted t r ≡ true → HandledAdds t r
   unfolding booksOf viewOf
   beside r no-step on ok account series =
       let sound : SoundTables two = record { records = on .records; positions = on .positions; processes = no-processes-sound } in
@@ -89,7 +88,7 @@ module _ (t : Tables) where
 
 -- "Every request adds to the stored figures what it changes in these sums", whatever the tables that it is accepted on.
 pub handled-adds : (t : Tables) (r : Request) → isAccepted t r ≡ true → HandledAdds t r
-unfolding planOf tradePlan separationPlan transferPlan mergePlan giveUpPlan giveUpEffects isStep
+unfolding planOf tradePlan separationPlan transferPlan mergePlan giveUpPlan isStep
 handled-adds t (trade id account series side quantity price) ok =
     let r : Request = trade id account series side quantity price in
     beside t r refl (booked-on-sound t r _ _ refl ok) ok
@@ -106,4 +105,4 @@ handled-adds t (lineage id suffix) ok = asked t id suffix ok
 handled-adds t (newDay day) ok = dated t day ok
 handled-adds t (giveUp step process id suffix giving taking series) ok =
     let r : Request = giveUp step process id suffix giving taking series in
-    on-sound t (all-sound t _ (booked-on-sound t r _ _ refl ok) (booked-on-sound t r _ _ refl ok .processes)) r ok
+    on-sound t (all-sound t r (booked-on-sound t r _ _ refl ok) (booked-on-sound t r _ _ refl ok .processes refl)) r ok

@@ -9,16 +9,15 @@ use mathlib.Core.Option.{Option, none, some}
 use lib.IntN.{ℤ, pos}
 use Rattle.rules.specs.Refusal.{Test, test, firstRefusal}
 use Rattle.rules.specs.Reply.{refusedBy}
-use Rattle.rules.specs.Request.{Request, trade, separate, transfer, merge, lineage, giveUp, newDay}
+use Rattle.rules.specs.Request.{Request, trade, separate, transfer, merge, lineage, giveUp, newDay, isStep}
 use Rattle.rules.specs.Plan.{Effects, Plan, booking, question, dayMove, planTests, planReply}
 use Rattle.rules.specs.Trade.{tradePlan}
 use Rattle.rules.specs.Separation.{separationPlan}
 use Rattle.rules.specs.Transfer.{transferPlan}
 use Rattle.rules.specs.Merge.{mergePlan}
 use Rattle.rules.specs.GiveUp.{giveUpPlan}
-use Rattle.rules.specs.Tables.{Tables, booksOf, soundRecords, soundPositions, tablesOf}
+use Rattle.rules.specs.Tables.{Tables, booksOf, soundRecords, soundPositions, soundProcesses, tablesOf}
 use Rattle.rules.specs.Handle.{Answer, answer, handle, planOf, planTables, refusals, soundProcessesTest, soundnessTests, answered, answeredBy}
-use Rattle.rules.specs.declared.ProcessRow.{ProcessRow}
 use Rattle.rules.specs.declared.Reply.{Reply}
 use Rattle.rules.specs.declared.Reply.the-variants as Reply
 use Rattle.keys.proofs.Split.{clash}
@@ -69,10 +68,10 @@ module _ (t : Tables) where
   abbrev done : Plan → Answer
   done plan = answeredBy (planReply plan) (planTables plan t)
 
-  abbrev answerTo : Plan → Answer
-  answerTo plan = answer (firstRefusal (refusals t plan)) t (done plan)
+  abbrev answerTo : Request → Plan → Answer
+  answerTo r plan = answer (firstRefusal (refusals t r plan)) t (done plan)
 
-  handle-plan : (r : Request) → handle t r ≡ answerTo (planOn (booksOf t) r)
+  handle-plan : (r : Request) → handle t r ≡ answerTo r (planOn (booksOf t) r)
   unfolding handle
   handle-plan r = refl
 
@@ -91,28 +90,31 @@ module _ (t : Tables) where
   accepted-as (some t) a h = let z : _≡_ {A = ℕ} 0 1 = cc in absurd (omega arith)
 
   -- Tables that tests 1, 2 and 19 refuse.
-  pub unsound-in : (r : Request) (n p : ℤ) → verdictOf (firstRefusal (soundnessTests t (planOn (booksOf t) r))) ≡ Verdict.Refused n p
+  pub unsound-in : (r : Request) (n p : ℤ) → verdictOf (firstRefusal (soundnessTests t r (planOn (booksOf t) r))) ≡ Verdict.Refused n p
       → handle t r ≡ answeredBy (Reply.Refused n p) t
   unfolding refusals
   unsound-in r n p refused =
       let plan : Plan = planOn (booksOf t) r in
-      handle-plan r ∙ refused-as _ (done plan) n p (refused-before (soundnessTests t plan) (planTests (booksOf t) plan) n p refused)
+      handle-plan r ∙ refused-as _ (done plan) n p (refused-before (soundnessTests t r plan) (planTests (booksOf t) plan) n p refused)
 
   -- Tables that they accept.
   module _ (sound : SoundTables t) where
-    processes-pass : (o : Option ProcessRow) (rest : List Test) → firstRefusal (soundProcessesTest t o ++ rest) ≡ firstRefusal rest
+    processes-pass : (r : Request) (rest : List Test) → firstRefusal (soundProcessesTest t r ++ rest) ≡ firstRefusal rest
     unfolding soundProcessesTest firstRefusal test
-    processes-pass none rest = refl
-    processes-pass (some p) rest = rw (sound .processes)
+    processes-pass r rest = go (isStep r)
+      where
+        go : (b : Bool) → firstRefusal (cond b (test 19 (not (soundProcesses (t .processes))) ∷ []) [] ++ rest) ≡ firstRefusal rest
+        go true = rw (sound .processes)
+        go false = refl
 
-    pub plan-sound : (plan : Plan) → firstRefusal (refusals t plan) ≡ firstRefusal (planTests (booksOf t) plan)
+    pub plan-sound : (r : Request) (plan : Plan) → firstRefusal (refusals t r plan) ≡ firstRefusal (planTests (booksOf t) plan)
     unfolding refusals soundnessTests firstRefusal test
-    plan-sound (booking tests e) = rw (sound .records, sound .positions) (processes-pass (e .process) (planTests (booksOf t) (booking tests e)))
-    plan-sound (question tests reply) = rw (sound .records)
-    plan-sound (dayMove tests day) = rw (sound .records)
+    plan-sound r (booking tests e) = rw (sound .records, sound .positions) (processes-pass r (planTests (booksOf t) (booking tests e)))
+    plan-sound r (question tests reply) = rw (sound .records)
+    plan-sound r (dayMove tests day) = rw (sound .records)
 
     judged-plan : (r : Request) → handle t r ≡ answer (firstRefusal (planTests (booksOf t) (planOn (booksOf t) r))) t (done (planOn (booksOf t) r))
-    judged-plan r = handle-plan r ∙ ap (λ (o : Option Test). answer o t (done (planOn (booksOf t) r))) (plan-sound (planOn (booksOf t) r))
+    judged-plan r = handle-plan r ∙ ap (λ (o : Option Test). answer o t (done (planOn (booksOf t) r))) (plan-sound r (planOn (booksOf t) r))
 
     pub refused-in : (r : Request) (n p : ℤ) → verdictIn t r ≡ Verdict.Refused n p → handle t r ≡ answeredBy (Reply.Refused n p) t
     unfolding verdictIn
@@ -129,7 +131,7 @@ module _ (rs ps : List ℤ) where
   unfolding soundnessTests firstRefusal test verdictOf
   unsound-records r h = unsound-in (tablesOf rs ps) r (pos 1) (pos 0) (go (planFor rs ps r))
     where
-      go : (plan : Plan) → verdictOf (firstRefusal (soundnessTests (tablesOf rs ps) plan)) ≡ Verdict.Refused (pos 1) (pos 0)
+      go : (plan : Plan) → verdictOf (firstRefusal (soundnessTests (tablesOf rs ps) r plan)) ≡ Verdict.Refused (pos 1) (pos 0)
       go (booking tests e) = rw h
       go (question tests reply) = rw h
       go (dayMove tests day) = rw h
@@ -140,9 +142,9 @@ module _ (rs ps : List ℤ) where
         → (n p : ℤ) → v ≡ Verdict.Refused n p → answered (Reply.Refused n p) rs ps ≡ handle (tablesOf rs ps) r
     unfolding verdictOnTables soundnessTests
     unsound-booking r tests e q n p refused =
-        let first : verdictOf (firstRefusal (soundnessTests (tablesOf rs ps) (booking tests e))) ≡ Verdict.Refused n p =
-        refused-before (test 1 (not (soundRecords rs)) ∷ test 2 (not (soundPositions ps)) ∷ []) (soundProcessesTest (tablesOf rs ps) (e .process)) n p (sym judged ∙ refused) in
-        sym (unsound-in (tablesOf rs ps) r n p (subst (λ (plan : Plan). verdictOf (firstRefusal (soundnessTests (tablesOf rs ps) plan)) ≡ Verdict.Refused n p) (sym q) first))
+        let first : verdictOf (firstRefusal (soundnessTests (tablesOf rs ps) r (booking tests e))) ≡ Verdict.Refused n p =
+        refused-before (test 1 (not (soundRecords rs)) ∷ test 2 (not (soundPositions ps)) ∷ []) (soundProcessesTest (tablesOf rs ps) r) n p (sym judged ∙ refused) in
+        sym (unsound-in (tablesOf rs ps) r n p (subst (λ (plan : Plan). verdictOf (firstRefusal (soundnessTests (tablesOf rs ps) r plan)) ≡ Verdict.Refused n p) (sym q) first))
 
     pub unsound-refused : (r : Request) → isBooking r ≡ true → (n p : ℤ) → v ≡ Verdict.Refused n p → answered (Reply.Refused n p) rs ps ≡ handle (tablesOf rs ps) r
     unfolding planOf tradePlan separationPlan transferPlan mergePlan giveUpPlan
