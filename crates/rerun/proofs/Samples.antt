@@ -17,7 +17,7 @@ use Rattle.history.specs.Sample.{start, otherCells, trade1, trade3, giveUp2, ac
 use Rattle.rerun.specs.Journal.{linesOf, journalOf}
 use Rattle.rerun.specs.LinesLeft.{linesLeft, firstTrades}
 use Rattle.rerun.specs.Rerun.{Rerun}
-use Rattle.rerun.specs.Sample.{tradeAndDay, tradedByDay1, letterAlone, thirdBad, thirdRefused, sameTwice, room}
+use Rattle.rerun.specs.Sample.{tradeAndDay, tradedByDay1, letterAlone, thirdBad, thirdRefused, sameTwice, buffer}
 
 unfoldable ComputedJournal : Type 0
 unfolding Computed newlines afterNewline afterNewlines fromLine isAccepted callAccepted bookedBy entriesOf linesOf journalOf firstTrades
@@ -77,7 +77,7 @@ from-the-refused = refl
 -- ---- written
 
 -- A claim, by the number of its letter, 67.
-pub claim-written : writeGiveUp (pos 67) (pos 90) (pos 2) (pos 0) (pos 20) (pos 21) (pos 5) room ≡ linesLeft (lineOf (giveUp2 Claim)) room
+pub claim-written : writeGiveUp (pos 67) (pos 90) (pos 2) (pos 0) (pos 20) (pos 21) (pos 5) buffer ≡ linesLeft (lineOf (giveUp2 Claim)) buffer
 unfolding ComputedJournal
 claim-written = refl
 
@@ -86,7 +86,7 @@ pub stops-at-the-second : handleCall start (trades sameTwice 2) .reply ≡ Stopp
 unfolding ComputedJournal
 stops-at-the-second = refl
 
-pub first-written : writeTrades (firstTrades 1 sameTwice) room ≡ linesLeft (lineOf trade1) room
+pub first-written : writeTrades (firstTrades 1 sameTwice) buffer ≡ linesLeft (lineOf trade1) buffer
 unfolding ComputedJournal
 first-written = refl
 

@@ -1,4 +1,4 @@
--- A text and the tables that it leads to, texts whose third line is bad or refused, a batch that stops at its second trade, and room for a line.
+-- A text and the tables that it leads to, texts whose third line is bad or refused, a batch that stops at its second trade, and a buffer.
 use Prim.Native.Nat.{ℕ}
 use mathlib.Core.List.{List, [], _∷_, _++_}
 use lib.IntN.{ℤ, pos}
@@ -34,5 +34,6 @@ thirdRefused = lineOf trade1 ++ (lineOf trade2 ++ (lineOf trade1 ++ lineOf trade
 abbrev pub sameTwice : List ℤ
 sameTwice = pos 1 ∷ pos 10 ∷ pos 5 ∷ pos 1 ∷ pos 100 ∷ pos 7 ∷ pos 1 ∷ pos 10 ∷ pos 5 ∷ pos 1 ∷ pos 100 ∷ pos 7 ∷ []
 
-abbrev pub room : List ℕ
-room = replicate 40 7
+-- Forty bytes.
+abbrev pub buffer : List ℕ
+buffer = replicate 40 7
