@@ -1,6 +1,6 @@
--- The theorem on the reader (document 02, K5): it "accepts exactly the lines so written of requests that pass test 3". `read-exactly`: of every byte string, the reader gives a request
--- if and only if the string is the line written of that request, and the request passes test 3 and is one that a journal has. So no other string is accepted, and each line gives its own request back.
--- `taken-line` and `line-taken` say the same of a line at the front of a text. Assumes nothing.
+-- The theorem on the reader (document 02, K5): it "accepts exactly the lines so written of requests that pass test 3". `read-exactly`: off the front of a text, whatever its bytes, the reader takes a request
+-- and leaves a rest if and only if the text is the line written of that request and then that rest, and the request passes test 3 and is one that a journal has. So nothing else is accepted, and each line
+-- gives its own request back. `alone-exactly` says the same of a line that stands alone. Assumes nothing.
 use Prim.Native.Nat.{ℕ, _<_}
 use mathlib.Core.Path.{_≡_, refl, sym, ap, _∙_, subst}
 use mathlib.Core.Bool.{true}
@@ -55,6 +55,11 @@ line-taken r rest journalled passes =
     ∙ cond-true (some (taken (requestNamed (l .heading) (l .figures)) rest)) none (and-intro (l .has-its-figures) (ap passesTest3 (l .named) ∙ passes))
     ∙ ap (λ (r : Request). some (taken r rest)) (l .named)
 
+-- The theorem.
+pub read-exactly : (text : List ℕ) (r : Request) (rest : List ℕ) →
+    (takeRequest text ≡ some (taken r rest)) ↔ ((text ≡ lineOf r ++ rest) × (passesTest3 r ≡ true) × (isJournalled r ≡ true))
+read-exactly text r rest = (λ h. taken-line text (taken r rest) h, λ g. ap takeRequest (g .0) ∙ line-taken r rest (g .2) (g .1))
+
 -- ---- a line has a newline at least
 
 line-long : (heading : Heading) (figures : List ℤ) → 0 < length (lineText heading figures)
@@ -91,7 +96,6 @@ line-read : (r : Request) → isJournalled r ≡ true → passesTest3 r ≡ true
 unfolding requestOf alone
 line-read r journalled passes = ap requestOf (sym (append-nil (lineOf r))) ∙ ap alone (line-taken r [] journalled passes)
 
--- The theorem.
-pub read-exactly : (line : List ℕ) (r : Request) → (requestOf line ≡ some r) ↔ ((line ≡ lineOf r) × (passesTest3 r ≡ true) × (isJournalled r ≡ true))
+pub alone-exactly : (line : List ℕ) (r : Request) → (requestOf line ≡ some r) ↔ ((line ≡ lineOf r) × (passesTest3 r ≡ true) × (isJournalled r ≡ true))
 unfolding requestOf
-read-exactly line r = (λ h. alone-written line (takeRequest line) r refl h, λ g. ap requestOf (g .0) ∙ line-read r (g .2) (g .1))
+alone-exactly line r = (λ h. alone-written line (takeRequest line) r refl h, λ g. ap requestOf (g .0) ∙ line-read r (g .2) (g .1))

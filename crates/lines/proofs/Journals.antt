@@ -1,7 +1,7 @@
 -- The reading of a text line by line: at its end, at a bad line, and after a good one; and a journal, read, is the requests that its lines were written of. To allow for more lines than the text
 -- has bytes changes nothing. Assumes nothing.
 use Prim.Native.Nat.{ℕ, zero, suc, _≤_, _<_}
-use mathlib.Core.Path.{_≡_, refl, sym, ap, _∙_}
+use mathlib.Core.Path.{_≡_, refl, sym, ap, _∙_, subst}
 use mathlib.Core.Bool.{Bool, true, false, cond}
 use mathlib.Core.List.{List, [], _∷_, _++_, append-nil, append-assoc, flatMap}
 use mathlib.Core.Option.{Option, none, some}
@@ -15,11 +15,11 @@ use Rattle.rules.specs.Reader.{takeRequest, Reading, lineThen, readWithin, read
 use Rattle.lines.specs.Journalled.{AllJournalled}
 use Rattle.lines.proofs.Exactly.{line-taken, shorter}
 
-abbrev reading : List Request → Bool → Reading
+abbrev pub reading : List Request → Bool → Reading
 reading requests whole = record { requests = requests; whole = whole }
 
 -- The request of a line, before what follows it.
-abbrev after : Request → Reading → Reading
+abbrev pub after : Request → Reading → Reading
 after r later = record { requests = r ∷ later .requests; whole = later .whole }
 
 -- ---- in at most so many lines
@@ -75,6 +75,25 @@ reading-next [] t e = absurd (omega (arith, shorter [] t e))
 reading-next (b ∷ text) t e =
     let less : length (t .rest) < length (b ∷ text) = shorter (b ∷ text) t e in
     within-next (length text) (b ∷ text) t e ∙ ap (after (t .value)) (within-enough (length text) (length (t .rest)) (t .rest) (omega arith) (omega arith))
+
+-- A claim of a text and its reading holds of every text if it holds where the text is at its end, where its first line is bad, and, where that is good, if it holds of what follows it.
+module _ (Claim : List ℕ → Reading → Type 0) (end : Claim [] (reading [] true))
+    (bad : (text : List ℕ) → 0 < length text → takeRequest text ≡ none → Claim text (reading [] false))
+    (good : (text : List ℕ) (t : Taken Request) → takeRequest text ≡ some t → Claim (t .rest) (readingOf (t .rest)) → Claim text (after (t .value) (readingOf (t .rest)))) where
+  within : (most : ℕ) (text : List ℕ) → length text ≤ most → Claim text (readingOf text)
+  within zero [] h = subst (Claim []) (sym reading-end) end
+  within zero (b ∷ text) h = absurd (omega arith)
+  within (suc most) [] h = subst (Claim []) (sym reading-end) end
+  within (suc most) (b ∷ text) h = go (takeRequest (b ∷ text)) refl (within most)
+    where
+      go : (o : Option (Taken Request)) → takeRequest (b ∷ text) ≡ o → ((rest : List ℕ) → length rest ≤ most → Claim rest (readingOf rest)) → Claim (b ∷ text) (readingOf (b ∷ text))
+      go none e onward = subst (Claim (b ∷ text)) (sym (reading-bad (b ∷ text) (omega arith) e)) (bad (b ∷ text) (omega arith) e)
+      go (some t) e onward =
+          let less : length (t .rest) < length (b ∷ text) = shorter (b ∷ text) t e in
+          subst (Claim (b ∷ text)) (sym (reading-next (b ∷ text) t e)) (good (b ∷ text) t e (onward (t .rest) (omega arith)))
+
+  pub by-lines : (text : List ℕ) → Claim text (readingOf text)
+  by-lines text = within (length text) text (omega arith)
 
 -- ---- a journal
 

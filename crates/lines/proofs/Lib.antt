@@ -3,5 +3,7 @@ pub mod Headings
 pub mod ShortFigures
 pub mod WholeLines
 pub mod NamedRequests
+pub mod Newlines
 pub mod Exactly
 pub mod Journals
+pub mod LineNumbers

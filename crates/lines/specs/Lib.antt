@@ -1,1 +1,2 @@
 pub mod Journalled
+pub mod LineNumbers

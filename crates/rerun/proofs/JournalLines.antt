@@ -6,6 +6,7 @@ use mathlib.Core.List.{List, [], _∷_, _++_, flatMap, append-assoc}
 use mathlib.Core.Logic.{_⊎_, inl, inr}
 use Prim.Native.Nat.{ℕ}
 use borrow.Author.Tests.{not-false}
+use lib.ListN.{length}
 use lib.Signed.{ltZ}
 use Rattle.rules.specs.Request.{Request, trade, separate, transfer, merge, lineage, giveUp, newDay}
 use Rattle.rules.specs.Plan.{planTests}
@@ -26,7 +27,9 @@ use Rattle.rules.specs.Reader.{readingOf}
 use Rattle.rules.specs.Call.{Call, requestsOf}
 use Rattle.rules.specs.Run.{run}
 use Rattle.lines.specs.Journalled.{AllJournalled}
+use Rattle.lines.specs.LineNumbers.{newlines}
 use Rattle.lines.proofs.Journals.{journal-read}
+use Rattle.lines.proofs.Newlines.{lines-counted}
 use Rattle.keys.proofs.Split.{split, clash, and-left, cond-true, cond-false}
 use Rattle.history.specs.History.{isAccepted, Entry, acceptedEntries}
 use Rattle.rerun.specs.Journal.{linesOf, journalOf, requestsIn, journalled}
@@ -38,7 +41,7 @@ use Rattle.rerun.proofs.AcceptedDone.{DoneThese, accepted-done}
 
 -- ---- lines
 
-flatMap-append : {A B : Type 0} (f : A → List B) (xs ys : List A) → flatMap f (xs ++ ys) ≡ flatMap f xs ++ flatMap f ys
+pub flatMap-append : {A B : Type 0} (f : A → List B) (xs ys : List A) → flatMap f (xs ++ ys) ≡ flatMap f xs ++ flatMap f ys
 unfolding flatMap
 flatMap-append f [] ys = refl
 flatMap-append f (x ∷ xs) ys = ap (λ l. f x ++ l) (flatMap-append f xs ys) ∙ sym (append-assoc (f x) (flatMap f xs) (flatMap f ys))
@@ -137,11 +140,17 @@ all-journalled (d ∷ rest) t end h = go (split (isJournalled r)) (all-journalle
     go (inl k) later = subst AllJournalled (sym (cond-true (r ∷ journalled (requestsDone rest)) (journalled (requestsDone rest)) k)) (k, accepted-passes-test-3 t r (h .0 .0), later)
     go (inr k) later = subst AllJournalled (sym (cond-false (r ∷ journalled (requestsDone rest)) (journalled (requestsDone rest)) k)) later
 
+accepted-journalled : (t : Tables) (calls : List Call) → AllJournalled (journalled (requestsIn (acceptedEntries t calls)))
+accepted-journalled t calls =
+    let a : DoneThese t (requestsIn (acceptedEntries t calls)) (run t calls .tables) = accepted-done t calls in
+    subst (λ (rs : List Request). AllJournalled (journalled rs)) (a .these) (all-journalled (a .done) t (run t calls .tables) (a .from))
+
 -- The journal of the accepted requests of any history, on any tables, is read back as those of them that have a line.
 pub journal-of-accepted : (t : Tables) (calls : List Call) →
     readingOf (journalOf (acceptedEntries t calls)) ≡ record { requests = journalled (requestsIn (acceptedEntries t calls)); whole = true }
 journal-of-accepted t calls =
-    let a : DoneThese t (requestsIn (acceptedEntries t calls)) (run t calls .tables) = accepted-done t calls in
-    ap readingOf (journal-lines (acceptedEntries t calls))
-    ∙ journal-read (journalled (requestsIn (acceptedEntries t calls)))
-    (subst (λ (rs : List Request). AllJournalled (journalled rs)) (a .these) (all-journalled (a .done) t (run t calls .tables) (a .from)))
+    ap readingOf (journal-lines (acceptedEntries t calls)) ∙ journal-read (journalled (requestsIn (acceptedEntries t calls))) (accepted-journalled t calls)
+
+-- It has as many lines.
+pub journal-counted : (t : Tables) (calls : List Call) → newlines (journalOf (acceptedEntries t calls)) ≡ length (journalled (requestsIn (acceptedEntries t calls)))
+journal-counted t calls = ap newlines (journal-lines (acceptedEntries t calls)) ∙ lines-counted (journalled (requestsIn (acceptedEntries t calls))) (accepted-journalled t calls)

@@ -1,5 +1,6 @@
--- What the writing calls write of an accepted call is its lines in the journal (`linesOf`): it passes test 3, so that only a short buffer is refused, and the bytes past the lines stay.
--- Of a batch that stopped, and of a replay, each booked request is accepted by itself. Assumes nothing.
+-- What the writing calls write of an accepted call is its lines in the journal (`linesOf`): it passes test 3, so that only a short buffer is refused, and the bytes past the lines stay. A new day is a request
+-- like the others (`request-written`), a step of a give-up is named by its letter (`step-written`). A batch that stopped: StoppedWritten. Of a replay each booked request is accepted by itself.
+-- Written one after the other they are the journal of the day (`journal-in-turn`, `accepted-lines`). Assumes nothing.
 use Prim.Native.Nat.{ℕ, _≤_, _%_}
 use native.Mathlib.Omega.{arith}
 use mathlib.Core.Path.{_≡_, refl, sym, _∙_, ap, subst}
@@ -9,34 +10,49 @@ use mathlib.Core.Option.{Option}
 use borrow.Author.Tests.{le-leb, le-ltb}
 use lib.Dec.{eqb, leb, ltb}
 use lib.IntN.{ℤ, pos}
-use lib.ListN.{length, drop}
+use lib.ListN.{length}
 use Rattle.rules.specs.Refusal.{Test, allOf}
-use Rattle.rules.specs.Request.{Request}
+use Rattle.rules.specs.Keyed.{isSome}
+use Rattle.rules.specs.Request.{Request, giveUp}
 use Rattle.rules.specs.Tables.{Tables}
 use Rattle.rules.specs.Handle.{handle}
 use Rattle.rules.specs.Sequence.{Done}
 use Rattle.rules.specs.Batch.{tradeCount, tradesOf, batchFigures}
-use Rattle.rules.specs.Line.{lineOf, passesTest3}
+use Rattle.rules.specs.Line.{stepLetter, lineOf, passesTest3}
+use Rattle.rules.specs.Reader.{stepOfLetter}
 use Rattle.rules.specs.Call.{Call, one, trades, handleCall, requestsOf}
-use Rattle.rules.specs.Writing.{TextLeft, textLeft, leftIn, writing, writeRequest, writeTrades}
-use Rattle.rules.specs.declared.Reply.the-variants.{Written}
-use Rattle.keys.proofs.Split.{and-intro, and-left}
+use Rattle.rules.specs.Writing.{leftIn, writing, stepNamed, orOpen, writeRequest, writeTrades, writeGiveUp}
+use Rattle.rules.specs.declared.Step.{Step}
+use Rattle.rules.specs.declared.Step.the-variants.{Open, Claim, Cancel, Refuse, ApproveGiver, ApproveTaker}
+use Rattle.keys.proofs.Split.{and-intro, and-left, cond-true}
 use Rattle.keys.proofs.Clauses.{allOf-nil, allOf-intro}
-use Rattle.history.specs.History.{callAccepted, entryOf}
-use Rattle.rerun.specs.Journal.{linesOf}
+use Rattle.history.specs.History.{callAccepted, Entry, entryOf, bookedBy, entriesOf, acceptedEntries}
+use Rattle.rerun.specs.Journal.{linesOf, journalOf}
+use Rattle.rerun.specs.LinesLeft.{linesLeft}
 use Rattle.history.proofs.Refusals.{no-refusal, passes-test}
 use Rattle.history.proofs.Sequences.{DoneFrom, requestsDone}
 use Rattle.history.proofs.Parts.{InParts, in-parts}
-use Rattle.rerun.proofs.JournalLines.{accepted-passes-test-3}
+use Rattle.rerun.proofs.JournalLines.{flatMap-append, accepted-passes-test-3}
 
--- What a writing call leaves that is not refused.
-abbrev pub linesLeft : List ℕ → List ℕ → TextLeft
-linesLeft lines buffer = textLeft (Written (pos (length lines))) (lines ++ drop (length lines) buffer)
-
-writing-passes : (valid : Bool) (lines buffer : List ℕ) → valid ≡ true → length lines ≤ length buffer → writing valid lines buffer ≡ linesLeft lines buffer
+pub writing-passes : (valid : Bool) (lines buffer : List ℕ) → valid ≡ true → length lines ≤ length buffer → writing valid lines buffer ≡ linesLeft lines buffer
 unfolding writing leftIn
 writing-passes valid lines buffer h fits =
     ap (λ (o : Option Test). leftIn buffer lines o) (passes-test 3 (not valid) _ (ap not h) (passes-test 14 (ltb (length buffer) (length lines)) [] (le-ltb _ _ fits) no-refusal))
+
+-- ---- the journal, call by call
+
+-- Each call adds the lines of its entries.
+pub journal-in-turn : (t : Tables) (c : Call) (rest : List Call) →
+    journalOf (acceptedEntries t (c ∷ rest)) ≡ journalOf (entriesOf t c) ++ journalOf (acceptedEntries (handleCall t c .tables) rest)
+unfolding journalOf acceptedEntries
+journal-in-turn t c rest = flatMap-append (λ (e : Entry). linesOf (e .call)) (entriesOf t c) (acceptedEntries (handleCall t c .tables) rest)
+
+-- Those of a call that is accepted as a whole are its own.
+pub accepted-lines : (t : Tables) (c : Call) → callAccepted t c ≡ true → journalOf (entriesOf t c) ≡ linesOf c
+unfolding journalOf entriesOf flatMap
+accepted-lines t c ok = ap journalOf (cond-true (entryOf t c ∷ []) (bookedBy t c) ok) ∙ append-nil (linesOf c)
+
+-- ---- a request
 
 pub request-written : (t : Tables) (r : Request) → callAccepted t (one r) ≡ true → (buffer : List ℕ) → length (linesOf (one r)) ≤ length buffer →
     writeRequest r buffer ≡ linesLeft (linesOf (one r)) buffer
@@ -46,9 +62,28 @@ request-written t r ok buffer fits =
     writing-passes (passesTest3 r) (lineOf r) buffer (accepted-passes-test-3 t r ok) (subst (λ (l : List ℕ). length l ≤ length buffer) line fits)
     ∙ ap (λ (l : List ℕ). linesLeft l buffer) (sym line)
 
+-- ---- a step of a give-up, by its letter
+
+-- The writing call that is handed the number of the step's letter writes what is written of that step, for all figures and any buffer.
+pub letter-written : (step : Step) (process id suffix giving taking series : ℤ) (buffer : List ℕ) →
+    writeGiveUp (pos (stepLetter step)) process id suffix giving taking series buffer ≡ writeRequest (giveUp step process id suffix giving taking series) buffer
+unfolding writeGiveUp writeRequest stepNamed stepOfLetter orOpen isSome passesTest3
+letter-written Open process id suffix giving taking series buffer = refl
+letter-written Claim process id suffix giving taking series buffer = refl
+letter-written Cancel process id suffix giving taking series buffer = refl
+letter-written Refuse process id suffix giving taking series buffer = refl
+letter-written ApproveGiver process id suffix giving taking series buffer = refl
+letter-written ApproveTaker process id suffix giving taking series buffer = refl
+
+pub step-written : (t : Tables) (step : Step) (process id suffix giving taking series : ℤ) → callAccepted t (one (giveUp step process id suffix giving taking series)) ≡ true →
+    (buffer : List ℕ) → length (linesOf (one (giveUp step process id suffix giving taking series))) ≤ length buffer →
+    writeGiveUp (pos (stepLetter step)) process id suffix giving taking series buffer ≡ linesLeft (linesOf (one (giveUp step process id suffix giving taking series))) buffer
+step-written t step process id suffix giving taking series ok buffer fits =
+    letter-written step process id suffix giving taking series buffer ∙ request-written t (giveUp step process id suffix giving taking series) ok buffer fits
+
 -- ---- a batch
 
-each-passes-test-3 : (done : List Done) (t end : Tables) → DoneFrom t done end → allOf (map passesTest3 (requestsDone done)) ≡ true
+pub each-passes-test-3 : (done : List Done) (t end : Tables) → DoneFrom t done end → allOf (map passesTest3 (requestsDone done)) ≡ true
 each-passes-test-3 [] t end h = allOf-nil
 each-passes-test-3 (d ∷ rest) t end h =
     allOf-intro (passesTest3 (d .request)) (map passesTest3 (requestsDone rest)) (accepted-passes-test-3 t (d .request) (h .0 .0))

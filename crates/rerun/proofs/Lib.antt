@@ -2,5 +2,8 @@ pub mod AcceptedDone
 pub mod Journal
 pub mod JournalLines
 pub mod JournalWritten
+pub mod LinesBooked
+pub mod PartBooked
 pub mod SameBooks
 pub mod Samples
+pub mod StoppedWritten

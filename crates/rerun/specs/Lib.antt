@@ -1,1 +1,5 @@
 pub mod Journal
+pub mod LinesBooked
+pub mod LinesLeft
+pub mod Rerun
+pub mod Sample
