@@ -63,7 +63,7 @@ absent o h = isSome-absent o (not-true (isSome o) h)
 none-absent : (o : Option Test) → o ≡ none → not (isSome o) ≡ true
 none-absent o h = ap (λ (p : Option Test). not (isSome p)) h ∙ ap not (isSome-none Test)
 
-figures-pass : (t : Tables) (figures : List ℤ) (cells : ℕ) → batchRefusal t figures cells ≡ none → batchFigures figures cells ≡ true
+pub figures-pass : (t : Tables) (figures : List ℤ) (cells : ℕ) → batchRefusal t figures cells ≡ none → batchFigures figures cells ≡ true
 unfolding batchTests
 figures-pass t figures cells h = not-false (batchFigures figures cells) (test-passes 3 _ _ (rest-passes _ _ (rest-passes _ _ h)))
 

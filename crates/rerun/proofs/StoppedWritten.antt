@@ -7,7 +7,7 @@ use mathlib.Core.Path.{_≡_, refl, sym, _∙_, ap, subst}
 use mathlib.Core.Bool.{true, false, not, _&&_}
 use mathlib.Core.List.{List, [], _∷_, map, flatMap}
 use mathlib.Core.Option.{Option, none, some}
-use borrow.Author.Tests.{leb-true, le-leb, eq-eqb, not-false}
+use borrow.Author.Tests.{leb-true, le-leb, eq-eqb}
 use lib.Dec.{eqb, leb}
 use lib.IntN.{ℤ, pos}
 use lib.ListN.{length, take, length-take}
@@ -20,7 +20,7 @@ use Rattle.rules.specs.Layout.{decode}
 use Rattle.rules.specs.Tables.{Tables}
 use Rattle.rules.specs.Handle.{answer}
 use Rattle.rules.specs.Sequence.{Done, Sequence, untilRefused}
-use Rattle.rules.specs.Batch.{tradeAt, tradeCount, tradesOf, batchFigures, batchTests, batchRefusal, batchReply, batchAnswer, handleBatch}
+use Rattle.rules.specs.Batch.{tradeAt, tradeCount, tradesOf, batchFigures, batchRefusal, batchReply, batchAnswer, handleBatch}
 use Rattle.rules.specs.Line.{lineOf, passesTest3}
 use Rattle.rules.specs.Call.{trades, handleCall}
 use Rattle.rules.specs.Writing.{writeTrades}
@@ -29,8 +29,8 @@ use Rattle.keys.proofs.Split.{is-false, clash, and-intro, and-left, and-right, 
 use Rattle.keys.proofs.Clauses.{isSome-none, isSome-some}
 use Rattle.cells.proofs.Decode.{length-decode, take-decode}
 use Rattle.history.specs.History.{callAccepted, entryOf, asEntry, bookedBy, entriesOf}
-use Rattle.history.proofs.Refusals.{test-passes, rest-passes}
 use Rattle.history.proofs.Sequences.{requestsDone, done-from}
+use Rattle.history.proofs.Parts.{figures-pass}
 use Rattle.rerun.specs.Journal.{journalOf}
 use Rattle.rerun.specs.LinesLeft.{linesLeft, firstTrades}
 use Rattle.rerun.proofs.PartBooked.{done-first, done-within, lines-of-done}
@@ -121,10 +121,6 @@ module _ (t : Tables) (figures : List ℤ) (cells : ℕ) where
         cond-false (entryOf t (trades figures cells) ∷ []) (bookedBy t (trades figures cells)) not-accepted
         ∙ cond-false [] (map asEntry (s .done)) (ap isSome (w .passes) ∙ isSome-none Test)
 
-    figures-pass : batchFigures figures cells ≡ true
-    unfolding batchTests
-    figures-pass = not-false (batchFigures figures cells) (test-passes 3 _ _ (rest-passes _ _ (rest-passes _ _ (w .passes))))
-
     booked-within : k ≤ tradeCount figures
     unfolding tradesOf
     booked-within =
@@ -148,6 +144,6 @@ stopped-written t figures cells k number place h some-trade buffer fits =
     let each : allOf (map passesTest3 (tradesOf (firstTrades k figures))) ≡ true =
     subst (λ (l : List Request). allOf (map passesTest3 l) ≡ true) these (each-passes-test-3 done t (s t figures cells .tables) (done-from t (tradesOf figures))) in
     writing-passes _ (flatMap lineOf (tradesOf (firstTrades k figures))) buffer
-    (and-intro (first-figures figures k (booked-within t figures cells k w) cells (figures-pass t figures cells k w) some-trade) each)
+    (and-intro (first-figures figures k (booked-within t figures cells k w) cells (figures-pass t figures cells (w .passes)) some-trade) each)
     (subst (λ (l : List ℕ). length l ≤ length buffer) lines fits)
     ∙ ap (λ (l : List ℕ). linesLeft l buffer) (sym lines)
