@@ -20,7 +20,7 @@ const PROCESSES: usize = layout::PROCESSES_HEADER + 100 * layout::PROCESS_WIDTH;
 // - 19,600 of requests that add records. There are at most 400, and a line has at most 49 bytes for each that it adds, a trade's;
 // - 18,800 of give-ups. There are at most 100 processes, each has at most four lines, those of the opening, the claim and two approvals, and a line has at most 47 bytes.
 // So in a longer file a line is not booked, and the first such begins within these bytes. Where it is good it has at most 16,024, those of a merge of 1,000 sources, and ends before what is read does. Where it
-// is bad it stays bad, since the reader looks at no byte past a line. Either way the line that is named is that of the whole file.
+// is bad it stays bad, since a line is read without a look at what follows it. Either way the line that is named is that of the whole file.
 const TEXT: usize = 1_048_576;
 
 // How many bytes were read, or that reading failed.
@@ -164,6 +164,7 @@ fn replay(text: &[u8]) {
     }
 }
 
+// The text is a local: the program takes some 1,200,000 bytes of stack.
 fn replay_file(fd: i32, path: &[u8]) {
     let mut text = buffer();
     let FileRead::Bytes(n) = read_file(fd, &mut text) else {
