@@ -11,7 +11,8 @@
  *
  * Every call takes any tables of any length with any contents, any figures and any text, and answers. A request that is refused changes nothing; a
  * list of trades stops at the first that is refused, a replay at the first line that is bad or refused, and what came before stays booked. What each
- * call answers and what it leaves in every cell and byte is proved of the code behind these functions (see crates/velichundam/src/lib.rt).
+ * call answers and what it leaves in every cell and byte is proved of the code behind these functions (see crates/velichundam/src/lib.rt, and
+ * text_calls.rt beside it).
  *
  * docs/RULES.md has the rules of the book for a host's author: what each request writes, row by row with every cell, and the refusals in order.
  *

@@ -4,31 +4,58 @@
 use libc::STDERR_FILENO;
 use rules::Reply;
 use rules::layout;
+ghost use mathlib.Core.Path.{_≡_};
+ghost use lib.ListN.{length};
+ghost use Rattle.replay.specs.WithinText.{WithinText};
 
-// Cells of the tables, and bytes of a text: one more than a text may have, so that a longer one is seen.
+// Cells of the tables.
 const RECORDS: usize = layout::RECORDS_HEADER + 400 * layout::RECORD_WIDTH;
 
 const POSITIONS: usize = layout::POSITIONS_HEADER + 100 * layout::POSITION_WIDTH;
 
 const PROCESSES: usize = layout::PROCESSES_HEADER + 100 * layout::PROCESS_WIDTH;
 
-const TEXT: usize = 262_145;
+// Bytes of a text: what a file has beyond them is not read. A journal that is booked whole in this room has at most 827,286:
+// - 788,886 of days, which rise from 1 to 99,999, a line each;
+// - 19,600 of requests that add records. There are at most 400, and a line has at most 49 bytes for each that it adds, a trade's;
+// - 18,800 of give-ups. There are at most 100 processes, each has at most four lines, those of the opening, the claim and two approvals, and a line has at most 47 bytes.
+// So in a longer file a line is not booked, and the first such begins within these bytes. Where it is good it has at most 16,024, those of a merge of 1,000 sources, and ends before what is read does. Where it
+// is bad it stays bad, since a line is read without a look at what follows it. Either way the line that is named is that of the whole file.
+const TEXT: usize = 1_048_576;
 
-// How many bytes a file has, or that reading it failed.
+// How many bytes were read, or that reading failed.
 enum FileRead {
     Bytes(usize),
     Failed,
 }
 
-// Reads until the file ends or there is no room.
-fn read_file(fd: i32, text: &mut [u8]) -> FileRead {
+// Zeros, for the bytes of a file. It promises their number, so that nothing else has to count them.
+fn buffer() -> [u8; TEXT]
+    ensures { λ r. ⌜ 1048576 ≡ length r ⌝ }
+{
+    [0; TEXT]
+}
+
+// Reads once. What is read is within the text.
+fn read_part(fd: i32, text: &mut [u8]) -> FileRead
+    ensures { λ r. ⌜ WithinText r (now (text .exit)) ⌝ }
+{
+    let got = libc::read(fd, text);
+    if got < 0 {
+        return FileRead::Failed;
+    }
+    FileRead::Bytes(io::count(got, text))
+}
+
+// Reads until the file ends or the text is full.
+fn read_file(fd: i32, text: &mut [u8]) -> FileRead
+    ensures { λ r. ⌜ WithinText r (now (text .exit)) ⌝ }
+{
     let mut at = 0;
     while at < text.len() {
-        let got = libc::read(fd, &mut text[at..]);
-        if got < 0 {
+        let FileRead::Bytes(more) = read_part(fd, &mut text[at..]) else {
             return FileRead::Failed;
-        }
-        let more = io::count(got, &text[at..]);
+        };
         if more == 0 {
             return FileRead::Bytes(at);
         }
@@ -137,25 +164,15 @@ fn replay(text: &[u8]) {
     }
 }
 
-// The first n bytes of what was read, unless all of the room was used.
-fn replay_read(text: &[u8], n: usize, path: &[u8]) {
-    if text.len() <= n {
-        say(b"replay: ");
-        say(path);
-        say(b" is longer than 262,144 bytes\n");
-        return;
-    }
-    replay(&text[..n]);
-}
-
+// The text is a local: the program takes some 1,200,000 bytes of stack.
 fn replay_file(fd: i32, path: &[u8]) {
-    let mut text = [0u8; TEXT];
+    let mut text = buffer();
     let FileRead::Bytes(n) = read_file(fd, &mut text) else {
         say(b"replay: can't read ");
         os::fail(path);
         return;
     };
-    replay_read(&text, n, path);
+    replay(&text[..n]);
 }
 
 fn main() {

@@ -26,7 +26,7 @@ pub record ListsExactly (today : ℤ) (records : List Record) (cells : List ℤ)
   pub no-other : (k : Key) → Stands (pairsOf cells) k → (r : Record) × (Stands records r) × (recordKey r ≡ k) × (Reportable today records r)
   -- "in table order": by id and then suffix, as the rows rise
   pub in-table-order : rising (λ (k : Key). k) (pairsOf cells) ≡ true
-  -- "once": a pair has one place
+  -- "once": a pair has one place. It follows from the order, of any cells (proofs/Standing `one-place`), and stands here since the paper says it.
   pub once : (i j : ℕ) (k : Key) → getElem? (pairsOf cells) i ≡ some k → getElem? (pairsOf cells) j ≡ some k → i ≡ j
   -- "as id and suffix pairs": there is no cell beside the pairs
   pub pairs-alone : length cells ≡ 2 * length (pairsOf cells)

@@ -37,7 +37,7 @@ isBooking (lineage id suffix) = false
 isBooking (giveUp step process id suffix giving taking series) = true
 isBooking (newDay day) = false
 
--- Refusals 3 to 17, on sound tables.
+-- Refusals 3 to 18 and 23, the tests of the request's plan, on sound tables.
 unfoldable pub verdictOn : List ℤ → List ℤ → Request → Verdict
 verdictOn records positions r = verdictOf (firstRefusal (planTests (booksOf (tablesOf records positions)) (planFor records positions r)))
 

@@ -1,9 +1,11 @@
--- `replay::read_file` is safe and ends: each read goes to the part of the text that is left, and what came is at most that part; the measure is its length.
--- Assumes nothing.
-use mathlib.Core.Path.{_≡_}
+-- `replay::read_file` meets its contract and ends: each read goes to the part of the text that is left, and what came is within that part (`came`); the measure is its length. Assumes nothing.
+use native.Mathlib.Omega.{arith}
+use mathlib.Core.Path.{_≡_, subst}
 use Prim.Native.Nat.{_≤_, _-_}
 use lib.ListN.{length}
 use borrow.Author.Needs.{needs}
+use Rattle.replay.specs.WithinText.{WithinText}
+use Rattle.replay.specs.declared.FileRead.{FileRead}
 use Rattle.replay.proofs.read_file.Statement.{statement}
 use Rattle.replay.proofs.read_file.Tie as tie
 
@@ -13,59 +15,20 @@ Inv-loop fd text₀ at₀ text at = (at ≤ length text) × (length text ≡ len
 abbrev μ-loop : tie.MeasureT-loop
 μ-loop fd text₀ at₀ text at = length text - at
 
-loop-holds : tie.Need-loop-holds Inv-loop μ-loop
-loop-holds c = search needs
+abbrev part-read : tie.After-more Inv-loop μ-loop → tie.After-read-part Inv-loop μ-loop
+part-read c = c .before .before .before .before
 
-sub-read : tie.Need-sub-read Inv-loop μ-loop
-sub-read c = search needs
-
-part-read-start : tie.Need-part-read-start Inv-loop μ-loop
-part-read-start c = search needs
-
-part-read-end : tie.Need-part-read-end Inv-loop μ-loop
-part-read-end c = search needs
-
-read-requires : tie.Need-read-requires Inv-loop μ-loop
-read-requires c κs = search needs
-
-same-length : tie.Need-same-length Inv-loop μ-loop
-same-length c = search needs
-
-returns : tie.Need-returns Inv-loop μ-loop
-returns c = search needs
-
-sub-count : tie.Need-sub-count Inv-loop μ-loop
-sub-count c = search needs
-
-part-count-start : tie.Need-part-count-start Inv-loop μ-loop
-part-count-start c = search needs
-
-part-count-end : tie.Need-part-count-end Inv-loop μ-loop
-part-count-end c = search needs
-
-count-requires : tie.Need-count-requires Inv-loop μ-loop
-count-requires c κs = search needs
-
-same-length-2 : tie.Need-same-length-2 Inv-loop μ-loop
-same-length-2 c = search needs
-
-returns-2 : tie.Need-returns-2 Inv-loop μ-loop
-returns-2 c = search needs
+came : (c : tie.After-more Inv-loop μ-loop) → c .more .given .0 .0 ≤ length (part-read c .read-part .last .1 .0)
+came c = subst (λ (r : FileRead). WithinText r (part-read c .read-part .last .1 .0)) (c .more .given .1) (part-read c .read-part .ensures)
 
 add-at : tie.Need-add-at Inv-loop μ-loop
-add-at c = search needs
+add-at c = omega (arith, came (c .before .before))
 
 loop-less : tie.Need-loop-less Inv-loop μ-loop
-loop-less c = search needs
+loop-less c = omega (arith, came (c .before .before))
 
 loop-again : tie.Need-loop-again Inv-loop μ-loop
-loop-again c = search needs
-
-same-length-3 : tie.Need-same-length-3 Inv-loop μ-loop
-same-length-3 c = search needs
-
-returns-3 : tie.Need-returns-3 Inv-loop μ-loop
-returns-3 c = search needs
+loop-again c = omega (arith, came (c .before .before))
 
 pub read-file-spec : {M : Type 1} → statement M
 read-file-spec =
@@ -73,21 +36,19 @@ read-file-spec =
     (tie.spec
     Inv-loop
     μ-loop
-    loop-holds
-    sub-read
-    part-read-start
-    part-read-end
-    read-requires
-    same-length
-    returns
-    sub-count
-    part-count-start
-    part-count-end
-    count-requires
-    same-length-2
-    returns-2
+    (λ c. search needs)
+    (λ c. search needs)
+    (λ c. search needs)
+    (λ c. search needs)
+    (λ c κs. search needs)
+    (λ c. search needs)
+    (λ c. search needs)
+    (λ c. search needs)
+    (λ c. search needs)
+    (λ c. search needs)
+    (λ c. search needs)
     add-at
     loop-less
     loop-again
-    same-length-3
-    returns-3)
+    (λ c. search needs)
+    (λ c. search needs))
