@@ -1,15 +1,15 @@
 -- `lookup::place_of` meets its contract. The loop's invariant: the halvings of the rows left are at most the fuel, and the place lies among those of the rows left. The measure is
 -- the fuel. Assumes nothing.
-use Prim.Native.Nat.{ℕ, _+_, _-_, _*_, _/_, _≤_, _<_}
+use Prim.Native.Nat.{ℕ, _+_, _*_, _/_, _≤_, _<_}
 use mathlib.Core.Path.{_≡_, sym, _∙_}
-use mathlib.Core.Bool.{true, false}
+use mathlib.Core.Bool.{Bool, true, false}
 use mathlib.Core.Logic.{⊎-elim}
 use native.Mathlib.Omega.{arith}
 use borrow.Author.Tests.{not-true, not-false}
 use lib.ListN.{length}
 use mir.Facts.{toZ-ofZ}
 use mir.Syntax.{w64}
-use mir.Val.{toZ, ofZ}
+use mir.Val.{Fits, toZ, ofZ}
 use Rattle.rules.specs.Keyed.{Key, below}
 use Rattle.rules.specs.Rows.{keyOf}
 use Rattle.lookup.specs.Lookup.{keyAt, rowPlace}
@@ -35,67 +35,45 @@ module _ (s : tie.Start Inv-loop μ-loop) where
   abbrev place : ℕ
   place = rowPlace (s .args .header) (s .args .width) sought (s .args .count) (s .args .cells .now)
 
--- The row in the middle, which is one of the rows left.
-module _ (c : tie.In-loop Inv-loop μ-loop) where
-  abbrev start : tie.Start Inv-loop μ-loop
-  start = c .before .before
+  -- Of any row: its key lies within the table, and says whether the place lies up to the row or past it. Which row a turn looks at is told by the code alone.
+  within : {row : ℕ} → row < s .args .count → s .args .header + row * s .args .width + 1 < length (s .args .cells .now)
+  within {row} h = row-within (s .args .header) (s .args .width) (s .args .count) (s .args .cells .now) (s .pre) row h
 
-  abbrev half : ℕ
-  half = c .before .loop .left / 2
+  cells-fit : {row : ℕ} → row < s .args .count → Fits w64 (row * s .args .width)
+  cells-fit h = omega (arith, within h)
 
-  abbrev past : ℕ
-  past = c .before .loop .low + (c .before .loop .left - half)
+  start-fits : {row : ℕ} → row < s .args .count → Fits w64 (s .args .header + row * s .args .width)
+  start-fits h = omega (arith, within h)
 
-  -- At least one row up to the middle one, half of the rows left after it, no more than half of them before it.
-  halved : (c .before .loop .low < past) × (past + half ≡ c .before .loop .low + c .before .loop .left) × (past - 1 ≤ c .before .loop .low + half)
-  halved = omega (arith, c .loop-test .taken)
+  to-row : {row : ℕ} {r : Bool} → r ≡ below sought (keyAt (s .args .cells .now) (s .args .header + row * s .args .width)) → row < s .args .count → r ≡ true → place ≤ row
+  to-row {row} tested h e = place-to (s .args .cells .now) (s .args .header) (s .args .width) (s .args .count) sought row h (sym tested ∙ e)
 
-  one-of : past - 1 < start .args .count
-  one-of = omega (arith, halved, c .before .loop .inv)
+  past-row : {row : ℕ} {r : Bool} → r ≡ below sought (keyAt (s .args .cells .now) (s .args .header + row * s .args .width)) → row < s .args .count → r ≡ false → row < place
+  past-row {row} tested h e = place-past (s .args .cells .now) (s .args .header) (s .args .width) (s .args .count) sought row h (s .pre .keys-rise) (sym tested ∙ e)
 
-  within : start .args .header + (past - 1) * start .args .width + 1 < length (start .args .cells .now)
-  within = row-within (start .args .header) (start .args .width) (start .args .count) (start .args .cells .now) (start .pre) (past - 1) one-of
-
-  -- This turn, and the halvings of what is left after it, are within the fuel.
-  enough : halvings half < c .before .loop .fuel
-  enough = omega (arith, c .before .loop .inv, halvings-step (c .before .loop .left) (omega (arith, c .loop-test .taken)))
+-- This turn, and the halvings of what is left after it, are within the fuel.
+enough : (c : tie.In-loop Inv-loop μ-loop) → halvings (c .before .loop .left / 2) < c .before .loop .fuel
+enough c = omega (arith, halvings-step (c .before .loop .left) (omega arith))
 
 loop-holds : tie.Need-loop-holds Inv-loop μ-loop
 loop-holds c =
     omega (arith, place-at-most (c .args .cells .now) (c .args .header) (c .args .width) (c .args .count) (sought c), fuel-suffices (c .args .count) (c .pre .few-rows))
 
--- The test of the middle row's key.
-module _ (c : tie.After-before-row Inv-loop μ-loop) where
-  abbrev inside : tie.In-loop Inv-loop μ-loop
-  inside = c .before
-
-  tested : c .before-row .result ≡ below (sought (start inside)) (keyAt (start inside .args .cells .now) (start inside .args .header + (past inside - 1) * start inside .args .width))
-  tested = c .before-row .ensures
-
-  -- The place lies before the middle row or at it, or past it.
-  to-middle : c .before-row .result ≡ true → place (start inside) ≤ past inside - 1
-  to-middle e =
-      let s : tie.Start Inv-loop μ-loop = start inside in
-      place-to (s .args .cells .now) (s .args .header) (s .args .width) (s .args .count) (sought s) (past inside - 1) (one-of inside) (sym tested ∙ e)
-
-  past-middle : c .before-row .result ≡ false → past inside - 1 < place (start inside)
-  past-middle e =
-      let s : tie.Start Inv-loop μ-loop = start inside in
-      place-past (s .args .cells .now) (s .args .header) (s .args .width) (s .args .count) (sought s) (past inside - 1) (one-of inside) (s .pre .keys-rise) (sym tested ∙ e)
-
 sub-fuel : tie.Need-sub-fuel Inv-loop μ-loop
-sub-fuel c = omega (arith, enough (inside (c .before)))
+sub-fuel c = omega (arith, enough (c .before .before))
 
 loop-less : tie.Need-loop-less Inv-loop μ-loop
-loop-less c = omega (arith, enough (inside (c .before)))
+loop-less c = omega (arith, enough (c .before .before))
 
 -- After either way through the test.
 loop-again : tie.Need-loop-again Inv-loop μ-loop
 loop-again c =
-    let i : tie.In-loop Inv-loop μ-loop = inside (c .before) in
+    let b : tie.After-before-row Inv-loop μ-loop = c .before in
+    let i : tie.In-loop Inv-loop μ-loop = b .before in
+    let s : tie.Start Inv-loop μ-loop = i .before .before in
     ⊎-elim
-    (λ t. omega (arith, past-middle (c .before) (not-true (c .before .before-row .result) (t .0 .taken)), t .1, i .before .loop .inv, halved i, enough i))
-    (λ t. omega (arith, to-middle (c .before) (not-false (c .before .before-row .result) (t .0 .left)), t .1, i .before .loop .inv, halved i, enough i))
+    (λ t. omega (arith, past-row s (b .before-row .ensures) (omega arith) (not-true (b .before-row .result) (t .0 .taken)), t .1, i .before .loop .inv, enough i))
+    (λ t. omega (arith, to-row s (b .before-row .ensures) (omega arith) (not-false (b .before-row .result) (t .0 .left)), t .1, i .before .loop .inv, enough i))
     (c .if1 .came)
 
 -- Nothing is left.
@@ -118,12 +96,12 @@ place-of-spec =
     Inv-loop
     μ-loop
     loop-holds
-    (λ c. omega (arith, halved c))
-    (λ c. omega (arith, one-of c))
-    (λ c. omega (arith, halved c))
-    (λ c. omega (arith, within c))
-    (λ c. omega (arith, within c))
-    (λ c κs. within c)
+    (λ c. omega arith)
+    (λ c. omega arith)
+    (λ c. omega arith)
+    (λ c. cells-fit (c .before .before) (omega arith))
+    (λ c. start-fits (c .before .before) (omega arith))
+    (λ c κs. within (c .before .before) (omega arith))
     sub-fuel
     loop-less
     loop-again
