@@ -52,6 +52,7 @@ rising-front (suc n) (e ∷ rest) h =
 pub front-searchable : (header width count end : ℕ) (cells : List ℤ) → end ≤ count → Searchable header width count cells → Searchable header width end cells
 front-searchable header width count end cells h s = record {
   key-within = s .key-within;
+  few-rows = omega (arith, s .few-rows);
   rows-within = omega (arith, s .rows-within, mul-le-mul-right width h);
   keys-rise =
       ap (rising (λ e. e)) (sym (take-decode keyAt width end count header cells h)) ∙ rising-front end (decode keyAt width count header cells) (s .keys-rise);

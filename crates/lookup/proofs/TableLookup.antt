@@ -13,8 +13,9 @@ use Rattle.rules.specs.Rows.{keyOf, recordKey, positionKey, zeroPosition, orZer
 use Rattle.rules.specs.Layout.{Layout, countOf, decode, rowAt, rowsOf}
 use Rattle.rules.specs.Tables.{recordsLayout, positionsLayout}
 use Rattle.cells.specs.SoundTable.{SoundTable}
+use Rattle.cells.proofs.Count.{room-most}
 use Rattle.cells.proofs.Decode.{length-decode, getD-decode}
-use Rattle.lookup.specs.Lookup.{keyAt, rowFrom, keysRise, Searchable, foundIn, placeIn, positionFound}
+use Rattle.lookup.specs.Lookup.{keyAt, rowFrom, keysRise, mostRows, Searchable, foundIn, placeIn, positionFound}
 use Rattle.lookup.specs.declared.Found.the-variants as Found
 use Rattle.lookup.proofs.RowFound.{row-told, absent-told, found-find, found-key, absent-find}
 use Rattle.lookup.proofs.RowPlaced.{place-within, upsert-placed, upsert-replaced}
@@ -26,9 +27,10 @@ pub decode-keys : {A : Type 0} (get : List ℤ → ℕ → A) (key : A → Key) 
 decode-keys get key first width zero at cells = refl
 decode-keys get key first width (suc n) at cells = ap₂ _∷_ (sym (first cells at)) (decode-keys get key first width n (at + width) cells)
 
--- Each row of a layout begins with its key.
+-- Each row of a layout begins with its key, and there is room for no more rows than may be searched.
 pub record KeyFirst {A : Type 0} (l : Layout A) (key : A → Key) : Type 0 where
   pub key-within : 2 ≤ l .width
+  pub few-rows : l .most ≤ mostRows
   pub key-first : (cells : List ℤ) (at : ℕ) → key (l .get cells at) ≡ keyAt cells at
 
 module _ {A : Type 0} (l : Layout A) (key : A → Key) (lawful : KeyFirst l key) (cells : List ℤ) where
@@ -54,6 +56,7 @@ module _ {A : Type 0} (l : Layout A) (key : A → Key) (lawful : KeyFirst l key)
   pub table-searchable : (soundRow : A → Bool) → SoundTable l key soundRow cells → (n : ℕ) → n ≡ length (rowsOf l cells) → Searchable (l .header) (l .width) n cells
   table-searchable soundRow table n e = record {
     key-within = lawful .key-within;
+    few-rows = omega (arith, table .rows-fit, room-most l cells, lawful .few-rows);
     rows-within = rw e (table .rows-within);
     keys-rise = table-rises (table .rows-rise) n e;
   }
@@ -107,10 +110,10 @@ module _ {A : Type 0} (l : Layout A) (key : A → Key) (lawful : KeyFirst l key)
 -- ---- the two tables
 
 pub records-first : KeyFirst recordsLayout recordKey
-records-first = record { key-within = omega arith; key-first = λ cells at. refl }
+records-first = record { key-within = omega arith; few-rows = omega arith; key-first = λ cells at. refl }
 
 pub positions-first : KeyFirst positionsLayout positionKey
-positions-first = record { key-within = omega arith; key-first = λ cells at. refl }
+positions-first = record { key-within = omega arith; few-rows = omega arith; key-first = λ cells at. refl }
 
 module _ (cells : List ℤ) (account series : ℤ) where
   pub position-found : (row : ℕ) → positionFound cells account series ≡ Found.Row row

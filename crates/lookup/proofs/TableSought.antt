@@ -4,7 +4,7 @@ use mathlib.Core.Path.{_≡_, refl, sym, ap, _∙_}
 use mathlib.Core.List.{List}
 use mathlib.Core.Option.{Option, none, some}
 use native.Mathlib.Omega.{arith}
-use lib.IntN.{ℤ, pos, natAbs, _+ℤ_}
+use lib.IntN.{ℤ, natAbs}
 use lib.ListN.{length}
 use lib.Signed.{leZ}
 use mathlib.Core.Bool.{true}
@@ -13,8 +13,8 @@ use Rattle.rules.specs.Rows.{keyOf}
 use Rattle.rules.specs.NamedRecord.{nextSuffix}
 use Rattle.rules.specs.Layout.{Layout, countOf, decode, rowAt, rowsOf}
 use Rattle.keys.proofs.Greatest.{found-greatest}
-use Rattle.lookup.specs.Lookup.{keyAt, rowFrom, placeFrom, foundOr, greatestFound, theGreatest, soughtAs, foundIn, placeIn, soughtIn}
-use Rattle.lookup.specs.declared.Found.the-variants as Found
+use Rattle.lookup.specs.Lookup.{keyAt, rowFrom, placeFrom, foundOr, greatestFound, theGreatest, soughtAs, placeIn, soughtIn}
+use Rattle.lookup.specs.SoughtRows.{PresentAt, AbsentAt}
 use Rattle.lookup.specs.declared.Greatest.{Greatest}
 use Rattle.lookup.specs.declared.Sought.the-variants as Sought
 use Rattle.lookup.proofs.RowFound.{absent-find, greatest-map}
@@ -41,22 +41,6 @@ module _ (o : Option ℕ) (place : ℕ) (g : Option ℤ) (n : ℕ) where
           let s : Sought.Absent place (greatestFound g) ≡ Sought.Absent p f = ap (λ (x : Option ℕ). soughtAs x place g n) (sym h) ∙ e in
           (h, cc, cc)
       go (some i) h = let z : _≡_ {A = ℕ} 0 1 = cc (ap (λ (x : Option ℕ). soughtAs x place g n) h) in absurd (omega arith)
-
-module _ {A : Type 0} (l : Layout A) (key : A → Key) (cells : List ℤ) (k : Key) where
-  -- A key that is there.
-  pub record PresentAt (row : ℕ) (g : ℤ) (next : ℕ) : Type 0 where
-    pub row-within : row < length (rowsOf l cells)
-    pub found : find key k (rowsOf l cells) ≡ some (rowAt l cells row)
-    pub key-is : key (rowAt l cells row) ≡ k
-    pub found-is : foundIn l k cells ≡ Found.Row row
-    pub greatest-is : greatest key (k .major) (rowsOf l cells) ≡ some g
-    pub next-is : next ≡ placeIn l (keyOf (k .major) (g +ℤ pos 1)) cells
-
-  -- A key that is not.
-  pub record AbsentAt (place : ℕ) (g : Greatest) : Type 0 where
-    pub absent : find key k (rowsOf l cells) ≡ none
-    pub place-is : place ≡ placeIn l k cells
-    pub greatest-is : greatestFound (greatest key (k .major) (rowsOf l cells)) ≡ g
 
 module _ {A : Type 0} (l : Layout A) (key : A → Key) (first : KeyFirst l key) (cells : List ℤ) (k : Key) where
   abbrev keys : List Key

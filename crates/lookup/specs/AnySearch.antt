@@ -24,7 +24,7 @@ answered (look row before otherwise) place = cond (leb place row) (answered befo
 abbrev pub FindsAll : Search → (rows : ℕ) → Type 0
 FindsAll s rows = (place : ℕ) → place ≤ rows → answered s place ≡ place
 
--- The search by halving in the rows left from `low` on, stopped after so many steps. It looks where `lookup::place_by_halving` does.
+-- The search by halving in the rows left from `low` on, stopped after so many steps. It looks where `lookup::place_of` does.
 unfoldable pub byHalving : (steps low left : ℕ) → Search
 byHalving zero low left = answer low
 byHalving (suc steps) low left =

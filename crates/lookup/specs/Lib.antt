@@ -1,3 +1,4 @@
 pub mod Lookup
+pub mod SoughtRows
 pub mod Steps
 pub mod AnySearch

@@ -75,9 +75,14 @@ rowSought header width k count cells = soughtAmong k (decode keyAt width count h
 abbrev pub keysRise : (header width count : ℕ) → List ℤ → Bool
 keysRise header width count cells = rising (λ k. k) (decode keyAt width count header cells)
 
--- What a search asks of a table: a row has its key's two cells, the rows lie within the cells, and their keys rise.
+-- "Room is the whole rows that fit after cell 0, at most 4,096": no sound table has more rows.
+abbrev pub mostRows : ℕ
+mostRows = 4096
+
+-- What a search asks of a table: a row has its key's two cells, there are no more rows than a table may have, they lie within the cells, and their keys rise.
 pub record Searchable (header width count : ℕ) (cells : List ℤ) : Type 0 where
   pub key-within : 2 ≤ width
+  pub few-rows : count ≤ mostRows
   pub rows-within : header + count * width ≤ length cells
   pub keys-rise : keysRise header width count cells ≡ true
 

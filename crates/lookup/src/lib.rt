@@ -1,4 +1,4 @@
-// Lookup in a lent table whose keys rise, by halving, in at most 13 steps of 4,096 rows: every table has a row's key in its first two cells, so one search serves all. `header` is
+// Lookup in a lent table whose keys rise, by halving, each search in at most 13 steps: every table has a row's key in its first two cells, so one search serves all. `header` is
 // the number of cells before the first row, `width` that of a row.
 ghost use mathlib.Core.Path.{_≡_};
 ghost use Prim.Native.Nat.{_+_, _<_};
@@ -6,13 +6,9 @@ ghost use lib.ListN.{length};
 ghost use Rattle.rules.specs.Rows.{keyOf};
 ghost use Rattle.rules.specs.Keyed.{below, same};
 ghost use Rattle.lookup.specs.Lookup.{Searchable, keyAt, rowFound, rowPlace, rowSought};
-ghost use Rattle.lookup.specs.Steps.{rowSearched, InThirteenSteps};
 
-// Where a key belongs, and in how many steps that was found.
-pub struct Searched {
-    pub place: usize,
-    pub steps: usize,
-}
+// "each search in at most 13 steps" (document 02, K6).
+const MOST_STEPS: usize = 13;
 
 // The row with a key, from 0; or that there is none, with the row where the key belongs.
 pub enum Found {
@@ -81,40 +77,8 @@ fn before_row(cells: &[i64], at: usize, major: i64, minor: i64, few: bool) -> bo
     comes_before(major, minor, first, cells[at + 1])
 }
 
-// By halving, where a key belongs: the last row of the first half of those left says in which half the place lies, and as many rows are left as the second half has. So the
-// number of steps is that of the halvings, whatever the keys.
-fn place_by_halving(
-    cells: &[i64],
-    header: usize,
-    width: usize,
-    count: usize,
-    major: i64,
-    minor: i64,
-) -> Searched
-    requires { ⌜ Searchable header width count (now cells) ⌝ }
-    ensures { λ r. ⌜ (r ≡ rowSearched header width (keyOf major minor) count (now (cells .entry))) × InThirteenSteps count (r .steps) ⌝ }
-{
-    let few = count <= 16;
-    let mut low = 0;
-    let mut left = count;
-    let mut steps: usize = 0;
-    while 0 < left {
-        let half = left / 2;
-        let past = low + (left - half);
-        let at = header + (past - 1) * width;
-        if !before_row(cells, at, major, minor, few) {
-            low = past;
-        }
-        left = half;
-        steps += 1;
-    }
-    Searched {
-        place: low,
-        steps: steps,
-    }
-}
-
-// How many rows stand before the place where a key belongs.
+// How many rows stand before the place where a key belongs, by halving: the last row of the first half of those left says in which half the place lies, and as many rows are left as
+// the second half has. Each turn of the loop is a step and takes one off the fuel. The check refuses a subtraction that may wrap, so the loop turns at most 13 times (specs/Steps.antt).
 pub fn place_of(
     cells: &[i64],
     header: usize,
@@ -126,8 +90,21 @@ pub fn place_of(
     requires { ⌜ Searchable header width count (now cells) ⌝ }
     ensures { λ r. ⌜ r ≡ rowPlace header width (keyOf major minor) count (now (cells .entry)) ⌝ }
 {
-    let searched = place_by_halving(cells, header, width, count, major, minor);
-    searched.place
+    let few = count <= 16;
+    let mut low = 0;
+    let mut left = count;
+    let mut fuel: usize = MOST_STEPS;
+    while 0 < left {
+        let half = left / 2;
+        let past = low + (left - half);
+        let at = header + (past - 1) * width;
+        if !before_row(cells, at, major, minor, few) {
+            low = past;
+        }
+        left = half;
+        fuel -= 1;
+    }
+    low
 }
 
 pub fn find_row(

@@ -25,7 +25,7 @@ use Rattle.processes.specs.Ready.{ReplaceReady}
 use Rattle.processes.proofs.NumberedRows.{by-key}
 
 pub processes-first : KeyFirst processesLayout processKey
-processes-first = record { key-within = omega arith; key-first = λ cells at. refl }
+processes-first = record { key-within = omega arith; few-rows = omega arith; key-first = λ cells at. refl }
 
 module _ (cells : List ℤ) (sound : soundProcesses cells ≡ true) where
   pub processes-by-key : SoundTable processesLayout processKey soundProcess cells

@@ -11,7 +11,8 @@ use Rattle.rules.specs.ProcessRows.{processKey, rowOfProcess}
 use Rattle.rules.specs.Tables.{processesLayout}
 use Rattle.rules.specs.declared.Process.{Process}
 use Rattle.lookup.specs.Lookup.{soughtIn}
-use Rattle.lookup.proofs.TableSought.{PresentAt, AbsentAt, table-present, table-lacks}
+use Rattle.lookup.specs.SoughtRows.{PresentAt, AbsentAt}
+use Rattle.lookup.proofs.TableSought.{table-present, table-lacks}
 use Rattle.processes.proofs.ProcessTable.{processes-first}
 use Rattle.scan.proofs.ReadBack.{read-back}
 use Rattle.give_up_steps.specs.Terms.{termsValid}

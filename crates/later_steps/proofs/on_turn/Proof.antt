@@ -12,7 +12,8 @@ use Rattle.rules.specs.declared.ProcessRow.{ProcessRow}
 use Rattle.cells.proofs.SoundCells.{record-rows-sound}
 use Rattle.lookup.specs.Lookup.{recordSought}
 use Rattle.lookup.proofs.TableLookup.{records-first}
-use Rattle.lookup.proofs.TableSought.{AbsentAt, table-lacks}
+use Rattle.lookup.specs.SoughtRows.{AbsentAt}
+use Rattle.lookup.proofs.TableSought.{table-lacks}
 use Rattle.requests.specs.KnownRecord.{KnownRecord}
 use Rattle.scan.proofs.ReadBack.{read-back}
 use Rattle.verdict.specs.Verdict.{verdictOf}

@@ -21,7 +21,8 @@ use Rattle.rules.specs.Tables.{recordsLayout, soundRecordRows}
 use Rattle.figures.proofs.Tests.{is-literal, not-literal}
 use Rattle.lookup.specs.Lookup.{recordSought}
 use Rattle.lookup.proofs.TableLookup.{records-first}
-use Rattle.lookup.proofs.TableSought.{PresentAt, table-present, table-lacks}
+use Rattle.lookup.specs.SoughtRows.{PresentAt}
+use Rattle.lookup.proofs.TableSought.{table-present, table-lacks}
 use Rattle.scan.proofs.ReadBack.{read-back}
 use Rattle.soundness.proofs.FigureRanges.{suffix-range}
 use Rattle.verdict.proofs.LineageAnswer.{recordsOfId, parent-valid}

@@ -19,7 +19,8 @@ use Rattle.lookup.specs.Lookup.{soughtIn, recordSought}
 use Rattle.lookup.specs.declared.Greatest.{Greatest}
 use Rattle.lookup.proofs.RowFound.{nothing-none, suffix-some}
 use Rattle.lookup.proofs.TableLookup.{records-first}
-use Rattle.lookup.proofs.TableSought.{PresentAt, AbsentAt, table-present, table-lacks}
+use Rattle.lookup.specs.SoughtRows.{PresentAt, AbsentAt}
+use Rattle.lookup.proofs.TableSought.{table-present, table-lacks}
 use Rattle.processes.proofs.ProcessTable.{processes-first}
 use Rattle.scan.proofs.ReadBack.{read-back}
 use Rattle.soundness.proofs.GiveUp.{give-up-figures, sound-process}

@@ -13,7 +13,8 @@ use Rattle.rules.specs.NamedRecord.{nextSuffix}
 use Rattle.rules.specs.Tables.{recordsLayout}
 use Rattle.lookup.specs.Lookup.{placeIn}
 use Rattle.lookup.proofs.TableLookup.{records-first}
-use Rattle.lookup.proofs.TableSought.{PresentAt, table-present}
+use Rattle.lookup.specs.SoughtRows.{PresentAt}
+use Rattle.lookup.proofs.TableSought.{table-present}
 use Rattle.verdict.proofs.SoundReads.{greatest-range}
 use Rattle.requests.proofs.record_named.Statement.{statement}
 use Rattle.requests.proofs.record_named.Tie as tie

@@ -17,7 +17,8 @@ use Rattle.cells.proofs.SoundCells.{record-rows-sound, records-known}
 use Rattle.figures.proofs.Tests.{passed}
 use Rattle.lookup.specs.Lookup.{placeIn, recordSought}
 use Rattle.lookup.proofs.TableLookup.{records-first, table-place}
-use Rattle.lookup.proofs.TableSought.{PresentAt, AbsentAt, table-present, table-lacks}
+use Rattle.lookup.specs.SoughtRows.{PresentAt, AbsentAt}
+use Rattle.lookup.proofs.TableSought.{table-present, table-lacks}
 use Rattle.tables_main.proofs.ask.Statement.{statement}
 use Rattle.tables_main.proofs.ask.Tie as tie
 

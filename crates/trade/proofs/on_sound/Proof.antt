@@ -21,7 +21,8 @@ use Rattle.figures.proofs.Tests.{failed, passed}
 use Rattle.lookup.specs.Lookup.{recordSought}
 use Rattle.lookup.proofs.RowFound.{nothing-none, suffix-some}
 use Rattle.lookup.proofs.TableLookup.{records-first}
-use Rattle.lookup.proofs.TableSought.{AbsentAt, table-present, table-lacks}
+use Rattle.lookup.specs.SoughtRows.{AbsentAt}
+use Rattle.lookup.proofs.TableSought.{table-present, table-lacks}
 use Rattle.lookup.specs.declared.Greatest.{Greatest}
 use Rattle.scan.proofs.ReadBack.{read-back}
 use Rattle.verdict.specs.HandledSoundly.{HandledSoundly}

@@ -16,7 +16,8 @@ use Rattle.cells.proofs.SoundCells.{record-rows-sound}
 use Rattle.figures.proofs.Tests.{failed, passed}
 use Rattle.lookup.specs.Lookup.{recordSought}
 use Rattle.lookup.proofs.TableLookup.{records-first}
-use Rattle.lookup.proofs.TableSought.{AbsentAt, table-lacks}
+use Rattle.lookup.specs.SoughtRows.{AbsentAt}
+use Rattle.lookup.proofs.TableSought.{table-lacks}
 use Rattle.requests.proofs.OnSound.{refused-soundly, booked-soundly}
 use Rattle.requests.specs.KnownPosition.{KnownPosition}
 use Rattle.requests.specs.KnownRecord.{KnownRecord}

@@ -19,7 +19,8 @@ use Rattle.keys.proofs.Split.{clash}
 use Rattle.keys.proofs.Clauses.{isSome-none}
 use Rattle.lookup.specs.Lookup.{placeIn, recordSought}
 use Rattle.lookup.proofs.TableLookup.{records-first}
-use Rattle.lookup.proofs.TableSought.{PresentAt, table-present, table-lacks}
+use Rattle.lookup.specs.SoughtRows.{PresentAt}
+use Rattle.lookup.proofs.TableSought.{table-present, table-lacks}
 use Rattle.scan.proofs.ReadBack.{read-back}
 use Rattle.soundness.proofs.NamedRecord.{nextOf, free-from-next}
 use Rattle.verdict.proofs.SoundReads as SoundReads

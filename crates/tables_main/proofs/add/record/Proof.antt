@@ -13,7 +13,8 @@ use Rattle.cells.proofs.SoundCells.{record-rows-sound}
 use Rattle.figures.proofs.Tests.{passed}
 use Rattle.lookup.specs.Lookup.{recordSought}
 use Rattle.lookup.proofs.TableLookup.{records-first}
-use Rattle.lookup.proofs.TableSought.{AbsentAt, table-lacks}
+use Rattle.lookup.specs.SoughtRows.{AbsentAt}
+use Rattle.lookup.proofs.TableSought.{table-lacks}
 use Rattle.scan.proofs.ReadBack.{read-back}
 use Rattle.tables_main.proofs.add.record.Statement.{statement}
 use Rattle.tables_main.proofs.add.record.Tie as tie

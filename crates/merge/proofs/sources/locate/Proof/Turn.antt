@@ -23,7 +23,8 @@ use Rattle.rules.specs.Tables.{recordsLayout}
 use Rattle.rules.specs.Merge.{isMissing}
 use Rattle.lookup.specs.Lookup.{soughtIn}
 use Rattle.lookup.proofs.TableLookup.{records-first}
-use Rattle.lookup.proofs.TableSought.{PresentAt, table-present, table-lacks}
+use Rattle.lookup.specs.SoughtRows.{PresentAt}
+use Rattle.lookup.proofs.TableSought.{table-present, table-lacks}
 use Rattle.verdict.proofs.SoundReads.{greatest-range}
 use Rattle.merge_sources.specs.Sources.{sourcesIn}
 use Rattle.merge_sources.specs.Pairs.{pairAt}
