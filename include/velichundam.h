@@ -95,10 +95,10 @@
  *
  *     average entry  =  value / quantity        in units of 0.0000001, where the quantity is not 0
  *
- * Where the records are all buys or all sells, that is the average of their prices by quantity. Where there are both, it is the price at which they
- * come out even: at settlement price s the records' margin is quantity * s - value, which is 0 there. Where the quantity is 0, nothing is held net
- * and there is no average entry: the margin is -value at every price, what the sells brought less what the buys cost. (value / quantity can't
- * overflow; in C it is cut off towards zero. quantity * s may need more than 64 bits.)
+ * Where the records are all buys or all sells, that is the average of their prices by quantity. Where there are both, it is the break-even price: at
+ * settlement price s the records' margin is quantity * s - value, which is 0 there. Where the quantity is 0, nothing is held net and there is no
+ * average entry: the margin is -value at every price, what the sells brought less what the buys cost. (value / quantity can't overflow; in C it is
+ * cut off towards zero. quantity * s may need more than 64 bits.)
  *
  * No call tests whether the two are true. On tables that were made otherwise they may be any numbers in their range, and they stay as untrue as they
  * were: a host that fills in such a table sums over its records first.

@@ -25,7 +25,7 @@ pub const MOST_POSITIONS: usize = 1_024;
 /// The cell of a position that keeps the signed quantity of its records of status 0 or 3: buys plus, sells minus.
 pub const POSITION_QUANTITY: usize = 5;
 /// The cell of a position that keeps the signed quantity times price of its records of status 0 or 3. Divided by the quantity, where that is not 0, it is the
-/// average entry.
+/// average entry; where there are buys and sells, that is the break-even price, at which their margin is 0.
 pub const POSITION_VALUE: usize = 6;
 /// Cells before the first row of the process table: cell 0 is the row count.
 pub const PROCESSES_HEADER: usize = 1;
