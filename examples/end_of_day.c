@@ -32,7 +32,7 @@ static size_t journal_len;
 static void expect(velichundam_reply r, int64_t kind)
 {
     if (r.kind != kind) {
-        fprintf(stderr, "an answer of kind %" PRId64 ", number %" PRId64 "\n", r.kind, r.first);
+        fprintf(stderr, "an answer of kind %" PRId64 ": %s\n", r.kind, r.kind == VELICHUNDAM_REFUSED ? velichundam_why(r.first) : "not refused");
         exit(1);
     }
 }
@@ -141,7 +141,10 @@ static void rerun(void)
 
     printf("replayed %" PRId64 " lines of %zu bytes: %s\n", again.first, journal_len,
         again.kind == VELICHUNDAM_REPLAYED && memcmp(records, records_again, sizeof records) == 0 ? "the same records and days" : "other records");
-    printf("day 18 once more: %s %" PRId64 "\n", late.kind == VELICHUNDAM_REFUSED ? "refused," : "booked,", late.first);
+    if (late.kind == VELICHUNDAM_REFUSED)
+        printf("day 18 once more: refused, %" PRId64 " (%s)\n", late.first, velichundam_why(late.first));
+    else
+        printf("day 18 once more: booked\n");
 }
 
 int main(void)

@@ -25,33 +25,6 @@ static size_t journal_len;
 /* What is left of the journal's buffer: a pointer and a length, as the writing calls take it. */
 #define JOURNAL_REST journal + journal_len, sizeof journal - journal_len
 
-static const char *why(int64_t number)
-{
-    switch (number) {
-    case VELICHUNDAM_RECORDS_NOT_SOUND: return "records table not sound";
-    case VELICHUNDAM_POSITIONS_NOT_SOUND: return "positions table not sound";
-    case VELICHUNDAM_OUT_OF_RANGE: return "a figure or a count is out of range";
-    case VELICHUNDAM_ID_TAKEN: return "the new id has a record";
-    case VELICHUNDAM_NO_RECORD: return "no such record";
-    case VELICHUNDAM_ELSEWHERE: return "another account or series";
-    case VELICHUNDAM_NOT_ADJUSTABLE: return "the record isn't adjustable";
-    case VELICHUNDAM_TO_CLOSE: return "the record is to close";
-    case VELICHUNDAM_TWICE: return "a pair stands twice in the list";
-    case VELICHUNDAM_OTHER_SIDE: return "the side differs";
-    case VELICHUNDAM_WRONG_SUM: return "the sum doesn't fit";
-    case VELICHUNDAM_NOT_HELD: return "the old account holds too little";
-    case VELICHUNDAM_NO_SUFFIX: return "no suffix is left";
-    case VELICHUNDAM_RECORDS_FULL: return "no room for the new records";
-    case VELICHUNDAM_POSITIONS_FULL: return "no room for the new positions";
-    case VELICHUNDAM_BEYOND_LIMIT: return "a position would leave its range";
-    case VELICHUNDAM_BEING_GIVEN_UP: return "the record is under give-up";
-    case VELICHUNDAM_OUT_OF_TURN: return "no such process, or not its turn";
-    case VELICHUNDAM_PROCESSES_NOT_SOUND: return "process table not sound";
-    case VELICHUNDAM_PROCESSES_FULL: return "no room for the new process";
-    default: return "unknown";
-    }
-}
-
 static void print_reply(const char *request, velichundam_reply r)
 {
     printf("%s: ", request);
@@ -66,7 +39,7 @@ static void print_reply(const char *request, velichundam_reply r)
         printf("price %" PRId64 ", links %" PRId64 "\n", r.first, r.second);
         break;
     case VELICHUNDAM_STOPPED:
-        printf("stopped, booked %" PRId64 ", number %" PRId64 " (%s), place %" PRId64 "\n", r.first, r.second, why(r.second), r.third);
+        printf("stopped, booked %" PRId64 ", number %" PRId64 " (%s), place %" PRId64 "\n", r.first, r.second, velichundam_why(r.second), r.third);
         break;
     case VELICHUNDAM_REPLAYED:
         printf("replayed, lines %" PRId64 "\n", r.first);
@@ -75,10 +48,10 @@ static void print_reply(const char *request, velichundam_reply r)
         printf("line %" PRId64 " is bad\n", r.first);
         break;
     case VELICHUNDAM_LINE_REFUSED:
-        printf("line %" PRId64 " is refused, number %" PRId64 " (%s), place %" PRId64 "\n", r.first, r.second, why(r.second), r.third);
+        printf("line %" PRId64 " is refused, number %" PRId64 " (%s), place %" PRId64 "\n", r.first, r.second, velichundam_why(r.second), r.third);
         break;
     default:
-        printf("refused, number %" PRId64 " (%s), place %" PRId64 "\n", r.first, why(r.first), r.second);
+        printf("refused, number %" PRId64 " (%s), place %" PRId64 "\n", r.first, velichundam_why(r.first), r.second);
     }
 }
 

@@ -22,7 +22,7 @@
  *     int64_t positions[VELICHUNDAM_POSITIONS_LEN(20)] = {0};      // room for 20 positions, none yet
  *     velichundam_reply r = velichundam_trade(records, VELICHUNDAM_RECORDS_LEN(100), positions, VELICHUNDAM_POSITIONS_LEN(20),
  *                                             456789, 1, 1, VELICHUNDAM_BUY_OPEN, 100, 1250000000);
- *     if (r.kind == VELICHUNDAM_REFUSED) { ... r.first is the number below ... }
+ *     if (r.kind == VELICHUNDAM_REFUSED) puts(velichundam_why(r.first));
  *
  * THE TABLES
  *
@@ -406,6 +406,37 @@ enum {
     /* The opening of a give-up: the process doesn't fit into the process table's room. Tested last. */
     VELICHUNDAM_PROCESSES_FULL = 23
 };
+
+/*
+ * What the number of a refusal means, in words for a person. They are the same whatever the request was; the comments above say more. Any other
+ * number is an unknown refusal.
+ */
+static inline const char *velichundam_why(int64_t number)
+{
+    switch (number) {
+    case VELICHUNDAM_RECORDS_NOT_SOUND: return "the records table is not sound";
+    case VELICHUNDAM_POSITIONS_NOT_SOUND: return "the positions table is not sound";
+    case VELICHUNDAM_OUT_OF_RANGE: return "a figure or a count is out of range";
+    case VELICHUNDAM_ID_TAKEN: return "the new id has a record";
+    case VELICHUNDAM_NO_RECORD: return "no such record";
+    case VELICHUNDAM_ELSEWHERE: return "the record is of another account or series";
+    case VELICHUNDAM_NOT_ADJUSTABLE: return "the record's status does not allow it";
+    case VELICHUNDAM_TO_CLOSE: return "the record is to close";
+    case VELICHUNDAM_TWICE: return "this pair stood earlier in the list";
+    case VELICHUNDAM_OTHER_SIDE: return "the side differs from the first source's";
+    case VELICHUNDAM_WRONG_SUM: return "the sum of the quantities does not fit";
+    case VELICHUNDAM_NOT_HELD: return "the account holds less than the quantity";
+    case VELICHUNDAM_NO_SUFFIX: return "no suffix is left";
+    case VELICHUNDAM_RECORDS_FULL: return "no room for the records or the text";
+    case VELICHUNDAM_POSITIONS_FULL: return "no room for the new positions";
+    case VELICHUNDAM_BEYOND_LIMIT: return "a position would leave its range";
+    case VELICHUNDAM_BEING_GIVEN_UP: return "the record is under give-up";
+    case VELICHUNDAM_OUT_OF_TURN: return "the process is taken, unknown or not at this step";
+    case VELICHUNDAM_PROCESSES_NOT_SOUND: return "the process table is not sound";
+    case VELICHUNDAM_PROCESSES_FULL: return "no room for the new process";
+    default: return "unknown refusal";
+    }
+}
 
 /*
  * Books a trade under a new id: one record with suffix 0.

@@ -4,6 +4,10 @@
 //! host: slices of the right length that do not overlap, and nobody else who writes them. The archive is made by `rt staticlib velichundam`; its folder is
 //! VELICHUNDAM_LIB_DIR, or ../target/staticlib. The header also says how much stack a call may need.
 
+mod refusal;
+
+pub use refusal::Refusal;
+
 /// Cells before the first row of the records table: cell 0 is the row count, cell 1 the current day.
 pub const RECORDS_HEADER: usize = 2;
 /// The cell of the records table that holds the current day.
@@ -152,6 +156,16 @@ pub enum Reply {
     Listed { records: i64 },
 }
 
+impl Reply {
+    /// The refusal that it tells of: of the request, of the trade that a list stopped at, or of a journal's line.
+    pub const fn refusal(&self) -> Option<Refusal> {
+        match *self {
+            Reply::Refused { number, .. } | Reply::Stopped { number, .. } | Reply::LineRefused { number, .. } => Some(Refusal(number)),
+            _ => None,
+        }
+    }
+}
+
 /// The answer that the numbers of the C interface stand for.
 ///
 /// # Panics
@@ -174,6 +188,25 @@ impl From<c::Coded> for Reply {
             9 => Reply::Listed { records: first },
             _ => panic!("an answer of kind {kind}: the archive that is linked is not the one that this crate was written for"),
         }
+    }
+}
+
+/// The numbers of the C interface that stand for the answer. A number that it lacks is 0.
+impl From<Reply> for c::Coded {
+    fn from(reply: Reply) -> c::Coded {
+        let (kind, [first, second, third]) = match reply {
+            Reply::Booked { rows, residual } => (0, [rows, residual, 0]),
+            Reply::ClosingError { excess } => (1, [excess, 0, 0]),
+            Reply::Lineage { price, links } => (2, [price, links, 0]),
+            Reply::Refused { number, place } => (3, [number, place, 0]),
+            Reply::Stopped { booked, number, place } => (4, [booked, number, place]),
+            Reply::Written { bytes } => (5, [bytes, 0, 0]),
+            Reply::Replayed { lines } => (6, [lines, 0, 0]),
+            Reply::BadLine { line } => (7, [line, 0, 0]),
+            Reply::LineRefused { line, number, place } => (8, [line, number, place]),
+            Reply::Listed { records } => (9, [records, 0, 0]),
+        };
+        c::Coded { kind, first, second, third }
     }
 }
 

@@ -1,11 +1,11 @@
-//! A host in Rust: document 01's P11, the answers that carry other values, a refusal that changes nothing, the average entry of a position, a list of trades,
-//! give-ups, a journal and its replay, a day's end, and what is no answer at all.
+//! A host in Rust: document 01's P11, the answers that carry other values, a refusal that changes nothing, refusals in words, the average entry of a position, a
+//! list of trades, give-ups, a journal and its replay, a day's end, and what is no answer at all.
 
 use velichundam::{c::Coded, give_up, lineage, merge, positions_len, processes_len, records_len, separate, trade, trades, transfer, Reply, Stage, Step};
 use velichundam::{day, pairs_len, reportable, write_day, CURRENT_DAY, DAY_LINE, LAST_DAY, RECORD_DAY};
 use velichundam::{merge_line, separation_line, GIVE_UP_LINE, TRADE_LINE, TRANSFER_LINE};
 use velichundam::{replay, write_give_up, write_merge, write_separation, write_trade, write_trades, write_transfer};
-use velichundam::{POSITION_QUANTITY, POSITION_VALUE};
+use velichundam::{Refusal, POSITION_QUANTITY, POSITION_VALUE};
 
 #[test]
 fn each_call_answers_by_its_enum() {
@@ -22,6 +22,28 @@ fn each_call_answers_by_its_enum() {
 
     assert_eq!(merge(&mut records, &mut positions, 7, 2, 1, &[456789, 4, 456789, 5]), Reply::Booked { rows: 3, residual: 0 });
     assert_eq!(trade(&mut records, &mut positions, 8, 3, 1, 3, 5, 1), Reply::ClosingError { excess: 5 });
+}
+
+/// An answer as a host may tell it: a refusal in words, any other as it is.
+fn told(reply: Reply) -> String {
+    reply.refusal().map_or(format!("{reply:?}"), |refusal| format!("refused {}: {refusal}", refusal.0))
+}
+
+#[test]
+fn a_refusal_is_told_in_words() {
+    let (mut records, mut positions, mut processes) = (vec![0; records_len(3)], vec![0; positions_len(1)], vec![0; processes_len(0)]);
+    assert_eq!(told(transfer(&mut records, &mut positions, 7, 0, 1, 2, 1)), "refused 5: no such record");
+    let list = [7, 1, 1, 1, 100, 5, 7, 1, 1, 1, 100, 5];
+    assert_eq!(told(trades(&mut records, &mut positions, &list, &mut [0; 2])), "refused 4: the new id has a record");
+    let line = replay(&mut records, &mut positions, &mut processes, b"A\t7\t0\t1\t2\t1\n");
+    assert_eq!(told(line), "refused 15: no room for the new positions");
+    assert_eq!(told(lineage(&records, 7, 0)), "Lineage { price: 5, links: 0 }");
+}
+
+#[test]
+fn a_refusal_is_an_error() {
+    let fails = || -> Result<(), Box<dyn std::error::Error>> { Err(Refusal(8))? };
+    assert_eq!(fails().unwrap_err().to_string(), "the record is to close");
 }
 
 /// The average entry of the position in that row, in units of 0.0000001, a remainder cut off; none where nothing is held net.
@@ -142,7 +164,8 @@ impl Journal {
     fn append(&mut self, most: usize, write: impl FnOnce(&mut [u8]) -> Reply) {
         let end = self.0.len();
         self.0.resize(end + most, 0);
-        let Reply::Written { bytes } = write(&mut self.0[end..]) else { panic!("the line is refused") };
+        let reply = write(&mut self.0[end..]);
+        let Reply::Written { bytes } = reply else { panic!("{}", told(reply)) };
         self.0.truncate(end + bytes as usize);
     }
 }
@@ -189,7 +212,8 @@ fn a_replay_stops_at_a_line() {
 /// A host's end of a day: the list as pairs of id and suffix, then the day after it.
 fn end_day(records: &mut [i64]) -> Vec<[i64; 2]> {
     let mut pairs = vec![-1; pairs_len(records[0] as usize)];
-    let Reply::Listed { records: listed } = reportable(records, &mut pairs) else { panic!("the list is refused") };
+    let reply = reportable(records, &mut pairs);
+    let Reply::Listed { records: listed } = reply else { panic!("{}", told(reply)) };
     let (pairs, rest) = pairs.split_at(pairs_len(listed as usize));
     assert!(rest.iter().all(|cell| *cell == -1));
     assert_eq!(day(records, records[CURRENT_DAY] + 1), NO_ROW);
@@ -280,6 +304,22 @@ fn each_kind_has_its_case() {
     assert_eq!(answer(7), Reply::BadLine { line: 7 });
     assert_eq!(answer(8), Reply::LineRefused { line: 7, number: 8, place: 9 });
     assert_eq!(answer(9), Reply::Listed { records: 7 });
+}
+
+#[test]
+fn each_answer_has_its_numbers() {
+    let rest = [[8, 0], [0, 0], [8, 0], [8, 0], [8, 9], [0, 0], [0, 0], [0, 0], [8, 9], [0, 0]];
+    for (kind, [second, third]) in (0..).zip(rest) {
+        let reply = Reply::from(Coded { kind, first: 7, second: 8, third: 9 });
+        assert_eq!(Coded::from(reply), Coded { kind, first: 7, second, third });
+    }
+}
+
+#[test]
+fn three_answers_tell_a_refusal() {
+    let refusal = |kind| Reply::from(Coded { kind, first: 7, second: 8, third: 9 }).refusal();
+    let told: Vec<(i64, Refusal)> = (0..=9).filter_map(|kind| Some((kind, refusal(kind)?))).collect();
+    assert_eq!(told, [(3, Refusal(7)), (4, Refusal(8)), (8, Refusal(8))]);
 }
 
 #[test]
