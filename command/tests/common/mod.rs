@@ -6,6 +6,7 @@ pub mod dialogue;
 pub mod folder;
 pub mod generator;
 pub mod json;
+pub mod nobody;
 pub mod rng;
 pub mod run;
 pub mod strace;
