@@ -3,6 +3,7 @@
 
 pub mod days;
 pub mod dialogue;
+pub mod example;
 pub mod folder;
 pub mod generator;
 pub mod json;
