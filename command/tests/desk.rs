@@ -121,6 +121,33 @@ fn refusals_of_full_tables_and_ranges() {
     answers(&talk);
 }
 
+/// So many trades, each in its own position where it is asked for.
+fn trades(count: i64, own_position: bool) -> String {
+    let account = |id: i64| if own_position { id } else { 1 };
+    (1..=count).map(|id| format!("trade {id} account {} series 1 buy open 1 @ 1\n", account(id))).collect()
+}
+
+/// Rooms are 4,096, 1,024 and 1,024 if nothing else is said.
+#[test]
+fn the_usual_rooms() {
+    let last = |input: String, booked: usize, refused: &str| {
+        let ran = run(&Folder::new(), &["desk"], input);
+        let answers: Vec<&str> = ran.output.lines().collect();
+        assert_eq!((answers.len(), answers[booked]), (booked + 1, refused));
+        assert!(answers[..booked].iter().all(|answer| answer.starts_with("booked ")));
+    };
+    last(trades(4_097, false), 4_096, "refused 14: no room for the records or the text");
+    last(trades(1_025, true), 1_024, "refused 15: no room for the new positions");
+    let openings: String = (1..=1_025).map(|id| format!("give-up {id} open {id} account 1 to 2 series 1\n")).collect();
+    last(trades(1_025, false) + &openings, 2_049, "refused 23: no room for the new process");
+    let journal: String = (1..=4_097).map(|id| format!("T\t{id}\t1\t1\t1\t1\t1\n")).collect();
+    let ran = run(&Folder::new(), &["replay", "-"], &journal);
+    assert_eq!(ran.fails(1), "-:4097: refused 14 (no room for the records or the text): T 4097 1 1 1 1 1");
+    let full = journal.split_inclusive('\n').take(4_096).collect::<String>();
+    run(&Folder::new(), &["replay", "-"], &full).prints("4096 lines booked\n");
+    assert_eq!(run(&Folder::new(), &["show", "-", "records", "--csv"], &full).done().lines().count(), 4_097);
+}
+
 /// The place of a refusal is told of merges alone, for 5 to 10 and 17.
 #[test]
 fn refusals_at_a_source() {

@@ -160,6 +160,21 @@ fn a_closed_pipe_as_the_output() {
     }
 }
 
+/// Descriptors that are closed from the start.
+#[test]
+fn a_closed_output_or_input() {
+    let folder = printing();
+    for line in PRINTING {
+        Run::after(&folder, "exec >&-", &words(line)).input("day 18\n").end().fails(3);
+    }
+    for line in ["desk", "desk -j day.journal", "replay -", "show -", "report - --json", "tree - 456789", "diff - day.journal"] {
+        Run::after(&folder, "exec <&-", &words(line)).end().fails(3);
+    }
+    let ran = Run::after(&folder, "exec 2>&-", &["nosuch"]).end();
+    assert_eq!((ran.status, ran.output.as_str()), (2, ""));
+    assert_eq!(folder.read("day.journal"), P11);
+}
+
 /// What is bad is answered too, and what is passed over needs no output.
 #[test]
 fn a_desk_writes_only_answers() {

@@ -69,3 +69,23 @@ fn two_journals_have_two_desks() {
     assert_eq!((first.end().0, second.end().0), (0, 0));
     assert_eq!((folder.read("one").as_str(), folder.read("two").as_str()), ("D\t1\n", "D\t2\n"));
 }
+
+/// Many desks at once book the same trade: one of them does, and the others are refused it or do not get the journal.
+#[test]
+fn many_desks_at_once() {
+    for _ in 0..15 {
+        let folder = Folder::new();
+        let mut desks: Vec<Desk> = (0..6).map(|_| Desk::open(&folder, &["-j", "day.journal", "--sync", "never"])).collect();
+        desks.iter_mut().for_each(|desk| desk.try_say("trade 7 account 1 series 1 buy open 1 @ 1\n"));
+        let ended: Vec<(i32, Vec<String>, String)> = desks.into_iter().map(Desk::end).collect();
+        for (status, answers, errors) in &ended {
+            match status {
+                0 => assert_eq!((&answers[..], errors.as_str()), (&["booked 1 row".to_string()][..], "")),
+                1 => assert_eq!((&answers[..], errors.as_str()), (&["refused 4: the new id has a record".to_string()][..], "")),
+                _ => assert!(*status == 3 && answers.is_empty() && errors.starts_with("velichundam: ") && errors.lines().count() == 1, "{status}: {errors}"),
+            }
+        }
+        assert_eq!(ended.iter().filter(|(status, ..)| *status == 0).count(), 1, "{ended:?}");
+        assert_eq!(folder.read("day.journal"), "T\t7\t1\t1\t1\t1\t10000000\n");
+    }
+}

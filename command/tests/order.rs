@@ -118,6 +118,38 @@ fn a_created_journal_is_synced_with_its_folder() {
     assert!(of_folder.is_some_and(|place| place < answer) && of_journal.is_some_and(|place| place < answer), "{calls:#?}");
 }
 
+/// A line of any length is appended by one write.
+#[test]
+fn a_long_line_is_one_write() {
+    if !can_trace() {
+        return;
+    }
+    let folder = Folder::new();
+    folder.write("day.journal", "T\t7\t1\t1\t1\t1000\t1\n");
+    let line = format!("S\t7\t0\t1\t1{}\n", "\t1".repeat(1_000));
+    let (ran, calls) = traced(&folder, &[], &["desk", "-j", "day.journal"], &line);
+    ran.prints("booked 1001 rows\n");
+    assert_eq!(folder.read("day.journal").lines().nth(1), Some(line.trim_end()));
+    let events = events(&folder, &calls);
+    assert!(matches!(&events[..], [Event::Appended(_), Event::Synced, Event::Answered(_)]), "{events:?}");
+}
+
+/// A torn line is told before it is cut.
+#[test]
+fn a_torn_line_is_told_before_it_is_cut() {
+    if !can_trace() {
+        return;
+    }
+    let folder = Folder::new();
+    folder.write("day.journal", "D\t1\nD\t");
+    let (ran, calls) = traced(&folder, &[], &["desk", "-j", "day.journal", "--cut-torn-line"], "day 18\n");
+    assert_eq!((ran.status, ran.output.as_str()), (0, "booked 0 rows\n"));
+    let told = calls.iter().position(|call| call.is_write() && call.told.starts_with("2<")).unwrap();
+    let cut = calls.iter().position(|call| call.name == "ftruncate").unwrap();
+    let appended = calls.iter().position(|call| call.is_write() && call.is_on(&journal_path(&folder))).unwrap();
+    assert!(told < cut && cut < appended, "{calls:#?}");
+}
+
 /// Nothing is written to a journal that is only read, or by requests that are refused.
 #[test]
 fn what_is_not_booked_writes_no_journal() {

@@ -119,6 +119,20 @@ fn trees_of_a_long_day() {
     }
 }
 
+/// As long as the room allows: a record is transferred to and fro, and every merge takes in the one before.
+#[test]
+fn long_chains() {
+    let hops: String = (0..2_047).map(|hop| common::line(&format!("A 7 {} {} {} 1", 2 * hop, 1 + hop % 2, 2 - hop % 2))).collect();
+    let (folder, records) = book(&(common::line("T 7 1 1 1 5 9") + &hops));
+    is_whole(&folder, &records, 7);
+    assert_eq!(tree(&folder, 7).len(), 4_095);
+    run(&folder, &["desk", "-j", "day.journal"], "lineage 7/4094\n").prints("original price 0.0000009, 2047 links\n");
+    let step = |id: i64| lines(&[&format!("T {id} 1 1 1 1 9"), &format!("M {} 1 1 {} 0 {id} 0", 10_000 + id, if id == 2 { 1 } else { 9_999 + id })]);
+    let (folder, records) = book(&(common::line("T 1 1 1 1 1 9") + &(2..=1_000).map(step).collect::<String>()));
+    is_whole(&folder, &records, 1);
+    is_whole(&folder, &records, 500);
+}
+
 #[test]
 fn no_record_of_the_id() {
     let (folder, _) = book(P11);

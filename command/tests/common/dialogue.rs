@@ -2,7 +2,7 @@
 
 use super::run::{ended, BINARY, TOO_LONG};
 use super::Folder;
-use std::io::{BufRead, BufReader, Read, Write};
+use std::io::{BufRead, BufReader, ErrorKind, Read, Write};
 use std::process::{Child, ChildStdin, Command, Stdio};
 use std::sync::mpsc::{channel, Receiver};
 use std::thread;
@@ -34,6 +34,12 @@ impl Desk {
         let input = self.input.as_mut().unwrap();
         input.write_all(bytes.as_ref()).unwrap();
         input.flush().unwrap();
+    }
+
+    /// The same to a desk that may have ended.
+    pub fn try_say(&mut self, bytes: impl AsRef<[u8]>) {
+        let said = self.input.as_mut().unwrap().write_all(bytes.as_ref());
+        assert!(said.is_ok() || said.is_err_and(|error| error.kind() == ErrorKind::BrokenPipe));
     }
 
     /// The next line of its output. A desk that doesn't answer hangs.
