@@ -142,15 +142,18 @@ impl Given {
                 (true, value) if !long => OsStr::from_bytes(value).to_os_string(),
                 _ => continue,
             };
+            if *takes && self.has(name) {
+                return Err(format!("{name} is given twice"));
+            }
             self.options.push((name, value));
             return Ok(());
         }
         Err(format!("{}: no such option", named(word)))
     }
 
-    /// The value of an option; the last one counts.
+    /// The value of an option.
     fn value(&self, name: &str) -> Option<&OsStr> {
-        self.options.iter().rev().find(|(other, _)| *other == name).map(|(_, value)| value.as_os_str())
+        self.options.iter().find(|(other, _)| *other == name).map(|(_, value)| value.as_os_str())
     }
 
     fn has(&self, name: &str) -> bool {
