@@ -184,7 +184,7 @@
  *     T|456789|1|1|1|100|1250000000
  *
  * A host writes the line once the request is booked; the line says nothing of the answer. A replay into empty tables of the same room ends with the
- * rows that a day begun on empty tables ended with. The program in crates/replay replays a file.
+ * rows that a day begun on empty tables ended with. The command velichundam replays a file, and shows the rows.
  *
  * WHAT THE HOST GUARANTEES
  *

@@ -1,4 +1,4 @@
-//! Links the archive that `rt staticlib velichundam` writes. Its folder is VELICHUNDAM_LIB_DIR, or ../target/staticlib.
+//! Links the archive. Its folder is VELICHUNDAM_LIB_DIR; or ../build, where `make` leaves it; or ../target/staticlib, where `rt staticlib velichundam` does.
 
 use std::path::PathBuf;
 
@@ -8,13 +8,15 @@ fn main() {
         return;
     }
     let here = PathBuf::from(std::env::var_os("CARGO_MANIFEST_DIR").expect("cargo sets it"));
-    let folder = match std::env::var_os("VELICHUNDAM_LIB_DIR") {
-        Some(folder) => here.join(folder),
-        None => here.join("../target/staticlib"),
+    let folders = match std::env::var_os("VELICHUNDAM_LIB_DIR") {
+        Some(folder) => vec![here.join(folder)],
+        None => vec![here.join("../build"), here.join("../target/staticlib")],
     };
-    let archive = folder.join("libvelichundam.a");
-    assert!(archive.is_file(), "no archive at {}: run `rt staticlib velichundam` first", archive.display());
-    println!("cargo:rerun-if-changed={}", archive.display());
+    for folder in &folders {
+        println!("cargo:rerun-if-changed={}", folder.join("libvelichundam.a").display());
+    }
+    let folder = folders.iter().find(|folder| folder.join("libvelichundam.a").is_file());
+    let folder = folder.unwrap_or_else(|| panic!("no libvelichundam.a in {folders:?}: run `make` first, or set VELICHUNDAM_LIB_DIR"));
     println!("cargo:rustc-link-search=native={}", folder.display());
     println!("cargo:rustc-link-lib=static=velichundam");
 }

@@ -6,12 +6,13 @@ use crate::failure::{named, Failure, REFUSED};
 use crate::help;
 use crate::output::say;
 use crate::request::Request;
+use crate::standard;
 use crate::store::Store;
 use crate::tables::{shown, Format, Table, View};
 use crate::words::{self, Line};
-use std::ffi::OsString;
+use std::ffi::{OsStr, OsString};
 use std::fs::File;
-use std::io::{self, BufRead, BufReader, IsTerminal, Read};
+use std::io::{self, BufRead, BufReader, IsTerminal, Read, StdinLock};
 
 /// What a desk is asked to do.
 pub struct Desk {
@@ -26,37 +27,56 @@ pub struct Desk {
 
 /// The longest line that is read.
 const MOST_BYTES: usize = 65_536;
+const EISDIR: i32 = 21;
 
-/// Runs a desk to the end of its input, and gives its status.
+/// Runs a desk to the end of its input, and gives its status. The input is opened first: where that fails, no journal is made.
 pub fn run(desk: &Desk) -> Result<u8, Failure> {
-    let file = match desk.file.as_deref().filter(|file| *file != "-") {
-        Some(file) => Some(File::open(file).map_err(|error| Failure::io(&named(file), &error))?),
-        None => None,
-    };
-    let name = desk.file.as_deref().filter(|file| *file != "-").map_or("input".to_string(), named);
+    let file = desk.file.as_deref().filter(|file| *file != "-");
+    let name = file.map_or("input".to_string(), named);
+    let source = source(file).map_err(|error| Failure::io(&name, &error))?;
     let (store, book) = opened(desk)?;
-    if let (Some(store), Some(file)) = (&store, &file) {
+    if let (Some(store), Source::File(file)) = (&store, &source) {
         if store.is(file) {
             return Err(Failure::file(&name, "is the journal itself"));
         }
     }
     let mut session = Session { book, store, numbers: desk.numbers, status: 0 };
-    match file {
-        Some(file) => session.read(&name, BufReader::new(file), false)?,
-        None => session.read(&name, io::stdin().lock(), io::stdin().is_terminal())?,
+    match source {
+        Source::File(file) => session.read(&name, BufReader::new(file), false)?,
+        Source::Input(input) => session.read(&name, input, io::stdin().is_terminal())?,
     }
     Ok(session.status)
 }
 
-/// The journal, where there is one, and the book that it ends with.
-fn opened(desk: &Desk) -> Result<(Option<Store>, Book), Failure> {
-    match &desk.journal {
-        None => Ok((None, Book::empty(desk.rooms))),
-        Some(journal) => {
-            let (store, text) = Store::open(journal, desk.sync, desk.cut)?;
-            Ok((Some(store), text.booked(desk.rooms)?.1))
-        }
+/// Where the lines come from.
+enum Source {
+    File(File),
+    Input(StdinLock<'static>),
+}
+
+fn source(file: Option<&OsStr>) -> io::Result<Source> {
+    let Some(file) = file else { return standard::input().map(Source::Input) };
+    let file = File::open(file)?;
+    if file.metadata()?.is_dir() {
+        return Err(io::Error::from_raw_os_error(EISDIR));
     }
+    Ok(Source::File(file))
+}
+
+/// The journal, where there is one, and the book that it ends with. A torn last line is dropped where that is asked for and the lines before it are booked.
+fn opened(desk: &Desk) -> Result<(Option<Store>, Book), Failure> {
+    let Some(journal) = &desk.journal else { return Ok((None, Book::empty(desk.rooms))) };
+    let (mut store, mut text) = Store::open(journal, desk.sync)?;
+    let torn = text.take_torn();
+    if let (Some((line, _)), false) = (&torn, desk.cut) {
+        let why = "bad: no newline at the end; a crash has torn the line, and --cut-torn-line drops it";
+        return Err(Failure::file(&format!("{}:{line}", text.name), why));
+    }
+    let (_, book) = text.booked(desk.rooms)?;
+    if let Some((line, torn)) = torn {
+        store.drop_line(line, &torn)?;
+    }
+    Ok((Some(store), book))
 }
 
 struct Session {

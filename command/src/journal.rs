@@ -5,9 +5,10 @@ use crate::book::{Book, Rooms};
 use crate::failure::{named, Failure};
 use crate::fields;
 use crate::output::escaped;
+use crate::standard;
 use std::ffi::OsStr;
 use std::fs::File;
-use std::io::{self, Read};
+use std::io::Read;
 use velichundam::{Refusal, Reply};
 
 /// What is read of a journal. One that is booked whole has fewer bytes, so that of a longer text the line that is named stands in what is read: days take at most
@@ -29,10 +30,12 @@ pub fn book(journal: &OsStr) -> Result<Book, Failure> {
 /// Reads a journal; `-` is the input.
 pub fn read(journal: &OsStr) -> Result<Text, Failure> {
     let name = named(journal);
+    let failed = |error| Failure::io(&name, &error);
     if journal == "-" {
-        return Text::of(name, io::stdin().lock());
+        let input = standard::input().map_err(failed)?;
+        return Text::of(name, input);
     }
-    let file = File::open(journal).map_err(|error| Failure::io(&name, &error))?;
+    let file = File::open(journal).map_err(failed)?;
     Text::of(name, file)
 }
 
@@ -48,12 +51,23 @@ impl Text {
     pub fn booked(&self, rooms: Rooms) -> Result<(i64, Book), Failure> {
         let mut book = Book::empty(rooms);
         let (line, why) = match book.replay(&self.bytes) {
-            Reply::Replayed { lines } => return Ok((lines, book)),
+            Reply::Replayed { lines } if !self.cut => return Ok((lines, book)),
+            Reply::Replayed { lines } => (lines + 1, "bad: more bytes than a journal has".into()),
             Reply::BadLine { line } => (line, format!("bad: {}", self.why_bad(line))),
             Reply::LineRefused { line, number, place } => (line, self.refused(line, number, place)),
             other => unreachable!("no replay is answered {other:?}"),
         };
         Err(Failure::line(format!("{}:{line}: {why}", self.name)))
+    }
+
+    /// Takes a last line without its newline off, which a crash has torn: its number and its bytes.
+    pub fn take_torn(&mut self) -> Option<(usize, Vec<u8>)> {
+        let whole = self.bytes.iter().rposition(|byte| *byte == b'\n').map_or(0, |newline| newline + 1);
+        if self.cut || whole == self.bytes.len() {
+            return None;
+        }
+        let torn = self.bytes.split_off(whole);
+        Some((self.bytes.iter().filter(|byte| **byte == b'\n').count() + 1, torn))
     }
 
     /// A line, counted from 1, with its newline if it has one.

@@ -12,6 +12,7 @@ mod help;
 mod journal;
 mod output;
 mod request;
+mod standard;
 mod store;
 mod tables;
 mod tree;

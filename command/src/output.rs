@@ -1,12 +1,13 @@
 //! What is printed on the output.
 
 use crate::failure::Failure;
-use std::io::{self, Write};
+use crate::standard;
+use std::io::Write;
 
 /// Prints a text and sees it out of the process.
 pub fn say(text: &str) -> Result<(), Failure> {
-    let mut output = io::stdout().lock();
-    output.write_all(text.as_bytes()).and_then(|()| output.flush()).map_err(|error| Failure::io("output", &error))
+    let said = standard::output().and_then(|mut output| output.write_all(text.as_bytes()).and_then(|()| output.flush()));
+    said.map_err(|error| Failure::io("output", &error))
 }
 
 /// Bytes with those that aren't printable ASCII escaped, cut after so many bytes.

@@ -7,20 +7,20 @@ use std::ffi::OsStr;
 use std::fs::{File, OpenOptions, TryLockError};
 use std::io::{self, Write};
 use std::os::unix::fs::MetadataExt;
-use std::path::{Path, PathBuf};
+use std::path::Path;
 
 /// A journal that this desk alone appends to.
 pub struct Store {
     name: String,
     file: File,
-    /// its bytes, all of them of whole lines
+    /// the bytes of its whole lines
     length: u64,
     sync: bool,
 }
 
 impl Store {
-    /// Opens a journal, or makes one, locks it, and reads it. A torn last line is cut off where that is asked for.
-    pub fn open(journal: &OsStr, sync: bool, cut: bool) -> Result<(Store, Text), Failure> {
+    /// Opens a journal, or makes one, locks it, and reads it.
+    pub fn open(journal: &OsStr, sync: bool) -> Result<(Store, Text), Failure> {
         let name = named(journal);
         let failed = |error: io::Error| Failure::io(&name, &error);
         let file = OpenOptions::new().read(true).append(true).create(true).open(journal).map_err(failed)?;
@@ -28,40 +28,19 @@ impl Store {
             return Err(Failure::file(&name, "not a regular file, so no journal to append to"));
         }
         lock(&name, &file)?;
-        let mut text = Text::of(name.clone(), &file)?;
-        let mut store = Store { name, file, length: text.bytes.len() as u64, sync };
-        store.without_torn_line(&mut text, cut)?;
-        store.synced_if_new(journal)?;
-        Ok((store, text))
+        let text = Text::of(name.clone(), &file)?;
+        if sync && text.bytes.is_empty() {
+            on_the_disk(&file, journal).map_err(failed)?;
+        }
+        let length = text.bytes.len() as u64;
+        Ok((Store { name, file, length, sync }, text))
     }
 
-    /// A last line without its newline was torn by a crash. It is dropped where that is asked for, and otherwise nothing is done with the journal.
-    fn without_torn_line(&mut self, text: &mut Text, cut: bool) -> Result<(), Failure> {
-        let whole = text.bytes.iter().rposition(|byte| *byte == b'\n').map_or(0, |newline| newline + 1);
-        if text.cut || whole == text.bytes.len() {
-            return Ok(());
-        }
-        let line = text.bytes.iter().filter(|byte| **byte == b'\n').count() + 1;
-        let at = format!("{}:{line}", self.name);
-        let torn = &text.bytes[whole..];
-        if !cut {
-            return Err(Failure::file(&at, "bad: no newline at the end; it was torn by a crash, and --cut-torn-line drops it"));
-        }
-        warn(&format!("{at}: dropped the torn line: {}", escaped(torn, torn.len())));
-        self.cut_back(whole as u64).map_err(|error| Failure::io(&self.name, &error))?;
-        self.length = whole as u64;
-        text.bytes.truncate(whole);
-        Ok(())
-    }
-
-    /// The folder's entry of a journal that has just been made is on the disk before its first line is.
-    fn synced_if_new(&self, journal: &OsStr) -> Result<(), Failure> {
-        if self.length > 0 || !self.sync {
-            return Ok(());
-        }
-        let folder = Path::new(journal).parent().filter(|folder| !folder.as_os_str().is_empty()).map_or(PathBuf::from("."), Path::to_path_buf);
-        let synced = self.file.sync_all().and_then(|()| File::open(&folder)?.sync_all());
-        synced.map_err(|error| Failure::io(&self.name, &error))
+    /// Drops a torn last line from the disk, after saying what it was.
+    pub fn drop_line(&mut self, line: usize, torn: &[u8]) -> Result<(), Failure> {
+        warn(&format!("{}:{line}: dropped the torn line: {}", self.name, escaped(torn, torn.len())));
+        self.length -= torn.len() as u64;
+        self.cut_back().map_err(|error| Failure::io(&self.name, &error))
     }
 
     /// Whether that file is this journal.
@@ -74,16 +53,27 @@ impl Store {
     pub fn append(&mut self, line: &[u8]) -> Result<(), Failure> {
         let written = self.file.write_all(line).and_then(|()| if self.sync { self.file.sync_data() } else { Ok(()) });
         if let Err(error) = written {
-            let _ = self.cut_back(self.length);
+            let _ = self.cut_back();
             return Err(Failure::io(&self.name, &error));
         }
         self.length += line.len() as u64;
         Ok(())
     }
 
-    fn cut_back(&self, length: u64) -> io::Result<()> {
-        self.file.set_len(length)?;
+    fn cut_back(&self) -> io::Result<()> {
+        self.file.set_len(self.length)?;
         self.file.sync_all()
+    }
+}
+
+/// Syncs a journal that may have just been made, and its folder, so that the file is found after a crash.
+fn on_the_disk(file: &File, journal: &OsStr) -> io::Result<()> {
+    file.sync_all()?;
+    let folder = Path::new(journal).parent().filter(|folder| !folder.as_os_str().is_empty()).unwrap_or(Path::new("."));
+    match File::open(folder)?.sync_all() {
+        // Some file systems sync no folder.
+        Err(error) if error.kind() == io::ErrorKind::InvalidInput => Ok(()),
+        synced => synced,
     }
 }
 

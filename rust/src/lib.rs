@@ -1,8 +1,8 @@
 //! The proved transaction book for hosts in Rust: the calls of include/velichundam.h, on lent slices and with an enum for the answer.
 //!
 //! What each call answers and leaves in every cell is said in that header, and proved in crates/velichundam. The borrow checker sees to what the header asks of a
-//! host: slices of the right length that do not overlap, and nobody else who writes them. The archive is made by `rt staticlib velichundam`; its folder is
-//! VELICHUNDAM_LIB_DIR, or ../target/staticlib. The header also says how much stack a call may need.
+//! host: slices of the right length that do not overlap, and nobody else who writes them. The archive's folder is VELICHUNDAM_LIB_DIR,
+//! or that in which `make` leaves it. The header also says how much stack a call may need.
 
 mod refusal;
 
