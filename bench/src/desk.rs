@@ -57,7 +57,7 @@ pub struct Lines {
 
 /// A way to keep the day on the disk: the seconds that a run takes.
 type Way = fn(&Bench, Sync) -> Option<f64>;
-const WAYS: [Way; 6] = [Bench::from_file, Bench::appended, Bench::dialogue, Bench::echoed, Bench::sqlite, Bench::start];
+const WAYS: [Way; 6] = [Bench::by_file, Bench::appended, Bench::dialogue, Bench::echoed, Bench::sqlite, Bench::start];
 
 pub struct Bench {
     command: PathBuf,
@@ -112,7 +112,7 @@ impl Bench {
     }
 
     /// The requests lie in a file, and the answers go to a file.
-    fn from_file(&self, sync: Sync) -> Option<f64> {
+    fn by_file(&self, sync: Sync) -> Option<f64> {
         let (requests, answers) = (self.folder.path("requests"), self.folder.path("answers"));
         write(&requests, self.lines.concat()).expect("the requests are written");
         let output = File::create_new(&answers).expect("the file for the answers is made");
