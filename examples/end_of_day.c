@@ -3,7 +3,7 @@
  * 123456, over three days: the trade is separated, three of its parts are given up and one of these goes on to another account; the parts that are left
  * follow on the next days. It keeps a journal, and at the end reruns all three days from it.
  *
- *     cc -std=c11 -Iinclude examples/end_of_day.c target/staticlib/libvelichundam.a -o end_of_day
+ *     cc -std=c11 -Iinclude examples/end_of_day.c build/libvelichundam.a -o end_of_day
  */
 #include <inttypes.h>
 #include <stdio.h>

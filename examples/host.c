@@ -2,7 +2,7 @@
  * A host: lends its tables, books document 01's worked example P11, and prints the tables, a refusal, a list of trades that stops, the average entry of each
  * position, and a give-up from its opening to the booked rows. It keeps a journal of what is booked, and replays it into other tables.
  *
- *     cc -std=c11 -Iinclude examples/host.c target/staticlib/libvelichundam.a -o host
+ *     cc -std=c11 -Iinclude examples/host.c build/libvelichundam.a -o host
  */
 #include <inttypes.h>
 #include <stdio.h>

@@ -8,9 +8,10 @@ use velichundam::{positions_len, records_len, MOST_POSITIONS, MOST_RECORDS, RECO
 
 pub struct Day {
     pub requests: Vec<Request>,
-    answers: Vec<Coded>,
-    records: Vec<i64>,
-    positions: Vec<i64>,
+    pub answers: Vec<Coded>,
+    /// The tables at its end.
+    pub records: Vec<i64>,
+    pub positions: Vec<i64>,
 }
 
 fn empty_tables() -> (Vec<i64>, Vec<i64>) {
@@ -31,6 +32,14 @@ impl Day {
                 answers.push(answer);
             }
         }
+        Day { requests, answers, records, positions }
+    }
+
+    /// The same day without its questions of lineage, which change nothing.
+    pub fn bookings(self) -> Day {
+        let Day { requests, answers, records, positions } = self;
+        let pairs = requests.into_iter().zip(answers).filter(|(request, _)| !matches!(request, Request::Lineage { .. }));
+        let (requests, answers) = pairs.unzip();
         Day { requests, answers, records, positions }
     }
 

@@ -63,7 +63,7 @@ fn write(text: &mut [u8], entries: &[Entry], line: fn(&mut [u8], &Entry) -> Code
 }
 
 pub fn all() -> [Journal; 3] {
-    let day = Day::new(1).requests.into_iter().filter(|request| !matches!(request, Request::Lineage { .. }));
+    let day = Day::new(1).bookings().requests.into_iter();
     let trade = |k: i64| Request::Trade {
         id: 100_000 + k,
         account: 1 + k % 40,

@@ -1,65 +1,15 @@
-//! The same book kept in SQLite, in memory: the two tables as SQL tables, a transaction for each request or for a list of them, prepared statements.
+//! The same book kept in SQLite, in memory or in a file: the two tables as SQL tables, a transaction for each request or for a list of them, prepared statements.
 //! SQLite keeps the rows sound by CHECK constraints and finds them by their keys; its tables have no room, so 14 and 15 are not tested. Give-ups are not in it.
 //! The current day is a table of one row; the records of a day have an index where the reporting list is timed, and only there.
-//!
-//! The library is opened at run time, where it is installed.
+
+mod library;
 
 use crate::request::{Coded, Request, LISTED, REFUSED};
-use std::ffi::{c_char, c_int, c_void, CStr, CString};
+use library::{Connection, Library, Statement, DONE, NULL, ROW};
+use std::ffi::{c_int, CString};
+use std::os::unix::ffi::OsStrExt;
+use std::path::Path;
 use velichundam::{CURRENT_DAY, LAST_DAY, POSITIONS_HEADER, POSITION_CELLS, RECORDS_HEADER, RECORD_CELLS};
-
-extern "C" {
-    fn dlopen(name: *const c_char, flags: c_int) -> *mut c_void;
-    fn dlsym(library: *mut c_void, name: *const c_char) -> *mut c_void;
-}
-
-type Connection = *mut c_void;
-type Statement = *mut c_void;
-
-struct Library {
-    open: unsafe extern "C" fn(*const c_char, *mut Connection) -> c_int,
-    prepare: unsafe extern "C" fn(Connection, *const c_char, c_int, *mut Statement, *mut *const c_char) -> c_int,
-    bind: unsafe extern "C" fn(Statement, c_int, i64) -> c_int,
-    step: unsafe extern "C" fn(Statement) -> c_int,
-    reset: unsafe extern "C" fn(Statement) -> c_int,
-    column: unsafe extern "C" fn(Statement, c_int) -> i64,
-    column_type: unsafe extern "C" fn(Statement, c_int) -> c_int,
-    changes: unsafe extern "C" fn(Connection) -> c_int,
-    message: unsafe extern "C" fn(Connection) -> *const c_char,
-    version: unsafe extern "C" fn() -> *const c_char,
-}
-
-const RESOLVE_NOW: c_int = 2;
-const ROW: c_int = 100;
-const DONE: c_int = 101;
-const NULL: c_int = 5;
-
-impl Library {
-    fn load() -> Option<Library> {
-        unsafe {
-            let library = [c"libsqlite3.so.0", c"libsqlite3.so"].iter().map(|name| dlopen(name.as_ptr(), RESOLVE_NOW)).find(|found| !found.is_null())?;
-            let symbol = |name: &CStr| {
-                let found = dlsym(library, name.as_ptr());
-                (!found.is_null()).then_some(found)
-            };
-            use std::mem::transmute as as_function;
-            Some(Library {
-                open: as_function::<*mut c_void, unsafe extern "C" fn(*const c_char, *mut Connection) -> c_int>(symbol(c"sqlite3_open")?),
-                prepare: as_function::<*mut c_void, unsafe extern "C" fn(Connection, *const c_char, c_int, *mut Statement, *mut *const c_char) -> c_int>(
-                    symbol(c"sqlite3_prepare_v2")?,
-                ),
-                bind: as_function::<*mut c_void, unsafe extern "C" fn(Statement, c_int, i64) -> c_int>(symbol(c"sqlite3_bind_int64")?),
-                step: as_function::<*mut c_void, unsafe extern "C" fn(Statement) -> c_int>(symbol(c"sqlite3_step")?),
-                reset: as_function::<*mut c_void, unsafe extern "C" fn(Statement) -> c_int>(symbol(c"sqlite3_reset")?),
-                column: as_function::<*mut c_void, unsafe extern "C" fn(Statement, c_int) -> i64>(symbol(c"sqlite3_column_int64")?),
-                column_type: as_function::<*mut c_void, unsafe extern "C" fn(Statement, c_int) -> c_int>(symbol(c"sqlite3_column_type")?),
-                changes: as_function::<*mut c_void, unsafe extern "C" fn(Connection) -> c_int>(symbol(c"sqlite3_changes")?),
-                message: as_function::<*mut c_void, unsafe extern "C" fn(Connection) -> *const c_char>(symbol(c"sqlite3_errmsg")?),
-                version: as_function::<*mut c_void, unsafe extern "C" fn() -> *const c_char>(symbol(c"sqlite3_libversion")?),
-            })
-        }
-    }
-}
 
 const RECORDS: &str = "CREATE TABLE records (
     id INTEGER NOT NULL CHECK (id BETWEEN 1 AND 999999999),
@@ -133,86 +83,102 @@ enum Stop {
     Refused(i64, usize),
 }
 
+/// When SQLite waits for the disk; the numbers are its own.
+#[derive(Clone, Copy, Debug, PartialEq, Eq)]
+pub enum Synchronous {
+    Off = 0,
+    Full = 2,
+}
+
+impl Drop for SqlBook {
+    fn drop(&mut self) {
+        self.library.close(self.connection);
+    }
+}
+
+fn file_name(path: &Path) -> CString {
+    CString::new(path.as_os_str().as_bytes()).expect("no zero byte")
+}
+
 impl SqlBook {
     /// A book in memory, where SQLite is installed.
     pub fn open() -> Option<SqlBook> {
         let library = Library::load()?;
-        let mut connection = std::ptr::null_mut();
-        let opened = unsafe { (library.open)(c":memory:".as_ptr(), &mut connection) };
-        assert_eq!(opened, 0, "SQLite opens no database in memory");
-        let mut book = SqlBook {
+        let connection = library.connect(c":memory:");
+        Some(SqlBook::create(library, connection))
+    }
+
+    /// A book in a new file, where SQLite is installed: with a write-ahead log, which is synced at each commit (FULL) or left to the system (OFF).
+    /// Checkpoints are SQLite's own, by default at the first commit that leaves 1,000 pages in the log.
+    pub fn open_file(path: &Path, synchronous: Synchronous) -> Option<SqlBook> {
+        let library = Library::load()?;
+        let connection = library.connect(&file_name(path));
+        let mode = library.execute(connection, "PRAGMA journal_mode = WAL");
+        assert_eq!(mode.as_deref(), Some("wal"), "SQLite has another journal mode");
+        let number = synchronous as i64;
+        library.execute(connection, &format!("PRAGMA synchronous = {number}"));
+        assert_eq!(library.execute(connection, "PRAGMA synchronous"), Some(number.to_string()), "SQLite syncs otherwise");
+        Some(SqlBook::create(library, connection))
+    }
+
+    /// The book that a file has, by a connection of its own.
+    pub fn reopen(path: &Path) -> Option<SqlBook> {
+        let library = Library::load()?;
+        let connection = library.connect(&file_name(path));
+        Some(SqlBook::prepared(library, connection))
+    }
+
+    fn create(library: Library, connection: Connection) -> SqlBook {
+        for create in [RECORDS, POSITIONS, TODAY, FIRST_DAY] {
+            library.execute(connection, create);
+        }
+        SqlBook::prepared(library, connection)
+    }
+
+    fn prepared(library: Library, connection: Connection) -> SqlBook {
+        let prepare = |sql: &str| library.prepare(connection, sql);
+        SqlBook {
+            begin: prepare("BEGIN IMMEDIATE"),
+            commit: prepare("COMMIT"),
+            rollback: prepare("ROLLBACK"),
+            has_id: prepare("SELECT 1 FROM records WHERE id = ?1 LIMIT 1"),
+            greatest: prepare("SELECT max(suffix) FROM records WHERE id = ?1"),
+            record: prepare(
+                "SELECT parent, type, status, account, series, side, quantity, price, long, short, into_id FROM records WHERE id = ?1 AND suffix = ?2",
+            ),
+            add: prepare("INSERT INTO records VALUES (?1, ?2, ?3, ?4, ?5, ?6, ?7, ?8, ?9, ?10, ?11, ?12, ?13, (SELECT day FROM today))"),
+            adjust: prepare("UPDATE records SET status = 1 WHERE id = ?1 AND suffix = ?2"),
+            position: prepare("SELECT long, short, cash FROM positions WHERE account = ?1 AND series = ?2"),
+            make_position: prepare("INSERT OR IGNORE INTO positions VALUES (?1, ?2, 0, 0, 0, 0, 0)"),
+            move_position: prepare(
+                "UPDATE positions SET long = long + ?3, short = short + ?4, cash = cash + ?5, quantity = quantity + ?6, value = value + ?7
+                WHERE account = ?1 AND series = ?2",
+            ),
+            all_records: prepare("SELECT * FROM records ORDER BY id, suffix"),
+            all_positions: prepare("SELECT * FROM positions ORDER BY account, series"),
+            clear_records: prepare("DELETE FROM records"),
+            clear_positions: prepare("DELETE FROM positions"),
+            load_record: prepare("INSERT INTO records VALUES (?1, ?2, ?3, ?4, ?5, ?6, ?7, ?8, ?9, ?10, ?11, ?12, ?13, ?14)"),
+            set_day: prepare("UPDATE today SET day = ?1"),
+            move_day: prepare("UPDATE today SET day = ?1 WHERE day < ?1"),
+            day: prepare("SELECT day FROM today"),
+            reportable: prepare(REPORTABLE),
             library,
             connection,
-            begin: std::ptr::null_mut(),
-            commit: std::ptr::null_mut(),
-            rollback: std::ptr::null_mut(),
-            has_id: std::ptr::null_mut(),
-            greatest: std::ptr::null_mut(),
-            record: std::ptr::null_mut(),
-            add: std::ptr::null_mut(),
-            adjust: std::ptr::null_mut(),
-            position: std::ptr::null_mut(),
-            make_position: std::ptr::null_mut(),
-            move_position: std::ptr::null_mut(),
-            all_records: std::ptr::null_mut(),
-            all_positions: std::ptr::null_mut(),
-            clear_records: std::ptr::null_mut(),
-            clear_positions: std::ptr::null_mut(),
-            load_record: std::ptr::null_mut(),
-            set_day: std::ptr::null_mut(),
-            move_day: std::ptr::null_mut(),
-            day: std::ptr::null_mut(),
-            reportable: std::ptr::null_mut(),
-        };
-        for create in [RECORDS, POSITIONS, TODAY, FIRST_DAY] {
-            book.run(book.prepare(create), &[]);
         }
-        book.begin = book.prepare("BEGIN IMMEDIATE");
-        book.commit = book.prepare("COMMIT");
-        book.rollback = book.prepare("ROLLBACK");
-        book.has_id = book.prepare("SELECT 1 FROM records WHERE id = ?1 LIMIT 1");
-        book.greatest = book.prepare("SELECT max(suffix) FROM records WHERE id = ?1");
-        book.record = book
-            .prepare("SELECT parent, type, status, account, series, side, quantity, price, long, short, into_id FROM records WHERE id = ?1 AND suffix = ?2");
-        book.add = book.prepare("INSERT INTO records VALUES (?1, ?2, ?3, ?4, ?5, ?6, ?7, ?8, ?9, ?10, ?11, ?12, ?13, (SELECT day FROM today))");
-        book.adjust = book.prepare("UPDATE records SET status = 1 WHERE id = ?1 AND suffix = ?2");
-        book.position = book.prepare("SELECT long, short, cash FROM positions WHERE account = ?1 AND series = ?2");
-        book.make_position = book.prepare("INSERT OR IGNORE INTO positions VALUES (?1, ?2, 0, 0, 0, 0, 0)");
-        book.move_position = book.prepare(
-            "UPDATE positions SET long = long + ?3, short = short + ?4, cash = cash + ?5, quantity = quantity + ?6, value = value + ?7
-            WHERE account = ?1 AND series = ?2",
-        );
-        book.all_records = book.prepare("SELECT * FROM records ORDER BY id, suffix");
-        book.all_positions = book.prepare("SELECT * FROM positions ORDER BY account, series");
-        book.clear_records = book.prepare("DELETE FROM records");
-        book.clear_positions = book.prepare("DELETE FROM positions");
-        book.load_record = book.prepare("INSERT INTO records VALUES (?1, ?2, ?3, ?4, ?5, ?6, ?7, ?8, ?9, ?10, ?11, ?12, ?13, ?14)");
-        book.set_day = book.prepare("UPDATE today SET day = ?1");
-        book.move_day = book.prepare("UPDATE today SET day = ?1 WHERE day < ?1");
-        book.day = book.prepare("SELECT day FROM today");
-        book.reportable = book.prepare(REPORTABLE);
-        Some(book)
     }
 
     /// Finds the records of a day by an index from now on, which has in table order what the list asks of a record; only parents are looked up elsewhere.
     pub fn index_days(&mut self) {
-        self.run(self.prepare("CREATE INDEX records_day ON records (day, id, suffix, status, parent)"), &[]);
+        self.library.execute(self.connection, "CREATE INDEX records_day ON records (day, id, suffix, status, parent)");
     }
 
     pub fn version(&self) -> String {
-        unsafe { CStr::from_ptr((self.library.version)()).to_string_lossy().into_owned() }
-    }
-
-    fn prepare(&self, sql: &str) -> Statement {
-        let text = CString::new(sql).expect("no zero byte");
-        let mut statement = std::ptr::null_mut();
-        let result = unsafe { (self.library.prepare)(self.connection, text.as_ptr(), -1, &mut statement, std::ptr::null_mut()) };
-        assert_eq!(result, 0, "{sql}: {}", self.message());
-        statement
+        self.library.version()
     }
 
     fn message(&self) -> String {
-        unsafe { CStr::from_ptr((self.library.message)(self.connection)).to_string_lossy().into_owned() }
+        self.library.message(self.connection)
     }
 
     fn bind(&self, statement: Statement, figures: &[i64]) {
@@ -263,10 +229,10 @@ impl SqlBook {
 
     /// One request in a transaction of its own.
     pub fn handle(&mut self, request: &Request) -> Coded {
-        self.run(self.begin, &[]);
+        assert!(self.run(self.begin, &[]), "{}", self.message());
         match self.perform(request) {
             Ok(answer) => {
-                self.run(self.commit, &[]);
+                assert!(self.run(self.commit, &[]), "{}", self.message());
                 answer
             }
             Err(Stop::Refused(number, place)) => {

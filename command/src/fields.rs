@@ -205,7 +205,7 @@ mod tests {
 
     #[test]
     fn a_line_is_bad_where_the_reader_says_so_and_has_a_reason() {
-        let mut draw = draws(0x5eed_0f_11e5);
+        let mut draw = draws(0x5eed_0f11_e5aa);
         let (mut good, mut bad) = (0, 0);
         for round in 0..200_000 {
             let line = changed(LINES[round % LINES.len()], &mut draw);

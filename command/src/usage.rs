@@ -34,32 +34,27 @@ struct Given {
     help: bool,
 }
 
+/// A subcommand: its name, the options that it knows, and what it makes of its words.
+type Subcommand = (&'static str, &'static [Known], fn(&Given) -> Result<Order, String>);
+
+const SUBCOMMANDS: [Subcommand; 6] =
+    [("desk", &DESK, desk), ("replay", &[ROOM], replay), ("show", &SHOW, show), ("report", &FORMAT, report), ("tree", &[], tree), ("diff", &[], diff)];
+
 pub fn order(mut words: impl Iterator<Item = OsString>) -> Result<Order, Failure> {
-    let Some(first) = words.next() else { return Err(Failure::usage("no subcommand; 'velichundam --help' lists them".into())) };
-    let subcommand: fn(Given) -> Result<Order, String> = match first.to_str() {
+    const LISTED: &str = "'velichundam --help' lists them";
+    let first = words.next().ok_or_else(|| Failure::usage(format!("no subcommand; {LISTED}")))?;
+    match first.to_str() {
         Some("--help" | "-h") => return Ok(Order::Say(help::COMMAND.into())),
         Some("--version" | "-V") => return Ok(Order::Say(help::version())),
-        Some("desk") => desk,
-        Some("replay") => replay,
-        Some("show") => show,
-        Some("report") => report,
-        Some("tree") => tree,
-        Some("diff") => diff,
-        _ => return Err(Failure::usage(format!("{}: no such subcommand; 'velichundam --help' lists them", named(&first)))),
-    };
-    let name = first.to_string_lossy().into_owned();
-    let known: &[Known] = match name.as_str() {
-        "desk" => &DESK,
-        "replay" => &[ROOM],
-        "show" => &SHOW,
-        "report" => &FORMAT,
-        _ => &[],
-    };
-    let given = Given::of(words, known).map_err(|why| misused(&name, &why))?;
-    if given.help {
-        return Ok(Order::Say(help::of(&name)));
+        _ => {}
     }
-    subcommand(given).map_err(|why| misused(&name, &why))
+    let subcommand = SUBCOMMANDS.iter().find(|(name, ..)| first == *name);
+    let (name, known, order) = subcommand.ok_or_else(|| Failure::usage(format!("{}: no such subcommand; {LISTED}", named(&first))))?;
+    let given = Given::of(words, known).map_err(|why| misused(name, &why))?;
+    if given.help {
+        return Ok(Order::Say(help::of(name)));
+    }
+    order(&given).map_err(|why| misused(name, &why))
 }
 
 fn misused(subcommand: &str, why: &str) -> Failure {
@@ -69,10 +64,13 @@ fn misused(subcommand: &str, why: &str) -> Failure {
 /// What the desk's `show` is followed by: the subcommand's words after the journal.
 pub fn view_of_words(words: impl Iterator<Item = OsString>) -> Result<View, String> {
     let given = Given::of(words, &SHOW)?;
+    if given.help {
+        return Err("show --help: help lists the requests".into());
+    }
     given.view(&given.plain)
 }
 
-fn desk(given: Given) -> Result<Order, String> {
+fn desk(given: &Given) -> Result<Order, String> {
     let file = given.at_most_one("file")?;
     let journal = given.value("-j").map(OsStr::to_os_string);
     if journal.as_deref() == Some(OsStr::new("-")) {
@@ -86,25 +84,25 @@ fn desk(given: Given) -> Result<Order, String> {
     Ok(Order::Desk(Desk { journal, file, rooms: given.rooms()?, numbers: given.has("--tsv"), cut: given.has("--cut-torn-line"), sync }))
 }
 
-fn replay(given: Given) -> Result<Order, String> {
+fn replay(given: &Given) -> Result<Order, String> {
     Ok(Order::Replay(given.exactly(["a journal"])?[0].clone(), given.rooms()?))
 }
 
-fn show(given: Given) -> Result<Order, String> {
+fn show(given: &Given) -> Result<Order, String> {
     let (journal, rest) = given.plain.split_first().ok_or("a journal is missing")?;
     Ok(Order::Show(journal.clone(), given.view(rest)?))
 }
 
-fn report(given: Given) -> Result<Order, String> {
+fn report(given: &Given) -> Result<Order, String> {
     Ok(Order::Report(given.exactly(["a journal"])?[0].clone(), given.format()?))
 }
 
-fn tree(given: Given) -> Result<Order, String> {
+fn tree(given: &Given) -> Result<Order, String> {
     let [journal, id] = given.exactly(["a journal", "an id"])?;
     Ok(Order::Tree(journal.clone(), figure("id", id, 1, 999_999_999)?))
 }
 
-fn diff(given: Given) -> Result<Order, String> {
+fn diff(given: &Given) -> Result<Order, String> {
     let [first, second] = given.exactly(["a journal", "another journal"])?;
     if first == "-" && second == "-" {
         return Err("the input is one journal, not two".into());

@@ -34,8 +34,11 @@ fn printed(program: &mut Command) -> String {
     String::from_utf8(output.stdout).expect("text")
 }
 
+/// The archive that the command was linked with.
 fn archive() -> PathBuf {
-    std::env::var_os("VELICHUNDAM_LIB_DIR").map_or(root().join("target/staticlib"), PathBuf::from).join("libvelichundam.a")
+    let named = std::env::var_os("VELICHUNDAM_LIB_DIR").map(|folder| root().join("rust").join(folder));
+    let folders = named.map_or_else(|| vec![root().join("build"), root().join("target/staticlib")], |folder| vec![folder]);
+    folders.iter().map(|folder| folder.join("libvelichundam.a")).find(|archive| archive.is_file()).expect("an archive")
 }
 
 #[test]
