@@ -36,7 +36,7 @@ pub fn can_trace() -> bool {
     let tried = Command::new("strace").args(["-o", "/dev/null", "true"]).stdout(Stdio::null()).stderr(Stdio::null()).status();
     let can = tried.is_ok_and(|status| status.success());
     if !can {
-        super::run::say("strace is not installed or may not trace: the order of the system calls is not tested");
+        super::run::say("strace is not installed or may not trace: system calls are not tested");
     }
     can
 }
@@ -56,4 +56,9 @@ fn call(line: &str) -> Option<Call> {
     let (name, told) = line.split_once('(')?;
     let is_name = name.chars().all(|c| c.is_ascii_alphanumeric() || c == '_');
     is_name.then(|| Call { name: name.to_string(), told: told.to_string() })
+}
+
+/// The path by which strace names the folder's journal.
+pub fn journal_path(folder: &Folder) -> String {
+    folder.path().canonicalize().unwrap().join("day.journal").to_str().unwrap().to_string()
 }
