@@ -1,4 +1,4 @@
-//! The desk's journal: what is appended and what is not, sessions that are resumed, and journals with a line that is bad or refused.
+//! The desk's journal: what is appended and what is not, journals that are resumed, and journals with a line that is bad or refused.
 
 mod common;
 
@@ -72,7 +72,7 @@ fn a_missing_journal_is_created() {
 }
 
 #[test]
-fn a_session_is_resumed() {
+fn a_journal_is_resumed() {
     let folder = Folder::new();
     let mut booked = String::new();
     for ((words, answer), journal) in P11_WORDS.iter().zip(P11.split_inclusive('\n')) {

@@ -50,7 +50,7 @@ pub fn traced(folder: &Folder, options: &[&str], words: &[&str], input: &str) ->
     (ran, told.lines().filter_map(call).collect())
 }
 
-/// The call of a line such as `123   write(3</tmp/day.journal>, "D\t1\n", 4) = 4`. Lines of signals and ends have none.
+/// The call of a line such as `123   write(3</a/day.journal>, "D\t1\n", 4) = 4`. Lines of signals and ends have none.
 fn call(line: &str) -> Option<Call> {
     let line = line.trim_start_matches(|c: char| c.is_ascii_digit() || c == ' ');
     let (name, told) = line.split_once('(')?;
