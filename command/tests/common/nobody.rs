@@ -18,5 +18,5 @@ pub fn run_as_nobody(folder: &Folder, words: &[&str], input: &str) -> Ran {
     // By another process, so that no child of this one has the copy open for writing when it is run.
     assert!(Command::new("cp").arg(BINARY).arg(copy.file("velichundam")).status().unwrap().success());
     copy.permit("velichundam", 0o755);
-    Run::program(folder, copy.file("velichundam").to_str().unwrap(), words).as_nobody().input(input).end()
+    Run::program(folder, copy.file("velichundam").to_str().unwrap(), words).by_nobody().input(input).end()
 }

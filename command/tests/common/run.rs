@@ -79,7 +79,7 @@ impl Run {
     }
 
     /// As a user who owns nothing here.
-    pub fn as_nobody(mut self) -> Run {
+    pub fn by_nobody(mut self) -> Run {
         self.command.uid(65_534).gid(65_534);
         self
     }
@@ -92,7 +92,9 @@ impl Run {
         let output = child.stdout.take().map(drain);
         let errors = child.stderr.take().map(drain);
         let status = ended(&mut child, &self.words);
-        writer.map(|writer| writer.join().unwrap());
+        if let Some(writer) = writer {
+            writer.join().unwrap();
+        }
         let text = |drained: Option<thread::JoinHandle<Vec<u8>>>| match drained {
             Some(thread) => String::from_utf8(thread.join().unwrap()).unwrap(),
             None => String::new(),
