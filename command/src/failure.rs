@@ -42,9 +42,9 @@ impl Failure {
     }
 }
 
-/// A line on the error output.
+/// A line on the error output, by one write.
 pub fn warn(message: &str) {
-    let _ = writeln!(io::stderr(), "velichundam: {message}");
+    let _ = io::stderr().write_all(format!("velichundam: {message}\n").as_bytes());
 }
 
 /// The cause in the system's words, without its number.
