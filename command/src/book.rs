@@ -34,22 +34,22 @@ impl Book {
         self.records[velichundam::CURRENT_DAY]
     }
 
-    pub fn records(&self) -> Vec<&[i64]> {
-        rows(&self.records, velichundam::RECORDS_HEADER, velichundam::RECORD_CELLS)
+    pub fn records(&self) -> &[[i64; velichundam::RECORD_CELLS]] {
+        rows(&self.records, velichundam::RECORDS_HEADER)
     }
 
-    pub fn positions(&self) -> Vec<&[i64]> {
-        rows(&self.positions, velichundam::POSITIONS_HEADER, velichundam::POSITION_CELLS)
+    pub fn positions(&self) -> &[[i64; velichundam::POSITION_CELLS]] {
+        rows(&self.positions, velichundam::POSITIONS_HEADER)
     }
 
-    pub fn processes(&self) -> Vec<&[i64]> {
-        rows(&self.processes, velichundam::PROCESSES_HEADER, velichundam::PROCESS_CELLS)
+    pub fn processes(&self) -> &[[i64; velichundam::PROCESS_CELLS]] {
+        rows(&self.processes, velichundam::PROCESSES_HEADER)
     }
 
     /// The record of that id and suffix.
     pub fn record(&self, id: i64, suffix: i64) -> Option<&[i64]> {
-        let records = self.records();
-        records.binary_search_by(|row| (row[0], row[1]).cmp(&(id, suffix))).ok().map(|place| records[place])
+        let place = self.records().binary_search_by_key(&(id, suffix), |row| (row[0], row[1])).ok()?;
+        Some(&self.records()[place])
     }
 
     /// The records that are reported at the end of the current day, in table order.
@@ -67,7 +67,7 @@ impl Book {
 }
 
 /// The rows that the count in cell 0 names.
-fn rows(cells: &[i64], header: usize, width: usize) -> Vec<&[i64]> {
-    let count = usize::try_from(cells[0]).unwrap_or(0);
-    cells[header..].chunks_exact(width).take(count).collect()
+fn rows<const N: usize>(cells: &[i64], header: usize) -> &[[i64; N]] {
+    let (rows, _) = cells[header..].as_chunks();
+    &rows[..usize::try_from(cells[0]).unwrap_or(0).min(rows.len())]
 }

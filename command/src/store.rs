@@ -29,7 +29,7 @@ impl Store {
         }
         lock(&name, &file)?;
         let text = Text::of(name.clone(), &file)?;
-        if sync && text.bytes.is_empty() {
+        if sync {
             on_the_disk(&file, journal).map_err(failed)?;
         }
         let length = text.bytes.len() as u64;
@@ -66,9 +66,13 @@ impl Store {
     }
 }
 
-/// Syncs a journal that may have just been made, and its folder, so that the file is found after a crash.
+/// Syncs what another desk may have left unsynced, since answers rest on it; and the folder of a journal that may have just been made, so that it is found after
+/// a crash.
 fn on_the_disk(file: &File, journal: &OsStr) -> io::Result<()> {
     file.sync_all()?;
+    if file.metadata()?.len() > 0 {
+        return Ok(());
+    }
     let folder = Path::new(journal).parent().filter(|folder| !folder.as_os_str().is_empty()).unwrap_or(Path::new("."));
     match File::open(folder)?.sync_all() {
         // Some file systems sync no folder.

@@ -114,9 +114,9 @@ impl Table {
 
     pub fn rows(self, book: &Book) -> Vec<&[i64]> {
         match self {
-            Table::Records => book.records(),
-            Table::Positions => book.positions(),
-            Table::Processes => book.processes(),
+            Table::Records => book.records().iter().map(<[i64; _]>::as_slice).collect(),
+            Table::Positions => book.positions().iter().map(<[i64; _]>::as_slice).collect(),
+            Table::Processes => book.processes().iter().map(<[i64; _]>::as_slice).collect(),
         }
     }
 

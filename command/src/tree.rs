@@ -32,15 +32,14 @@ struct Tree<'b> {
 impl<'b> Tree<'b> {
     /// A record and what came of it. A stack, since a chain may be as long as the table.
     fn grow(&mut self, root: &'b [i64]) {
-        let records = self.book.records();
         let mut waiting = vec![(0, root)];
         while let Some((depth, record)) = waiting.pop() {
             self.seen.insert(record[ID]);
             let merged = (record[INTO] != 0).then(|| self.book.record(record[INTO], 0)).flatten();
             let above = merged.is_some_and(|merged| !self.seen.insert(merged[ID]));
             self.line(depth, record, above);
-            let children = records.iter().filter(|row| row[ID] == record[ID] && row[PARENT] == record[SUFFIX] && row[SUFFIX] != record[SUFFIX]);
-            waiting.extend(children.rev().map(|child| (depth + 1, *child)));
+            let children = self.book.records().iter().filter(|row| row[ID] == record[ID] && row[PARENT] == record[SUFFIX] && row[SUFFIX] != record[SUFFIX]);
+            waiting.extend(children.rev().map(|child| (depth + 1, child.as_slice())));
             waiting.extend(merged.filter(|_| !above).map(|merged| (depth + 1, merged)));
         }
     }

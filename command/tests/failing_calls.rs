@@ -29,7 +29,7 @@ fn a_failing_append_or_sync() {
     }
     let folder = Folder::new();
     for place in 1..=4 {
-        for fault in ["write,writev,pwrite64:error=ENOSPC", "write,writev,pwrite64:error=EIO", "fdatasync,fsync:error=EIO", "fdatasync,fsync:error=ENOSPC"] {
+        for fault in ["write,writev,pwrite64:error=ENOSPC", "write,writev,pwrite64:error=EIO", "fdatasync:error=EIO", "fdatasync:error=ENOSPC"] {
             let ran = desk_with(&folder, &[&format!("{fault}:when={place}")]);
             assert_eq!((ran.status, ran.output), (3, "booked 0 rows\n".repeat(place as usize - 1)), "{fault} {place}: {}", ran.errors);
             assert!(ran.errors.starts_with("velichundam: ") && ran.errors.contains("day.journal") && ran.errors.lines().count() == 1, "{}", ran.errors);
@@ -46,11 +46,23 @@ fn a_failing_sync_and_a_failing_cut() {
         return;
     }
     let folder = Folder::new();
-    let ran = desk_with(&folder, &["fdatasync,fsync:error=EIO:when=2+", "ftruncate:error=EIO"]);
+    let ran = desk_with(&folder, &["fdatasync:error=EIO:when=2+", "ftruncate:error=EIO"]);
     assert_eq!((ran.status, ran.output.as_str()), (3, "booked 0 rows\n"));
     assert!(ran.errors.starts_with("velichundam: ") && ran.errors.lines().count() == 1, "{}", ran.errors);
     assert_eq!(folder.read("day.journal"), days(3));
     run(&folder, &["desk", "-j", "day.journal"], "day 4\n").prints("booked 0 rows\n");
+}
+
+/// A journal that can't be synced when it is opened: 3, nothing is answered, and it is as it was.
+#[test]
+fn a_failing_sync_at_the_start() {
+    if !can_trace() {
+        return;
+    }
+    let folder = Folder::new();
+    let ran = desk_with(&folder, &["fsync:error=EIO:when=1"]);
+    assert!(ran.fails(3).contains("day.journal"), "{}", ran.errors);
+    assert_eq!(folder.read("day.journal"), days(1));
 }
 
 /// A created journal that can't be synced: 3, and nothing is answered.

@@ -126,7 +126,7 @@ fn a_long_line_is_one_write() {
     ran.prints("booked 1001 rows\n");
     assert_eq!(folder.read("day.journal").lines().nth(1), Some(line.trim_end()));
     let events = events(&folder, &calls);
-    assert!(matches!(&events[..], [Event::Appended(_), Event::Synced, Event::Answered(_)]), "{events:?}");
+    assert!(matches!(&events[..], [Event::Synced, Event::Appended(_), Event::Synced, Event::Answered(_)]), "{events:?}");
 }
 
 /// A torn line is told before it is cut.
@@ -156,6 +156,20 @@ fn what_is_not_booked_writes_no_journal() {
     for words in [&["show", "day.journal"][..], &["replay", "day.journal"], &["desk", "-j", "day.journal"]] {
         let (ran, calls) = traced(&folder, &[], words, "lineage 5\nnosuch\nday 1\nreport\n");
         assert!(ran.status <= 1 && !ran.output.is_empty(), "{}", ran.errors);
-        assert!(events(&folder, &calls).iter().all(|event| matches!(event, Event::Answered(_))));
+        assert!(!events(&folder, &calls).iter().any(|event| matches!(event, Event::Appended(_))));
     }
+}
+
+/// What another desk has left may not be synced yet, and a refusal rests on it too: it is synced before the first answer.
+#[test]
+fn what_is_in_the_journal_is_synced_before_an_answer() {
+    if !can_trace() {
+        return;
+    }
+    let folder = Folder::new();
+    folder.write("day.journal", "D\t1\n");
+    let (ran, calls) = traced(&folder, &[], &["desk", "-j", "day.journal"], "day 1\n");
+    assert_eq!((ran.status, ran.output.as_str()), (1, "refused 3: a figure or a count is out of range\n"));
+    let events = events(&folder, &calls);
+    assert!(matches!(&events[..], [Event::Synced, Event::Answered(_)]), "{events:?}");
 }
