@@ -132,6 +132,19 @@ fn of_report_tree_and_diff() {
     is_bad(&["tree", "J", ""]);
 }
 
+/// Which of two values would count is nothing to guess.
+#[test]
+fn of_a_value_that_is_given_twice() {
+    are_bad(&[
+        "desk -j J -j other.journal",
+        "desk -jJ -jJ",
+        "desk --room 9,9,9 --room 9,9,9",
+        "desk --sync every --sync never",
+        "replay J --room=1,1,1 --room 2,2,2",
+    ]);
+    are_bad(&["show J --id 1 --id 2", "show J records --account 1 --account=1", "show J --series 1 --series 1"]);
+}
+
 #[test]
 fn of_words_that_are_no_text() {
     let folder = Folder::new();
