@@ -4,19 +4,19 @@
 use crate::answers::counted;
 use crate::decimals::{grouped, whole};
 use crate::output::{escaped, quoted};
-use crate::request::Request;
+use crate::request::{Request, STEPS};
 use velichundam::Step;
 
 /// A figure's name and its range.
-type Figure = (&'static str, i64, i64);
+pub type Figure = (&'static str, i64, i64);
 
-const ID: Figure = ("id", 1, 999_999_999);
+pub const ID: Figure = ("id", 1, 999_999_999);
 const SUFFIX: Figure = ("suffix", 0, 65_535);
-const SERIES: Figure = ("series", 1, 999_999);
+pub const SERIES: Figure = ("series", 1, 999_999);
 const QUANTITY: Figure = ("quantity", 1, 1_000_000);
 const MOST_PRICE: i64 = 1_000_000_000_000;
 
-const fn account(name: &'static str) -> Figure {
+pub const fn account(name: &'static str) -> Figure {
     (name, 1, 9_999)
 }
 
@@ -41,8 +41,6 @@ const FORMS: [Form; 6] = [
     },
     Form { letter: b'D', name: "a day", figures: &[("day", 1, velichundam::LAST_DAY)], list: &[] },
 ];
-
-const STEPS: [Step; 6] = [Step::Open, Step::Claim, Step::Cancel, Step::Refuse, Step::ApproveGiver, Step::ApproveTaker];
 
 /// The request of a line without its newline, or why the line is bad.
 pub fn request_of(line: &[u8]) -> Result<Request, String> {
@@ -73,7 +71,7 @@ fn taken_apart(line: &[u8]) -> Result<Request, String> {
 
 fn step_of(field: Option<&&[u8]>) -> Result<Step, String> {
     let field = field.ok_or("1 field, a step of a give-up has 8")?;
-    let step = STEPS.into_iter().find(|step| *field == [step.letter()]);
+    let step = STEPS.into_iter().map(|(_, step)| step).find(|step| *field == [step.letter()]);
     step.ok_or_else(|| format!("field 2 (step): {} is none of O, C, X, R, G, T", quoted(field)))
 }
 
@@ -149,8 +147,13 @@ fn figure(field: &[u8], (_, least, most): Figure) -> Result<i64, String> {
     }
     match whole(field) {
         Ok(number) if (least..=most).contains(&number) => Ok(number),
-        _ => Err(format!("{} is not in {} to {}", escaped(field, 60), grouped(least), grouped(most))),
+        _ => Err(outside(field, least, most)),
     }
+}
+
+/// That a number is out of its range.
+pub fn outside(number: &[u8], least: i64, most: i64) -> String {
+    format!("{} is not in {} to {}", escaped(number, 60), grouped(least), grouped(most))
 }
 
 #[cfg(test)]

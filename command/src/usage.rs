@@ -1,11 +1,14 @@
 //! What the command is asked to do: its words, tested before any file is opened.
 
 use crate::book::Rooms;
+use crate::decimals::whole;
 use crate::desk::Desk;
 use crate::failure::{named, Failure};
+use crate::fields::{account, outside, Figure, ID, SERIES};
 use crate::help;
 use crate::tables::{Format, Table, View};
 use std::ffi::{OsStr, OsString};
+use std::os::unix::ffi::OsStrExt;
 
 /// What is asked for.
 pub enum Order {
@@ -99,7 +102,7 @@ fn report(given: &Given) -> Result<Order, String> {
 
 fn tree(given: &Given) -> Result<Order, String> {
     let [journal, id] = given.exactly(["a journal", "an id"])?;
-    Ok(Order::Tree(journal.clone(), figure("id", id, 1, 999_999_999)?))
+    Ok(Order::Tree(journal.clone(), figure("id", id, ID)?))
 }
 
 fn diff(given: &Given) -> Result<Order, String> {
@@ -128,7 +131,6 @@ impl Given {
     }
 
     fn option(&mut self, word: &OsStr, known: &[Known], words: &mut impl Iterator<Item = OsString>) -> Result<(), String> {
-        use std::os::unix::ffi::OsStrExt;
         let bytes = word.as_bytes();
         for (name, takes) in known {
             let Some(rest) = bytes.strip_prefix(name.as_bytes()) else { continue };
@@ -207,9 +209,9 @@ impl Given {
         };
         let view = View {
             table,
-            id: self.filter("--id", 999_999_999)?,
-            account: self.filter("--account", 9_999)?,
-            series: self.filter("--series", 999_999)?,
+            id: self.filter("--id", ID)?,
+            account: self.filter("--account", account("account"))?,
+            series: self.filter("--series", SERIES)?,
             format: self.format()?,
         };
         match table {
@@ -219,8 +221,8 @@ impl Given {
         }
     }
 
-    fn filter(&self, name: &str, most: i64) -> Result<Option<i64>, String> {
-        self.value(name).map(|value| figure(name, value, 1, most)).transpose()
+    fn filter(&self, name: &str, range: Figure) -> Result<Option<i64>, String> {
+        self.value(name).map(|value| figure(name, value, range)).transpose()
     }
 }
 
@@ -228,12 +230,11 @@ fn room(text: &str) -> Option<usize> {
     text.bytes().all(|byte| byte.is_ascii_digit()).then(|| text.parse().ok()).flatten()
 }
 
-fn figure(name: &str, value: &OsStr, least: i64, most: i64) -> Result<i64, String> {
-    use crate::decimals::{grouped, whole};
-    use std::os::unix::ffi::OsStrExt;
-    let number = whole(value.as_bytes()).map_err(|why| format!("{name}: {why}"))?;
-    if (least..=most).contains(&number) {
-        return Ok(number);
+/// A figure in its range, as it is typed.
+fn figure(name: &str, value: &OsStr, (_, least, most): Figure) -> Result<i64, String> {
+    match whole(value.as_bytes()) {
+        Ok(number) if (least..=most).contains(&number) => Ok(number),
+        Ok(_) => Err(format!("{name}: {}", outside(value.as_bytes(), least, most))),
+        Err(why) => Err(format!("{name}: {why}")),
     }
-    Err(format!("{name}: {number} is not in {} to {}", grouped(least), grouped(most)))
 }
