@@ -1,10 +1,10 @@
 // A batch of trades on sound tables (document 02, K1): its test 3, and its trades booked one by one up to the first that is refused.
 ghost use Rattle.std.specs.Prelude.{◌≡◌, true, length, ◌+◌, ◌≤◌};
-ghost use Rattle.rules.specs.Tables.{tables_of, soundRecords, soundPositions};
-ghost use Rattle.rules.specs.Left.{left, leftBy};
-ghost use Rattle.rules.specs.Sequence.{untilRefused};
-ghost use Rattle.rules.specs.Batch.{tradeAt, tradesOf, batchFigures, batchAnswer, handleBatch};
-ghost use Rattle.batch.specs.Outcome.{outcomeOf};
+ghost use Rattle.rules.specs.Tables.{tables_of, sound_records, sound_positions};
+ghost use Rattle.rules.specs.Left.{left, left_by};
+ghost use Rattle.rules.specs.Sequence.{until_refused};
+ghost use Rattle.rules.specs.Batch.{trade_at, trades_of, batch_figures, batch_answer, handle_batch};
+ghost use Rattle.batch.specs.Outcome.{outcome_of};
 ghost use Rattle.batch.specs.BookedSoundly.{BookedSoundly};
 
 use rules::Reply;
@@ -23,7 +23,7 @@ enum Outcome {
 
 // Test 3 of a batch, with so many cells for the excesses.
 pub fn figures_valid(trades: &[i64], cells: usize) -> bool
-    ensures { result ≡ batchFigures trades.now cells }
+    ensures { result ≡ batch_figures trades.now cells }
 {
     if trades.len() % TRADE_WIDTH != 0 {
         return false;
@@ -39,7 +39,7 @@ pub fn figures_valid(trades: &[i64], cells: usize) -> bool
 }
 
 fn outcome_of(reply: Reply) -> Outcome
-    ensures { result ≡ outcomeOf reply }
+    ensures { result ≡ outcome_of reply }
 {
     match reply {
         Reply::Booked { rows, residual } => Outcome::Booked(0),
@@ -61,8 +61,8 @@ fn outcome_of(reply: Reply) -> Outcome
 
 // The trade whose figures begin at this cell.
 fn book_trade(records: &mut [i64], positions: &mut [i64], trades: &[i64], at: usize) -> Outcome
-    requires { (soundRecords records.old ≡ true) × (soundPositions positions.old ≡ true) × (at + 6 ≤ length trades.now) }
-    ensures { BookedSoundly (tables_of records.old positions.old) (tradeAt trades.now at) result (tables_of records.new positions.new) }
+    requires { (sound_records records.old ≡ true) × (sound_positions positions.old ≡ true) × (at + 6 ≤ length trades.now) }
+    ensures { BookedSoundly (tables_of records.old positions.old) (trade_at trades.now at) result (tables_of records.new positions.new) }
 {
     let id = trades[at];
     let account = trades[at + 1];
@@ -83,8 +83,8 @@ fn book_each(
     trades: &[i64],
     excess: &mut [i64],
 ) -> Reply
-    requires { (soundRecords records.old ≡ true) × (soundPositions positions.old ≡ true) × (batchFigures trades.now (length excess.old) ≡ true) }
-    ensures { left result excess.new records.new positions.new ≡ leftBy excess.old (batchAnswer (untilRefused (tables_of records.old positions.old) (tradesOf trades.now))) }
+    requires { (sound_records records.old ≡ true) × (sound_positions positions.old ≡ true) × (batch_figures trades.now (length excess.old) ≡ true) }
+    ensures { left result excess.new records.new positions.new ≡ left_by excess.old (batch_answer (until_refused (tables_of records.old positions.old) (trades_of trades.now))) }
 {
     let count = trades.len() / TRADE_WIDTH;
     let mut i = 0;
@@ -112,8 +112,8 @@ pub fn on_sound(
     trades: &[i64],
     excess: &mut [i64],
 ) -> Reply
-    requires { (soundRecords records.old ≡ true) × (soundPositions positions.old ≡ true) }
-    ensures { left result excess.new records.new positions.new ≡ leftBy excess.old (handleBatch (tables_of records.old positions.old) trades.now (length excess.old)) }
+    requires { (sound_records records.old ≡ true) × (sound_positions positions.old ≡ true) }
+    ensures { left result excess.new records.new positions.new ≡ left_by excess.old (handle_batch (tables_of records.old positions.old) trades.now (length excess.old)) }
 {
     if !figures_valid(trades, excess.len()) {
         return Reply::Refused(3, 0);

@@ -1,15 +1,15 @@
 // The transaction book: the four requests and the one question of document 01, a batch of trades, the steps of a give-up, the replay of a text, a new day and the reporting list, each on lent tables of any length and content and
-// with any figures. Each promise is one equation: the answer and the cells of the lent tables at the end are those of `handle` on the cells at entry and this request, of a batch, a replay and the list those of `handleCall`. A
+// with any figures. Each promise is one equation: the answer and the cells of the lent tables at the end are those of `handle` on the cells at entry and this request, of a batch, a replay and the list those of `handle_call`. A
 // batch and the list also write to a lent output; their promises give every cell of it. The process table is lent to the steps of a give-up and to a replay alone.
 ghost use Rattle.std.specs.Prelude.{◌≡◌, [], length};
 ghost use Rattle.rules.specs.Request as Request;
 ghost use Rattle.rules.specs.Call as Call;
-ghost use Rattle.rules.specs.Call.{handleCall};
-ghost use Rattle.rules.specs.Handle.{handle, answered, answeredBy};
-ghost use Rattle.rules.specs.Left.{left, leftBy};
-ghost use Rattle.rules.specs.Tables.{tables_of, allTables};
-ghost use Rattle.verdict.specs.Verdict.{verdictOnTables};
-ghost use Rattle.give_up_steps.specs.OnAllTables.{verdictOnAllTables};
+ghost use Rattle.rules.specs.Call.{handle_call};
+ghost use Rattle.rules.specs.Handle.{handle, answered, answered_by};
+ghost use Rattle.rules.specs.Left.{left, left_by};
+ghost use Rattle.rules.specs.Tables.{tables_of, all_tables};
+ghost use Rattle.verdict.specs.Verdict.{verdict_on_tables};
+ghost use Rattle.give_up_steps.specs.OnAllTables.{verdict_on_all_tables};
 
 use give_up_steps::Terms;
 use rules::{Reply, Step};
@@ -17,7 +17,7 @@ use verdict::Verdict;
 
 // Tests 1 and 2: accepted where both tables are sound.
 fn verdict_on_tables(records: &[i64], positions: &[i64]) -> Verdict
-    ensures { result ≡ verdictOnTables records.now positions.now }
+    ensures { result ≡ verdict_on_tables records.now positions.now }
 {
     if !scan::soundness::records_sound(records) {
         return Verdict::Refused(1, 0);
@@ -55,7 +55,7 @@ pub fn trades(
     trades: &[i64],
     excess: &mut [i64],
 ) -> Reply
-    ensures { left result excess.new records.new positions.new ≡ leftBy excess.old (handleCall (tables_of records.old positions.old) (Call.trades trades.now (length excess.old))) }
+    ensures { left result excess.new records.new positions.new ≡ left_by excess.old (handle_call (tables_of records.old positions.old) (Call.trades trades.now (length excess.old))) }
 {
     match verdict_on_tables(records, positions) {
         Verdict::Refused(number, place) => Reply::Refused(number, place),
@@ -123,21 +123,21 @@ pub fn lineage(records: &[i64], id: i64, suffix: i64) -> Reply
 
 // A new day (document 02, K8): it is lent the records alone.
 pub fn day(records: &mut [i64], day: i64) -> Reply
-    ensures { answered result records.new [] ≡ handle (tables_of records.old []) (Request.newDay day) }
+    ensures { answered result records.new [] ≡ handle (tables_of records.old []) (Request.new_day day) }
 {
     new_day::day(records, day)
 }
 
 // The end-of-day reporting list: the pairs, id and suffix, from the first cell on.
 pub fn reportable(records: &[i64], pairs: &mut [i64]) -> Reply
-    ensures { left result pairs.new records.now [] ≡ leftBy pairs.old (handleCall (tables_of records.now []) (Call.reportable (length pairs.old))) }
+    ensures { left result pairs.new records.now [] ≡ left_by pairs.old (handle_call (tables_of records.now []) (Call.reportable (length pairs.old))) }
 {
     reportable::reportable(records, pairs)
 }
 
 // Tests 1, 2 and 19: accepted where all three tables are sound.
 fn verdict_on_all_tables(records: &[i64], positions: &[i64], processes: &[i64]) -> Verdict
-    ensures { result ≡ verdictOnAllTables records.now positions.now processes.now }
+    ensures { result ≡ verdict_on_all_tables records.now positions.now processes.now }
 {
     match verdict_on_tables(records, positions) {
         Verdict::Refused(number, place) => Verdict::Refused(number, place),
@@ -164,7 +164,7 @@ pub fn give_up(
     taking: i64,
     series: i64,
 ) -> Reply
-    ensures { answeredBy result (allTables records.new positions.new processes.new) ≡ handle (allTables records.old positions.old processes.old) (Request.giveUp step process id suffix giving taking series) }
+    ensures { answered_by result (all_tables records.new positions.new processes.new) ≡ handle (all_tables records.old positions.old processes.old) (Request.give_up step process id suffix giving taking series) }
 {
     match verdict_on_all_tables(records, positions, processes) {
         Verdict::Refused(number, place) => Reply::Refused(number, place),
@@ -189,7 +189,7 @@ pub fn replay(
     processes: &mut [i64],
     text: &[u8],
 ) -> Reply
-    ensures { answeredBy result (allTables records.new positions.new processes.new) ≡ handleCall (allTables records.old positions.old processes.old) (Call.replay text.now) }
+    ensures { answered_by result (all_tables records.new positions.new processes.new) ≡ handle_call (all_tables records.old positions.old processes.old) (Call.replay text.now) }
 {
     let records_sound = scan::soundness::records_sound(records);
     if !records_sound {

@@ -6,14 +6,14 @@ use mathlib.Core.Path.{◌≡◌, refl, ap, ◌∙◌}
 use mathlib.Core.List.{List, [], ◌∷◌}
 use lib.IntN.{ℤ, pos, nat_abs}
 use lib.ListN.{length, get_or}
-use Rattle.rules.specs.Books.{withDay}
-use Rattle.rules.specs.Layout.{count_of, decode, roomOf, rows_of, write}
-use Rattle.rules.specs.Tables.{Tables, recordAt, recordsLayout, currentDay, dayWritten, withCurrentDay, booksOf}
+use Rattle.rules.specs.Books.{with_day}
+use Rattle.rules.specs.Layout.{count_of, decode, room_of, rows_of, write}
+use Rattle.rules.specs.Tables.{Tables, record_at, records_layout, current_day, day_written, with_current_day, books_of}
 use Rattle.rules.specs.declared.Record.{Record}
 use Rattle.cells.proofs.Count.{room-by-length}
 
 -- Rows written keep the day.
-pub day-kept : (cells : List ℤ) (rows : List Record) → recordsLayout.header ≤ length cells → currentDay (write recordsLayout cells rows) ≡ currentDay cells
+pub day-kept : (cells : List ℤ) (rows : List Record) → records_layout.header ≤ length cells → current_day (write records_layout cells rows) ≡ current_day cells
 unfolding write
 day-kept [] rows h = absurd (omega arith)
 day-kept (c ∷ []) rows h = absurd (omega arith)
@@ -22,32 +22,32 @@ day-kept (c ∷ d ∷ rest) rows h = refl
 -- ---- another day written
 
 module _ (day : ℤ) where
-  pub written-day : (cells : List ℤ) → recordsLayout.header ≤ length cells → currentDay (dayWritten day cells) ≡ day
-  unfolding dayWritten
+  pub written-day : (cells : List ℤ) → records_layout.header ≤ length cells → current_day (day_written day cells) ≡ day
+  unfolding day_written
   written-day [] h = absurd (omega arith)
   written-day (c ∷ rest) h = refl
 
-  pub day-written-length : (cells : List ℤ) → recordsLayout.header ≤ length cells → length (dayWritten day cells) ≡ length cells
-  unfolding dayWritten
+  pub day-written-length : (cells : List ℤ) → records_layout.header ≤ length cells → length (day_written day cells) ≡ length cells
+  unfolding day_written
   day-written-length [] h = absurd (omega arith)
   day-written-length (c ∷ []) h = absurd (omega arith)
   day-written-length (c ∷ d ∷ rest) h = refl
 
-  pub day-written-count : (cells : List ℤ) → recordsLayout.header ≤ length cells → count_of (dayWritten day cells) ≡ count_of cells
-  unfolding dayWritten
+  pub day-written-count : (cells : List ℤ) → records_layout.header ≤ length cells → count_of (day_written day cells) ≡ count_of cells
+  unfolding day_written
   day-written-count [] h = absurd (omega arith)
   day-written-count (c ∷ rest) h = refl
 
   -- Cells past the header are the same.
-  past-header : (cells : List ℤ) (at : ℕ) → recordsLayout.header ≤ length cells → 2 ≤ at → get_or (dayWritten day cells) at (pos 0) ≡ get_or cells at (pos 0)
-  unfolding dayWritten
+  past-header : (cells : List ℤ) (at : ℕ) → records_layout.header ≤ length cells → 2 ≤ at → get_or (day_written day cells) at (pos 0) ≡ get_or cells at (pos 0)
+  unfolding day_written
   past-header [] at h low = absurd (omega arith)
   past-header (c ∷ []) at h low = absurd (omega arith)
   past-header (c ∷ d ∷ rest) zero h low = absurd (omega arith)
   past-header (c ∷ d ∷ rest) (suc zero) h low = absurd (omega arith)
   past-header (c ∷ d ∷ rest) (suc (suc at)) h low = refl
 
-  row_kept : (cells : List ℤ) (at : ℕ) → recordsLayout.header ≤ length cells → 2 ≤ at → recordAt (dayWritten day cells) at ≡ recordAt cells at
+  row_kept : (cells : List ℤ) (at : ℕ) → records_layout.header ≤ length cells → 2 ≤ at → record_at (day_written day cells) at ≡ record_at cells at
   row_kept cells at h low = λ i. record {
     id = past-header cells at h low i;
     suffix = past-header cells (at + 1) h (omega arith) i;
@@ -65,31 +65,31 @@ module _ (day : ℤ) where
     day = past-header cells (at + 13) h (omega arith) i;
   }
 
-  rows-read : (n at : ℕ) (cells : List ℤ) → recordsLayout.header ≤ length cells → 2 ≤ at
-      → decode recordsLayout.get recordsLayout.width n at (dayWritten day cells) ≡ decode recordsLayout.get recordsLayout.width n at cells
+  rows-read : (n at : ℕ) (cells : List ℤ) → records_layout.header ≤ length cells → 2 ≤ at
+      → decode records_layout.get records_layout.width n at (day_written day cells) ≡ decode records_layout.get records_layout.width n at cells
   rows-read zero at cells h low = refl
   rows-read (suc n) at cells h low =
-      ap (λ (r : Record). r ∷ decode recordsLayout.get recordsLayout.width n (at + recordsLayout.width) (dayWritten day cells)) (row_kept cells at h low)
-      ∙ ap (λ (rows : List Record). recordAt cells at ∷ rows) (rows-read n (at + recordsLayout.width) cells h (omega arith))
+      ap (λ (r : Record). r ∷ decode records_layout.get records_layout.width n (at + records_layout.width) (day_written day cells)) (row_kept cells at h low)
+      ∙ ap (λ (rows : List Record). record_at cells at ∷ rows) (rows-read n (at + records_layout.width) cells h (omega arith))
 
-  pub day-written-rows : (cells : List ℤ) → recordsLayout.header ≤ length cells → rows_of recordsLayout (dayWritten day cells) ≡ rows_of recordsLayout cells
+  pub day-written-rows : (cells : List ℤ) → records_layout.header ≤ length cells → rows_of records_layout (day_written day cells) ≡ rows_of records_layout cells
   unfolding rows_of
   day-written-rows cells h =
-      ap (λ (z : ℤ). decode recordsLayout.get recordsLayout.width (nat_abs z) recordsLayout.header (dayWritten day cells)) (day-written-count cells h)
-      ∙ rows-read (nat_abs (count_of cells)) recordsLayout.header cells h (omega arith)
+      ap (λ (z : ℤ). decode records_layout.get records_layout.width (nat_abs z) records_layout.header (day_written day cells)) (day-written-count cells h)
+      ∙ rows-read (nat_abs (count_of cells)) records_layout.header cells h (omega arith)
 
-  pub day-written-room : (cells : List ℤ) → recordsLayout.header ≤ length cells → roomOf recordsLayout (dayWritten day cells) ≡ roomOf recordsLayout cells
-  day-written-room cells h = room-by-length recordsLayout (dayWritten day cells) cells (day-written-length cells h)
+  pub day-written-room : (cells : List ℤ) → records_layout.header ≤ length cells → room_of records_layout (day_written day cells) ≡ room_of records_layout cells
+  day-written-room cells h = room-by-length records_layout (day_written day cells) cells (day-written-length cells h)
 
   -- The books of another day.
-  pub day-written-books : (t : Tables) → recordsLayout.header ≤ length t.records → booksOf (withCurrentDay day t) ≡ withDay day (booksOf t)
-  unfolding booksOf
+  pub day-written-books : (t : Tables) → records_layout.header ≤ length t.records → books_of (with_current_day day t) ≡ with_day day (books_of t)
+  unfolding books_of
   day-written-books t h = λ i. record {
     records = day-written-rows t.records h i;
-    positions = (booksOf t).positions;
-    processes = (booksOf t).processes;
-    recordsRoom = day-written-room t.records h i;
-    positionsRoom = (booksOf t).positionsRoom;
-    processesRoom = (booksOf t).processesRoom;
+    positions = (books_of t).positions;
+    processes = (books_of t).processes;
+    records_room = day-written-room t.records h i;
+    positions_room = (books_of t).positions_room;
+    processes_room = (books_of t).processes_room;
     day = written-day t.records h i;
   }

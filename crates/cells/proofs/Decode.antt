@@ -48,12 +48,12 @@ module _ {Row : Type 0} (get : List ℤ → ℕ → Row) (width : ℕ) where
       ∙ drop_at (decode get width k at xs) (decode get width (n - k) (at + k * width) xs) k (length-decode k at xs)
 
   -- The row at a place of the list.
-  pub getD-decode : (n at : ℕ) (xs : List ℤ) (i : ℕ) (other : Row) → i < n → get_or (decode get width n at xs) i other ≡ get xs (at + i * width)
-  getD-decode zero at xs i other h = absurd (omega arith)
-  getD-decode (suc n) at xs zero other h = rw (zero-mul, add-zero)
-  getD-decode (suc n) at xs (suc i) other h =
+  pub get_or-decode : (n at : ℕ) (xs : List ℤ) (i : ℕ) (other : Row) → i < n → get_or (decode get width n at xs) i other ≡ get xs (at + i * width)
+  get_or-decode zero at xs i other h = absurd (omega arith)
+  get_or-decode (suc n) at xs zero other h = rw (zero-mul, add-zero)
+  get_or-decode (suc n) at xs (suc i) other h =
       let e : (at + width) + i * width ≡ at + suc i * width = omega (arith, suc-mul i width) in
-      getD-decode n (at + width) xs i other (le_of_suc-le-suc h) ∙ ap (λ (j : ℕ). get xs j) e
+      get_or-decode n (at + width) xs i other (le_of_suc-le-suc h) ∙ ap (λ (j : ℕ). get xs j) e
 
   -- The last row, and those before it.
   pub decode-last : (n at : ℕ) (xs : List ℤ) → decode get width (suc n) at xs ≡ decode get width n at xs ++ (get xs (at + n * width) ∷ [])

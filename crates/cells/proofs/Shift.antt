@@ -9,12 +9,12 @@ use mathlib.Core.List.{List, ◌∷◌, ◌++◌, append_assoc}
 use lib.IntN.{ℤ, pos}
 use lib.ListN.{length, take, drop, take-append-drop, length-append, length-drop}
 use lib.Seq.{drop-drop, length-take-le}
-use Rattle.rules.specs.Layout.{Layout, count_of, afterCount, decode, encode, start_of, rows_of, countIsSound, write}
+use Rattle.rules.specs.Layout.{Layout, count_of, after_count, decode, encode, start_of, rows_of, count_is_sound, write}
 use Rattle.cells.specs.Lawful.{Lawful}
 use Rattle.cells.proofs.Parts.{length-replaced}
 use Rattle.cells.proofs.Decode.{length-decode, take-decode, drop-decode}
 use Rattle.cells.proofs.Encode.{encode-cons, encode-append, encode-decode}
-use Rattle.cells.proofs.Count.{header-then, rowsOf-decode, sound-count, sound-rows-cells}
+use Rattle.cells.proofs.Count.{header-then, rows_of-decode, sound-count, sound-rows-cells}
 use Rattle.cells.proofs.Write.{write-cells}
 
 -- Rows k to n are the cells of rows k to n.
@@ -44,7 +44,7 @@ module _ {Row : Type 0} (l : Layout Row) (lawful : Lawful l) (cells : List ℤ) 
   -- Some rows before row k: the rows from k on move up by so many rows.
   pub insert-run-cells : (k : ℕ) (news : List Row) → k ≤ n
       → write l cells (take k (decode l.get l.width n l.header cells) ++ (news ++ drop k (decode l.get l.width n l.header cells)))
-      ≡ pos (n + length news) ∷ (afterCount l.header cells ++ (take (k * l.width) (drop l.header cells)
+      ≡ pos (n + length news) ∷ (after_count l.header cells ++ (take (k * l.width) (drop l.header cells)
       ++ (encode l.put news ++ (take ((n - k) * l.width) (drop (start_of l k) cells) ++ drop (start_of l (n + length news)) cells))))
   insert-run-cells k news h =
       let w : ℕ = l.width in
@@ -63,9 +63,9 @@ module _ {Row : Type 0} (l : Layout Row) (lawful : Lawful l) (cells : List ℤ) 
       let rest : List ℤ = drop (start_of l m) cells in
       let regroup : (before ++ (encode l.put news ++ moved)) ++ rest ≡ before ++ (encode l.put news ++ (moved ++ rest)) = simp append_assoc in
       write-cells l cells (take k rows ++ (news ++ drop k rows))
-      ∙ ap (λ (j : ℕ). pos j ∷ (afterCount l.header cells ++ (encode l.put (take k rows ++ (news ++ drop k rows)) ++ drop (start_of l j) cells))) size
-      ∙ ap (λ (c : List ℤ). pos m ∷ (afterCount l.header cells ++ (c ++ rest))) coded
-      ∙ ap (λ (c : List ℤ). pos m ∷ (afterCount l.header cells ++ c)) regroup
+      ∙ ap (λ (j : ℕ). pos j ∷ (after_count l.header cells ++ (encode l.put (take k rows ++ (news ++ drop k rows)) ++ drop (start_of l j) cells))) size
+      ∙ ap (λ (c : List ℤ). pos m ∷ (after_count l.header cells ++ (c ++ rest))) coded
+      ∙ ap (λ (c : List ℤ). pos m ∷ (after_count l.header cells ++ c)) regroup
 
   -- A row in place of row k: all other cells stay.
   pub replace-cells : (k : ℕ) (new : Row) → count_of cells ≡ pos n → k < n
@@ -89,7 +89,7 @@ module _ {Row : Type 0} (l : Layout Row) (lawful : Lawful l) (cells : List ℤ) 
       let behind : drop (start_of l n) cells ≡ drop m rest = sym (drop-drop m (start_of l (suc k)) cells ∙ ap (λ (j : ℕ). drop j cells) reach) in
       let regroup : (before ++ (l.put new ++ take m rest)) ++ drop m rest ≡ before ++ (l.put new ++ (take m rest ++ drop m rest)) = simp append_assoc in
       let header : l.header ≤ length cells = omega arith in
-      let front : List ℤ = afterCount l.header cells in
+      let front : List ℤ = after_count l.header cells in
       write-cells l cells (take k rows ++ (new ∷ drop (suc k) rows))
       ∙ ap (λ (j : ℕ). pos j ∷ (front ++ (encode l.put (take k rows ++ (new ∷ drop (suc k) rows)) ++ drop (start_of l j) cells))) size
       ∙ ap (λ (c : List ℤ). pos n ∷ (front ++ (c ++ drop (start_of l n) cells))) coded
@@ -100,20 +100,20 @@ module _ {Row : Type 0} (l : Layout Row) (lawful : Lawful l) (cells : List ℤ) 
       ∙ ap (λ (z : ℤ). z ∷ ((front ++ before) ++ (l.put new ++ rest))) (sym count)
       ∙ ap (λ (c : List ℤ). c ++ (l.put new ++ rest)) (header-then l.header cells (k * w) lawful.counted header)
 
-module _ {Row : Type 0} (l : Layout Row) (lawful : Lawful l) (cells : List ℤ) (sound : countIsSound l cells ≡ true) where
+module _ {Row : Type 0} (l : Layout Row) (lawful : Lawful l) (cells : List ℤ) (sound : count_is_sound l cells ≡ true) where
   -- The same of a table whose count is sound, and its rows.
   pub insert-rows : (k : ℕ) (news : List Row) → k ≤ length (rows_of l cells)
       → write l cells (take k (rows_of l cells) ++ (news ++ drop k (rows_of l cells)))
-      ≡ pos (length (rows_of l cells) + length news) ∷ (afterCount l.header cells ++ (take (k * l.width) (drop l.header cells)
+      ≡ pos (length (rows_of l cells) + length news) ∷ (after_count l.header cells ++ (take (k * l.width) (drop l.header cells)
       ++ (encode l.put news ++ (take ((length (rows_of l cells) - k) * l.width) (drop (start_of l k) cells)
       ++ drop (start_of l (length (rows_of l cells) + length news)) cells))))
   insert-rows k news h =
-      ap (λ (rows : List Row). write l cells (take k rows ++ (news ++ drop k rows))) (rowsOf-decode l cells)
+      ap (λ (rows : List Row). write l cells (take k rows ++ (news ++ drop k rows))) (rows_of-decode l cells)
       ∙ insert-run-cells l lawful cells (length (rows_of l cells)) (sound-rows-cells l lawful cells sound) k news h
 
   pub replace-row : (k : ℕ) (new : Row) → k < length (rows_of l cells)
       → write l cells (take k (rows_of l cells) ++ (new ∷ drop (suc k) (rows_of l cells)))
       ≡ take (start_of l k) cells ++ (l.put new ++ drop (start_of l (suc k)) cells)
   replace-row k new h =
-      ap (λ (rows : List Row). write l cells (take k rows ++ (new ∷ drop (suc k) rows))) (rowsOf-decode l cells)
+      ap (λ (rows : List Row). write l cells (take k rows ++ (new ∷ drop (suc k) rows))) (rows_of-decode l cells)
       ∙ replace-cells l lawful cells (length (rows_of l cells)) (sound-rows-cells l lawful cells sound) k new (sound-count l lawful cells sound) h

@@ -7,10 +7,10 @@ use lib.IntN.{ℤ}
 use lib.ListN.{length}
 use Rattle.rules.specs.Keyed.{Key, rising}
 use Rattle.rules.specs.Refusal.{all_of}
-use Rattle.rules.specs.Rows.{recordKey, positionKey, soundRecord, soundPosition}
-use Rattle.rules.specs.ProcessRows.{processNumber, soundProcess}
-use Rattle.rules.specs.Layout.{Layout, rows_of, roomOf, countIsSound, write}
-use Rattle.rules.specs.Tables.{recordsLayout, positionsLayout, processesLayout, soundTable, soundRecordRows, currentDay, dayWritten, soundDays, soundRecords, soundPositions, soundProcesses}
+use Rattle.rules.specs.Rows.{record_key, position_key, sound_record, sound_position}
+use Rattle.rules.specs.ProcessRows.{process_number, sound_process}
+use Rattle.rules.specs.Layout.{Layout, rows_of, room_of, count_is_sound, write}
+use Rattle.rules.specs.Tables.{records_layout, positions_layout, processes_layout, sound_table, sound_record_rows, current_day, day_written, sound_days, sound_records, sound_positions, sound_processes}
 use Rattle.rules.specs.declared.Record.{Record}
 use Rattle.rules.specs.declared.Position.{Position}
 use Rattle.rules.specs.declared.ProcessRow.{ProcessRow}
@@ -23,89 +23,89 @@ use Rattle.cells.proofs.Write.{rows_write}
 use Rattle.cells.proofs.DayCells.{day-kept, day-written-length, day-written-count, day-written-rows, day-written-room}
 use Rattle.cells.proofs.RowCells.{records-lawful, positions-lawful, processes-lawful}
 
-module _ {Row : Type 0} (l : Layout Row) (lawful : Lawful l) (key : Row → Key) (soundRow : Row → Bool) (cells : List ℤ) where
-  pub table-known : soundTable l key soundRow cells ≡ true → SoundTable l key soundRow cells
+module _ {Row : Type 0} (l : Layout Row) (lawful : Lawful l) (key : Row → Key) (sound_row : Row → Bool) (cells : List ℤ) where
+  pub table-known : sound_table l key sound_row cells ≡ true → SoundTable l key sound_row cells
   table-known sound =
-      let c : countIsSound l cells ≡ true = table-count l key soundRow cells sound in
+      let c : count_is_sound l cells ≡ true = table-count l key sound_row cells sound in
       record {
         count-sound = c;
         header-within = sound-header l lawful cells c;
         count = sound-count l lawful cells c;
         rows_fit = sound-rows-fit l lawful cells c;
         rows-within = sound-rows-cells l lawful cells c;
-        rows-rise = table-rises l key soundRow cells sound;
-        rows-sound = table-rows l key soundRow cells sound;
+        rows-rise = table-rises l key sound_row cells sound;
+        rows-sound = table-rows l key sound_row cells sound;
       }
 
 -- Test 1 of the records is of their rows, and of the days.
-pub record-rows-sound : (cells : List ℤ) → soundRecords cells ≡ true → soundRecordRows cells ≡ true
-unfolding soundRecords
-record-rows-sound cells sound = and_left (soundRecordRows cells) (soundDays (currentDay cells) (rows_of recordsLayout cells)) sound
+pub record-rows-sound : (cells : List ℤ) → sound_records cells ≡ true → sound_record_rows cells ≡ true
+unfolding sound_records
+record-rows-sound cells sound = and_left (sound_record_rows cells) (sound_days (current_day cells) (rows_of records_layout cells)) sound
 
-pub days-sound : (cells : List ℤ) → soundRecords cells ≡ true → soundDays (currentDay cells) (rows_of recordsLayout cells) ≡ true
-unfolding soundRecords
-days-sound cells sound = and_right (soundRecordRows cells) (soundDays (currentDay cells) (rows_of recordsLayout cells)) sound
+pub days-sound : (cells : List ℤ) → sound_records cells ≡ true → sound_days (current_day cells) (rows_of records_layout cells) ≡ true
+unfolding sound_records
+days-sound cells sound = and_right (sound_record_rows cells) (sound_days (current_day cells) (rows_of records_layout cells)) sound
 
-pub records-sound : (cells : List ℤ) → soundRecordRows cells ≡ true → soundDays (currentDay cells) (rows_of recordsLayout cells) ≡ true → soundRecords cells ≡ true
-unfolding soundRecords
+pub records-sound : (cells : List ℤ) → sound_record_rows cells ≡ true → sound_days (current_day cells) (rows_of records_layout cells) ≡ true → sound_records cells ≡ true
+unfolding sound_records
 records-sound cells rows days = and_intro rows days
 
-pub records-known : (cells : List ℤ) → soundRecordRows cells ≡ true → SoundRecords cells
-unfolding soundRecordRows
-records-known cells sound = table-known recordsLayout records-lawful recordKey soundRecord cells sound
+pub records-known : (cells : List ℤ) → sound_record_rows cells ≡ true → SoundRecords cells
+unfolding sound_record_rows
+records-known cells sound = table-known records_layout records-lawful record_key sound_record cells sound
 
-pub positions-known : (cells : List ℤ) → soundPositions cells ≡ true → SoundPositions cells
-unfolding soundPositions
-positions-known cells sound = table-known positionsLayout positions-lawful positionKey soundPosition cells sound
+pub positions-known : (cells : List ℤ) → sound_positions cells ≡ true → SoundPositions cells
+unfolding sound_positions
+positions-known cells sound = table-known positions_layout positions-lawful position_key sound_position cells sound
 
-pub processes-known : (cells : List ℤ) → soundProcesses cells ≡ true → SoundProcesses cells
-unfolding soundProcesses
-processes-known cells sound = table-known processesLayout processes-lawful processNumber soundProcess cells sound
+pub processes-known : (cells : List ℤ) → sound_processes cells ≡ true → SoundProcesses cells
+unfolding sound_processes
+processes-known cells sound = table-known processes_layout processes-lawful process_number sound_process cells sound
 
-pub sound-record-rows : (cells : List ℤ) → countIsSound recordsLayout cells ≡ true → rising recordKey (rows_of recordsLayout cells) ≡ true
-    → all_of (map soundRecord (rows_of recordsLayout cells)) ≡ true → soundRecordRows cells ≡ true
-unfolding soundRecordRows
-sound-record-rows cells c r a = sound-table recordsLayout recordKey soundRecord cells c r a
+pub sound-record-rows : (cells : List ℤ) → count_is_sound records_layout cells ≡ true → rising record_key (rows_of records_layout cells) ≡ true
+    → all_of (map sound_record (rows_of records_layout cells)) ≡ true → sound_record_rows cells ≡ true
+unfolding sound_record_rows
+sound-record-rows cells c r a = sound-table records_layout record_key sound_record cells c r a
 
 -- Another day leaves the rows sound.
-pub day-written-sound : (day : ℤ) (cells : List ℤ) → soundRecordRows cells ≡ true → soundRecordRows (dayWritten day cells) ≡ true
+pub day-written-sound : (day : ℤ) (cells : List ℤ) → sound_record_rows cells ≡ true → sound_record_rows (day_written day cells) ≡ true
 day-written-sound day cells sound =
     let k : SoundRecords cells = records-known cells sound in
-    let h : recordsLayout.header ≤ length cells = k.header-within in
-    sound-record-rows (dayWritten day cells)
-    (count-sound recordsLayout records-lawful (dayWritten day cells) (length (rows_of recordsLayout cells)) (rw (day-written-length day cells h) h) (day-written-count day cells h ∙ k.count)
+    let h : records_layout.header ≤ length cells = k.header-within in
+    sound-record-rows (day_written day cells)
+    (count-sound records_layout records-lawful (day_written day cells) (length (rows_of records_layout cells)) (rw (day-written-length day cells h) h) (day-written-count day cells h ∙ k.count)
     (rw (day-written-room day cells h) k.rows_fit))
     (rw (day-written-rows day cells h) k.rows-rise)
     (rw (day-written-rows day cells h) k.rows-sound)
 
-pub sound-positions : (cells : List ℤ) → countIsSound positionsLayout cells ≡ true → rising positionKey (rows_of positionsLayout cells) ≡ true
-    → all_of (map soundPosition (rows_of positionsLayout cells)) ≡ true → soundPositions cells ≡ true
-unfolding soundPositions
-sound-positions cells c r a = sound-table positionsLayout positionKey soundPosition cells c r a
+pub sound-positions : (cells : List ℤ) → count_is_sound positions_layout cells ≡ true → rising position_key (rows_of positions_layout cells) ≡ true
+    → all_of (map sound_position (rows_of positions_layout cells)) ≡ true → sound_positions cells ≡ true
+unfolding sound_positions
+sound-positions cells c r a = sound-table positions_layout position_key sound_position cells c r a
 
-pub sound-processes : (cells : List ℤ) → countIsSound processesLayout cells ≡ true → rising processNumber (rows_of processesLayout cells) ≡ true
-    → all_of (map soundProcess (rows_of processesLayout cells)) ≡ true → soundProcesses cells ≡ true
-unfolding soundProcesses
-sound-processes cells c r a = sound-table processesLayout processNumber soundProcess cells c r a
+pub sound-processes : (cells : List ℤ) → count_is_sound processes_layout cells ≡ true → rising process_number (rows_of processes_layout cells) ≡ true
+    → all_of (map sound_process (rows_of processes_layout cells)) ≡ true → sound_processes cells ≡ true
+unfolding sound_processes
+sound-processes cells c r a = sound-table processes_layout process_number sound_process cells c r a
 
 -- Sound rows written where they fit.
-pub write-sound-record-rows : (cells : List ℤ) (rows : List Record) → recordsLayout.header ≤ length cells → length rows ≤ roomOf recordsLayout cells
-    → rising recordKey rows ≡ true → all_of (map soundRecord rows) ≡ true → soundRecordRows (write recordsLayout cells rows) ≡ true
-unfolding soundRecordRows
-write-sound-record-rows cells rows h fit r a = sound-write recordsLayout records-lawful recordKey soundRecord cells rows h fit r a
+pub write-sound-record-rows : (cells : List ℤ) (rows : List Record) → records_layout.header ≤ length cells → length rows ≤ room_of records_layout cells
+    → rising record_key rows ≡ true → all_of (map sound_record rows) ≡ true → sound_record_rows (write records_layout cells rows) ≡ true
+unfolding sound_record_rows
+write-sound-record-rows cells rows h fit r a = sound-write records_layout records-lawful record_key sound_record cells rows h fit r a
 
-pub write-sound-records : (cells : List ℤ) (rows : List Record) → recordsLayout.header ≤ length cells → length rows ≤ roomOf recordsLayout cells
-    → rising recordKey rows ≡ true → all_of (map soundRecord rows) ≡ true → soundDays (currentDay cells) rows ≡ true → soundRecords (write recordsLayout cells rows) ≡ true
+pub write-sound-records : (cells : List ℤ) (rows : List Record) → records_layout.header ≤ length cells → length rows ≤ room_of records_layout cells
+    → rising record_key rows ≡ true → all_of (map sound_record rows) ≡ true → sound_days (current_day cells) rows ≡ true → sound_records (write records_layout cells rows) ≡ true
 write-sound-records cells rows h fit r a d =
-    records-sound (write recordsLayout cells rows) (write-sound-record-rows cells rows h fit r a)
-    (rw (day-kept cells rows h) (rw (rows_write recordsLayout records-lawful cells rows h) d))
+    records-sound (write records_layout cells rows) (write-sound-record-rows cells rows h fit r a)
+    (rw (day-kept cells rows h) (rw (rows_write records_layout records-lawful cells rows h) d))
 
-pub write-sound-positions : (cells : List ℤ) (rows : List Position) → positionsLayout.header ≤ length cells → length rows ≤ roomOf positionsLayout cells
-    → rising positionKey rows ≡ true → all_of (map soundPosition rows) ≡ true → soundPositions (write positionsLayout cells rows) ≡ true
-unfolding soundPositions
-write-sound-positions cells rows h fit r a = sound-write positionsLayout positions-lawful positionKey soundPosition cells rows h fit r a
+pub write-sound-positions : (cells : List ℤ) (rows : List Position) → positions_layout.header ≤ length cells → length rows ≤ room_of positions_layout cells
+    → rising position_key rows ≡ true → all_of (map sound_position rows) ≡ true → sound_positions (write positions_layout cells rows) ≡ true
+unfolding sound_positions
+write-sound-positions cells rows h fit r a = sound-write positions_layout positions-lawful position_key sound_position cells rows h fit r a
 
-pub write-sound-processes : (cells : List ℤ) (rows : List ProcessRow) → processesLayout.header ≤ length cells → length rows ≤ roomOf processesLayout cells
-    → rising processNumber rows ≡ true → all_of (map soundProcess rows) ≡ true → soundProcesses (write processesLayout cells rows) ≡ true
-unfolding soundProcesses
-write-sound-processes cells rows h fit r a = sound-write processesLayout processes-lawful processNumber soundProcess cells rows h fit r a
+pub write-sound-processes : (cells : List ℤ) (rows : List ProcessRow) → processes_layout.header ≤ length cells → length rows ≤ room_of processes_layout cells
+    → rising process_number rows ≡ true → all_of (map sound_process rows) ≡ true → sound_processes (write processes_layout cells rows) ≡ true
+unfolding sound_processes
+write-sound-processes cells rows h fit r a = sound-write processes_layout processes-lawful process_number sound_process cells rows h fit r a

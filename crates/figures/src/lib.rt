@@ -2,9 +2,9 @@
 ghost use Rattle.std.specs.Prelude.{◌≡◌, true};
 ghost use Rattle.integers.specs.Order.{in_range};
 ghost use Rattle.rules.specs.Figures as Figures;
-ghost use Rattle.rules.specs.Figures.{magnitudeAtMost, mostQuantity, validId, validSuffix, validAccount, validSeries, validQuantity, validDay, validPrice, validSide, isBuy, isToClose};
-ghost use Rattle.rules.specs.Rows.{validKind, validStatus, validSignedQuantity, validBooked, validTotal, validInto, validParent};
-ghost use Rattle.rules.specs.ProcessRows.{validApproval, validStage};
+ghost use Rattle.rules.specs.Figures.{magnitude_at_most, most_quantity, valid_id, valid_suffix, valid_account, valid_series, valid_quantity, valid_day, valid_price, valid_side, is_buy, is_to_close};
+ghost use Rattle.rules.specs.Rows.{valid_kind, valid_status, valid_signed_quantity, valid_booked, valid_total, valid_into, valid_parent};
+ghost use Rattle.rules.specs.ProcessRows.{valid_approval, valid_stage};
 
 use rules::codes::{
     ADJUSTABLE, CANCELLED, CLAIMED, CLOSING_ERROR, DONE, GIVE_UP, GREATEST_SUFFIX, INVERSE,
@@ -22,55 +22,55 @@ pub fn in_range(low: i64, high: i64, z: i64) -> bool
 }
 
 pub fn valid_id(z: i64) -> bool
-    ensures { result ≡ validId z }
+    ensures { result ≡ valid_id z }
 {
     in_range(1, 999_999_999, z)
 }
 
 pub fn valid_suffix(z: i64) -> bool
-    ensures { result ≡ validSuffix z }
+    ensures { result ≡ valid_suffix z }
 {
     in_range(0, GREATEST_SUFFIX, z)
 }
 
 pub fn valid_account(z: i64) -> bool
-    ensures { result ≡ validAccount z }
+    ensures { result ≡ valid_account z }
 {
     in_range(1, 9_999, z)
 }
 
 pub fn valid_series(z: i64) -> bool
-    ensures { result ≡ validSeries z }
+    ensures { result ≡ valid_series z }
 {
     in_range(1, 999_999, z)
 }
 
 pub fn valid_quantity(z: i64) -> bool
-    ensures { result ≡ validQuantity z }
+    ensures { result ≡ valid_quantity z }
 {
     in_range(1, MOST_QUANTITY, z)
 }
 
 pub fn valid_day(z: i64) -> bool
-    ensures { result ≡ validDay z }
+    ensures { result ≡ valid_day z }
 {
     in_range(1, LAST_DAY, z)
 }
 
 pub fn valid_price(z: i64) -> bool
-    ensures { result ≡ validPrice z }
+    ensures { result ≡ valid_price z }
 {
     in_range(-1_000_000_000_000, 1_000_000_000_000, z)
 }
 
 pub fn valid_side(z: i64) -> bool
-    ensures { result ≡ validSide z }
+    ensures { result ≡ valid_side z }
 {
     in_range(1, 4, z)
 }
 
 pub fn is_buy(side: i64) -> bool
-    ensures { result ≡ isBuy side }
+    ensures { result ≡ is_buy side }
 {
     if side == 1 {
         return true;
@@ -80,7 +80,7 @@ pub fn is_buy(side: i64) -> bool
 
 // An amount with the sign of its side: buys plus, sells minus.
 pub fn signed(side: i64, amount: i64) -> i64
-    requires { magnitudeAtMost mostQuantity amount ≡ true }
+    requires { magnitude_at_most most_quantity amount ≡ true }
     ensures { result ≡ Figures.signed side amount }
 {
     if is_buy(side) {
@@ -90,7 +90,7 @@ pub fn signed(side: i64, amount: i64) -> i64
 }
 
 pub fn is_to_close(side: i64) -> bool
-    ensures { result ≡ isToClose side }
+    ensures { result ≡ is_to_close side }
 {
     if side == 3 {
         return true;
@@ -99,7 +99,7 @@ pub fn is_to_close(side: i64) -> bool
 }
 
 pub fn valid_kind(z: i64) -> bool
-    ensures { result ≡ validKind z }
+    ensures { result ≡ valid_kind z }
 {
     if z == ORIGINAL {
         return true;
@@ -123,14 +123,14 @@ pub fn valid_kind(z: i64) -> bool
 }
 
 pub fn valid_status(z: i64) -> bool
-    ensures { result ≡ validStatus z }
+    ensures { result ≡ valid_status z }
 {
     in_range(ADJUSTABLE, UNDER_GIVE_UP, z)
 }
 
 // Not zero, at most 1,000,000 in magnitude, and negative exactly in an inverse.
 pub fn valid_signed_quantity(status: i64, q: i64) -> bool
-    ensures { result ≡ validSignedQuantity status q }
+    ensures { result ≡ valid_signed_quantity status q }
 {
     if status == INVERSE {
         return in_range(-1_000_000, -1, q);
@@ -139,19 +139,19 @@ pub fn valid_signed_quantity(status: i64, q: i64) -> bool
 }
 
 pub fn valid_booked(z: i64) -> bool
-    ensures { result ≡ validBooked z }
+    ensures { result ≡ valid_booked z }
 {
     in_range(-1_000_000, 1_000_000, z)
 }
 
 pub fn valid_total(z: i64) -> bool
-    ensures { result ≡ validTotal z }
+    ensures { result ≡ valid_total z }
 {
     in_range(-4_000_000_000_000_000_000, 4_000_000_000_000_000_000, z)
 }
 
 pub fn valid_into(z: i64) -> bool
-    ensures { result ≡ validInto z }
+    ensures { result ≡ valid_into z }
 {
     if z == 0 {
         return true;
@@ -160,7 +160,7 @@ pub fn valid_into(z: i64) -> bool
 }
 
 pub fn valid_parent(parent: i64, suffix: i64) -> bool
-    ensures { result ≡ validParent parent suffix }
+    ensures { result ≡ valid_parent parent suffix }
 {
     if suffix == 0 {
         return parent <= 0;
@@ -169,13 +169,13 @@ pub fn valid_parent(parent: i64, suffix: i64) -> bool
 }
 
 pub fn valid_approval(z: i64) -> bool
-    ensures { result ≡ validApproval z }
+    ensures { result ≡ valid_approval z }
 {
     in_range(0, 1, z)
 }
 
 pub fn valid_stage(z: i64) -> bool
-    ensures { result ≡ validStage z }
+    ensures { result ≡ valid_stage z }
 {
     if z == PENDING {
         return true;

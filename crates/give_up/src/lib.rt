@@ -1,7 +1,7 @@
 // A step of a give-up on sound tables (document 02, K3): its opening, or a later one.
 ghost use Rattle.std.specs.Prelude.{◌≡◌};
-ghost use Rattle.rules.specs.Tables.{allTables};
-ghost use Rattle.rules.specs.Handle.{answeredBy};
+ghost use Rattle.rules.specs.Tables.{all_tables};
+ghost use Rattle.rules.specs.Handle.{answered_by};
 ghost use Rattle.soundness.specs.SoundTables.{SoundTables};
 ghost use Rattle.give_up_steps.specs.HandledIn.{HandledIn};
 ghost use Rattle.give_up_steps.specs.Terms.{step_of};
@@ -16,8 +16,8 @@ pub fn on_sound(
     step: Step,
     g: Terms,
 ) -> Reply
-    requires { SoundTables (allTables records.old positions.old processes.old) }
-    ensures { HandledIn (allTables records.old positions.old processes.old) (step_of step g) (answeredBy result (allTables records.new positions.new processes.new)) }
+    requires { SoundTables (all_tables records.old positions.old processes.old) }
+    ensures { HandledIn (all_tables records.old positions.old processes.old) (step_of step g) (answered_by result (all_tables records.new positions.new processes.new)) }
 {
     match step {
         Step::Open => opening::on_sound(records, positions, processes, g),

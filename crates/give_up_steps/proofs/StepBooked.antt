@@ -5,34 +5,34 @@ use mathlib.Core.Bool.{Bool, true, false, cond}
 use mathlib.Core.List.{List, [], ◌∷◌, ◌++◌}
 use mathlib.Core.Option.{Option, some}
 use lib.IntN.{ℤ, pos}
-use Rattle.rules.specs.Figures.{giveUpKind, takeUpKind}
-use Rattle.rules.specs.Keyed.{upsert, upsertAll}
-use Rattle.rules.specs.Rows.{recordKey, positionKey}
-use Rattle.rules.specs.ProcessRows.{processKey}
-use Rattle.rules.specs.NamedRecord.{theRecord}
+use Rattle.rules.specs.Figures.{give_up_kind, take_up_kind}
+use Rattle.rules.specs.Keyed.{upsert, upsert_all}
+use Rattle.rules.specs.Rows.{record_key, position_key}
+use Rattle.rules.specs.ProcessRows.{process_key}
+use Rattle.rules.specs.NamedRecord.{the_record}
 use Rattle.rules.specs.Books.{view_of}
-use Rattle.rules.specs.Plan.{Effects, withProcessRow, putProcess, booked, planReply}
-use Rattle.rules.specs.GiveUp.{is_complete, recordAfter, stepEffects, finished, giveUpEffects, giveUpPlan}
+use Rattle.rules.specs.Plan.{Effects, with_process_row, put_process, booked, plan_reply}
+use Rattle.rules.specs.GiveUp.{is_complete, record_after, step_effects, finished, give_up_effects, give_up_plan}
 use Rattle.rules.specs.Layout.{rows_of, write}
-use Rattle.rules.specs.Tables.{Tables, allTables, booksOf, writeBooks, recordsLayout, positionsLayout, processesLayout, soundPositions}
-use Rattle.rules.specs.Handle.{Answer, answeredBy, plan_of, written_by, planTables}
+use Rattle.rules.specs.Tables.{Tables, all_tables, books_of, write_books, records_layout, positions_layout, processes_layout, sound_positions}
+use Rattle.rules.specs.Handle.{Answer, answered_by, plan_of, written_by, plan_tables}
 use Rattle.rules.specs.declared.Record.{Record}
 use Rattle.rules.specs.declared.Position.{Position}
 use Rattle.rules.specs.declared.ProcessRow.{ProcessRow}
 use Rattle.rules.specs.declared.Step.{Step}
 use Rattle.rules.specs.declared.Step.TheVariants.{Open, Claim, Cancel, Refuse, ApproveGiver, ApproveTaker}
 use Rattle.rules.specs.declared.Reply.TheVariants.{Booked}
-use Rattle.keys.proofs.Clauses.{upsertAll-nil}
+use Rattle.keys.proofs.Clauses.{upsert_all-nil}
 use Rattle.cells.proofs.RowCells.{positions-lawful}
 use Rattle.cells.proofs.SoundCells.{positions-known}
 use Rattle.cells.proofs.Write.{write-own}
-use Rattle.verdict.specs.Verdict.{acceptedIn}
-use Rattle.verdict.specs.Moving.{movingEffects, recordsAfter, positionsAfter}
-use Rattle.give_up_steps.proofs.StepVerdict.{request, foundRecord, after}
+use Rattle.verdict.specs.Verdict.{accepted_in}
+use Rattle.verdict.specs.Moving.{moving_effects, records_after, positions_after}
+use Rattle.give_up_steps.proofs.StepVerdict.{request, found_record, after}
 
 -- No row is added.
-nothing-added : (step : Step) (r : Record) → recordAfter step r ++ [] ≡ recordAfter step r
-unfolding recordAfter
+nothing-added : (step : Step) (r : Record) → record_after step r ++ [] ≡ record_after step r
+unfolding record_after
 nothing-added Open r = refl
 nothing-added Claim r = refl
 nothing-added Cancel r = refl
@@ -40,37 +40,37 @@ nothing-added Refuse r = refl
 nothing-added ApproveGiver r = refl
 nothing-added ApproveTaker r = refl
 
-module _ (rs ps qs : List ℤ) (process id suffix giving taking series : ℤ) (step : Step) (r : Record) (named : foundRecord rs ps qs process id suffix giving taking series ≡ some r) where
+module _ (rs ps qs : List ℤ) (process id suffix giving taking series : ℤ) (step : Step) (r : Record) (named : found_record rs ps qs process id suffix giving taking series ≡ some r) where
   -- What the step makes of the process, and the process table with its row.
   abbrev p : ProcessRow
   p = after rs ps qs process id suffix giving taking series step
 
-  abbrev pub processesWith : List ℤ
-  processesWith = write processesLayout qs (upsert processKey (finished p) (rows_of processesLayout qs))
+  abbrev pub processes_with : List ℤ
+  processes_with = write processes_layout qs (upsert process_key (finished p) (rows_of processes_layout qs))
 
   -- The answer with these effects and the row of the process.
   abbrev leaves : Effects → Answer
-  leaves e = answeredBy e.reply (allTables (recordsAfter e rs) (positionsAfter e ps) processesWith)
+  leaves e = answered_by e.reply (all_tables (records_after e rs) (positions_after e ps) processes_with)
 
-  booked-as : acceptedIn (allTables rs ps qs) (request rs ps qs process id suffix giving taking series step)
-      ≡ leaves (cond (is_complete p) (movingEffects giveUpKind takeUpKind rs ps r id giving taking series) (stepEffects step r))
-  unfolding acceptedIn plan_of giveUpPlan giveUpEffects view_of booksOf planReply planTables written_by writeBooks booked putProcess theRecord
+  booked-as : accepted_in (all_tables rs ps qs) (request rs ps qs process id suffix giving taking series step)
+      ≡ leaves (cond (is_complete p) (moving_effects give_up_kind take_up_kind rs ps r id giving taking series) (step_effects step r))
+  unfolding accepted_in plan_of give_up_plan give_up_effects view_of books_of plan_reply plan_tables written_by write_books booked put_process the_record
   booked-as =
-      ap (λ (o : Option Record). leaves (cond (is_complete p) (movingEffects giveUpKind takeUpKind rs ps (theRecord o) id giving taking series) (stepEffects step (theRecord o)))) named
+      ap (λ (o : Option Record). leaves (cond (is_complete p) (moving_effects give_up_kind take_up_kind rs ps (the_record o) id giving taking series) (step_effects step (the_record o)))) named
 
-  pub complete-booked : is_complete p ≡ true → acceptedIn (allTables rs ps qs) (request rs ps qs process id suffix giving taking series step)
-      ≡ answeredBy (Booked (pos 2) (pos 0))
-      (allTables (recordsAfter (movingEffects giveUpKind takeUpKind rs ps r id giving taking series) rs) (positionsAfter (movingEffects giveUpKind takeUpKind rs ps r id giving taking series) ps) processesWith)
-  complete-booked h = booked-as ∙ ap (λ (b : Bool). leaves (cond b (movingEffects giveUpKind takeUpKind rs ps r id giving taking series) (stepEffects step r))) h
+  pub complete-booked : is_complete p ≡ true → accepted_in (all_tables rs ps qs) (request rs ps qs process id suffix giving taking series step)
+      ≡ answered_by (Booked (pos 2) (pos 0))
+      (all_tables (records_after (moving_effects give_up_kind take_up_kind rs ps r id giving taking series) rs) (positions_after (moving_effects give_up_kind take_up_kind rs ps r id giving taking series) ps) processes_with)
+  complete-booked h = booked-as ∙ ap (λ (b : Bool). leaves (cond b (moving_effects give_up_kind take_up_kind rs ps r id giving taking series) (step_effects step r))) h
 
-  pub step-booked : is_complete p ≡ false → soundPositions ps ≡ true → acceptedIn (allTables rs ps qs) (request rs ps qs process id suffix giving taking series step)
-      ≡ answeredBy (Booked (pos 0) (pos 0)) (allTables (write recordsLayout rs (upsertAll recordKey (recordAfter step r) (rows_of recordsLayout rs))) ps processesWith)
+  pub step-booked : is_complete p ≡ false → sound_positions ps ≡ true → accepted_in (all_tables rs ps qs) (request rs ps qs process id suffix giving taking series step)
+      ≡ answered_by (Booked (pos 0) (pos 0)) (all_tables (write records_layout rs (upsert_all record_key (record_after step r) (rows_of records_layout rs))) ps processes_with)
   step-booked h sound =
       booked-as
-      ∙ ap (λ (b : Bool). leaves (cond b (movingEffects giveUpKind takeUpKind rs ps r id giving taking series) (stepEffects step r))) h
-      ∙ (λ i. answeredBy (Booked (pos 0) (pos 0)) (allTables (write recordsLayout rs (upsertAll recordKey (nothing-added step r i) (rows_of recordsLayout rs))) (own i) processesWith))
+      ∙ ap (λ (b : Bool). leaves (cond b (moving_effects give_up_kind take_up_kind rs ps r id giving taking series) (step_effects step r))) h
+      ∙ (λ i. answered_by (Booked (pos 0) (pos 0)) (all_tables (write records_layout rs (upsert_all record_key (nothing-added step r i) (rows_of records_layout rs))) (own i) processes_with))
     where
-      own : write positionsLayout ps (upsertAll positionKey [] (rows_of positionsLayout ps)) ≡ ps
+      own : write positions_layout ps (upsert_all position_key [] (rows_of positions_layout ps)) ≡ ps
       own =
-          ap (write positionsLayout ps) (upsertAll-nil positionKey (rows_of positionsLayout ps))
-          ∙ write-own positionsLayout positions-lawful ps (positions-known ps sound).count-sound
+          ap (write positions_layout ps) (upsert_all-nil position_key (rows_of positions_layout ps))
+          ∙ write-own positions_layout positions-lawful ps (positions-known ps sound).count-sound

@@ -10,186 +10,186 @@ use lib.Dec.{ltb}
 use lib.IntN.{ℤ, pos}
 use lib.ListN.{length}
 use borrow.Author.Tests.{le-ltb}
-use Rattle.integers.specs.Order.{eqZ}
-use Rattle.rules.specs.Figures.{isToClose, transferKind, giveUpKind, takeUpKind}
-use Rattle.rules.specs.Keyed.{Key, is_some, find, greatest, absentFrom}
-use Rattle.rules.specs.Rows.{key_of, recordKey, positionKey, orZeros}
-use Rattle.rules.specs.ProcessRows.{processKey, openedProcess, theProcess}
-use Rattle.rules.specs.NamedRecord.{theRecord, nextSuffix, isElsewhere}
-use Rattle.rules.specs.Refusal.{Test, test, any_of, all_of, firstRefusal}
-use Rattle.rules.specs.Request.{Request, giveUp}
+use Rattle.integers.specs.Order.{eq_z}
+use Rattle.rules.specs.Figures.{is_to_close, transfer_kind, give_up_kind, take_up_kind}
+use Rattle.rules.specs.Keyed.{Key, is_some, find, greatest, absent_from}
+use Rattle.rules.specs.Rows.{key_of, record_key, position_key, or_zeros}
+use Rattle.rules.specs.ProcessRows.{process_key, opened_process, the_process}
+use Rattle.rules.specs.NamedRecord.{the_record, next_suffix, is_elsewhere}
+use Rattle.rules.specs.Refusal.{Test, test, any_of, all_of, first_refusal}
+use Rattle.rules.specs.Request.{Request, give_up}
 use Rattle.rules.specs.Books.{view_of}
-use Rattle.rules.specs.Plan.{withProcessRow, processRoomTest, bookingTests, planTests}
-use Rattle.rules.specs.Transfer.{holdsTooLittle}
-use Rattle.rules.specs.GiveUp.{giveUpFigures, isOpening, is_at, isOutOfTurn, stepped, is_complete, stepStatusTest, stepEffects, finished, giveUpEffects, processBefore, giveUpPlan}
-use Rattle.rules.specs.Layout.{roomOf, rows_of}
-use Rattle.rules.specs.Tables.{currentDay, Tables, allTables, tables_of, booksOf, recordsLayout, positionsLayout, processesLayout}
+use Rattle.rules.specs.Plan.{with_process_row, process_room_test, booking_tests, plan_tests}
+use Rattle.rules.specs.Transfer.{holds_too_little}
+use Rattle.rules.specs.GiveUp.{give_up_figures, is_opening, is_at, is_out_of_turn, stepped, is_complete, step_status_test, step_effects, finished, give_up_effects, process_before, give_up_plan}
+use Rattle.rules.specs.Layout.{room_of, rows_of}
+use Rattle.rules.specs.Tables.{current_day, Tables, all_tables, tables_of, books_of, records_layout, positions_layout, processes_layout}
 use Rattle.rules.specs.Handle.{plan_of}
 use Rattle.rules.specs.declared.Record.{Record}
 use Rattle.rules.specs.declared.Position.{Position}
 use Rattle.rules.specs.declared.ProcessRow.{ProcessRow}
 use Rattle.rules.specs.declared.Step.{Step}
 use Rattle.rules.specs.declared.Step.TheVariants.{Open}
-use Rattle.keys.proofs.Clauses.{isSome-none, isSome-some, absentFrom-nil, absentFrom-new, absentFrom-old}
+use Rattle.keys.proofs.Clauses.{is_some-none, is_some-some, absent_from-nil, absent_from-new, absent_from-old}
 use Rattle.keys.proofs.Greatest.{greatest-none}
 use Rattle.keys.proofs.Lookup.{find-key}
 use Rattle.cells.proofs.SoundCells.{record-rows-sound, records-known, positions-known, processes-known}
 use Rattle.soundness.specs.SoundTables.{SoundTables}
 use Rattle.soundness.proofs.GiveUp.{stepped-key}
-use Rattle.verdict.specs.Verdict.{verdictOf, verdictIn}
-use Rattle.verdict.specs.Moving.{movingEffects, movingVerdict}
+use Rattle.verdict.specs.Verdict.{verdict_of, verdict_in}
+use Rattle.verdict.specs.Moving.{moving_effects, moving_verdict}
 use Rattle.verdict.specs.declared.Verdict.TheVariants.{Refused}
-use Rattle.verdict.proofs.Remaining.{verdictBy, Remaining, ◌past◌, stops}
+use Rattle.verdict.proofs.Remaining.{verdict_by, Remaining, ◌past◌, stops}
 use Rattle.verdict.proofs.Moving.{moving-step}
 
 -- Tests that pass at the end of a list change nothing.
-passing-end : (xs ys : List Test) → firstRefusal ys ≡ none → firstRefusal (xs ++ ys) ≡ firstRefusal xs
-unfolding firstRefusal
+passing-end : (xs ys : List Test) → first_refusal ys ≡ none → first_refusal (xs ++ ys) ≡ first_refusal xs
+unfolding first_refusal
 passing-end [] ys h = h
 passing-end (t ∷ xs) ys h = ap (λ (o : Option Test). cond t.applies (some t) o) (passing-end xs ys h)
 
 -- Lists of tests that end alike.
-pub same-front : (xs ys zs : List Test) → firstRefusal ys ≡ firstRefusal zs → firstRefusal (xs ++ ys) ≡ firstRefusal (xs ++ zs)
-unfolding firstRefusal
+pub same-front : (xs ys zs : List Test) → first_refusal ys ≡ first_refusal zs → first_refusal (xs ++ ys) ≡ first_refusal (xs ++ zs)
+unfolding first_refusal
 same-front [] ys zs h = h
 same-front (x ∷ xs) ys zs h = ap (λ (o : Option Test). cond x.applies (some x) o) (same-front xs ys zs h)
 
 module _ (rs ps qs : List ℤ) (process id suffix giving taking series : ℤ) where
   abbrev pub t : Tables
-  t = allTables rs ps qs
+  t = all_tables rs ps qs
 
   abbrev pub request : Step → Request
-  request step = giveUp step process id suffix giving taking series
+  request step = give_up step process id suffix giving taking series
 
   abbrev pub used : Option ℤ
-  used = greatest processKey process (rows_of processesLayout qs)
+  used = greatest process_key process (rows_of processes_layout qs)
 
-  abbrev pub foundProcess : Option ProcessRow
-  foundProcess = find processKey (key_of process id) (rows_of processesLayout qs)
+  abbrev pub found_process : Option ProcessRow
+  found_process = find process_key (key_of process id) (rows_of processes_layout qs)
 
-  abbrev pub foundRecord : Option Record
-  foundRecord = find recordKey (key_of id suffix) (rows_of recordsLayout rs)
+  abbrev pub found_record : Option Record
+  found_record = find record_key (key_of id suffix) (rows_of records_layout rs)
 
   abbrev pub next : ℤ
-  next = nextSuffix (greatest recordKey id (rows_of recordsLayout rs))
+  next = next_suffix (greatest record_key id (rows_of records_layout rs))
 
   abbrev pub old : Position
-  old = orZeros giving series (find positionKey (key_of giving series) (rows_of positionsLayout ps))
+  old = or_zeros giving series (find position_key (key_of giving series) (rows_of positions_layout ps))
 
   abbrev pub new : Position
-  new = orZeros taking series (find positionKey (key_of taking series) (rows_of positionsLayout ps))
+  new = or_zeros taking series (find position_key (key_of taking series) (rows_of positions_layout ps))
 
   -- What the step makes of the process.
   abbrev pub after : Step → ProcessRow
-  after step = stepped step (processBefore step process id suffix giving taking series foundProcess)
+  after step = stepped step (process_before step process id suffix giving taking series found_process)
 
   -- Of an opening: pending, so that it does not complete. Of a later step: by the row that it finds.
   pub opened-waits : is_complete (after Open) ≡ false
-  unfolding stepped processBefore openedProcess is_complete is_at eqZ
+  unfolding stepped process_before opened_process is_complete is_at eq_z
   opened-waits = refl
 
-  pub after-found : (step : Step) → isOpening step ≡ false → after step ≡ stepped step (theProcess foundProcess)
-  unfolding processBefore
-  after-found step later = ap (λ (b : Bool). stepped step (cond b (openedProcess process id suffix giving taking series) (theProcess foundProcess))) later
+  pub after-found : (step : Step) → is_opening step ≡ false → after step ≡ stepped step (the_process found_process)
+  unfolding process_before
+  after-found step later = ap (λ (b : Bool). stepped step (cond b (opened_process process id suffix giving taking series) (the_process found_process))) later
 
   -- The tests from 12 on, and from 6 on, of the record r.
   abbrev pub tail : Step → Record → List Test
-  tail step r = test 12 (is_complete (after step) && holdsTooLittle r old) ∷ bookingTests (booksOf t) (giveUpEffects step (currentDay rs) r (after step) next taking old new)
+  tail step r = test 12 (is_complete (after step) && holds_too_little r old) ∷ booking_tests (books_of t) (give_up_effects step (current_day rs) r (after step) next taking old new)
 
-  abbrev pub fromRecord : Step → Record → List Test
-  fromRecord step r = test 6 (isElsewhere giving series r) ∷ stepStatusTest step r ∷ test 8 (isToClose r.side) ∷ tail step r
+  abbrev pub from_record : Step → Record → List Test
+  from_record step r = test 6 (is_elsewhere giving series r) ∷ step_status_test step r ∷ test 8 (is_to_close r.side) ∷ tail step r
 
   abbrev pub Judged : Step → List Test → Type 0
-  Judged step tests = Remaining (verdictIn t (request step)) tests
+  Judged step tests = Remaining (verdict_in t (request step)) tests
 
   all-tests : (step : Step) → Judged step
-      (test 3 (not (giveUpFigures process id suffix giving taking series)) ∷ test 18 (isOutOfTurn step suffix giving taking series used foundProcess)
-      ∷ test 5 (not (is_some foundRecord)) ∷ fromRecord step (theRecord foundRecord))
-  unfolding verdictIn plan_of giveUpPlan planTests view_of booksOf
+      (test 3 (not (give_up_figures process id suffix giving taking series)) ∷ test 18 (is_out_of_turn step suffix giving taking series used found_process)
+      ∷ test 5 (not (is_some found_record)) ∷ from_record step (the_record found_record))
+  unfolding verdict_in plan_of give_up_plan plan_tests view_of books_of
   all-tests step = record { is = refl }
 
   -- Past 3; past 18; past 5, where r is the record.
-  pub past-figures : (step : Step) → giveUpFigures process id suffix giving taking series ≡ true → Judged step
-      (test 18 (isOutOfTurn step suffix giving taking series used foundProcess) ∷ test 5 (not (is_some foundRecord)) ∷ fromRecord step (theRecord foundRecord))
+  pub past-figures : (step : Step) → give_up_figures process id suffix giving taking series ≡ true → Judged step
+      (test 18 (is_out_of_turn step suffix giving taking series used found_process) ∷ test 5 (not (is_some found_record)) ∷ from_record step (the_record found_record))
   unfolding test
   past-figures step figures = all-tests step past ap not figures
 
-  pub past-turn : (step : Step) → giveUpFigures process id suffix giving taking series ≡ true → isOutOfTurn step suffix giving taking series used foundProcess ≡ false
-      → Judged step (test 5 (not (is_some foundRecord)) ∷ fromRecord step (theRecord foundRecord))
+  pub past-turn : (step : Step) → give_up_figures process id suffix giving taking series ≡ true → is_out_of_turn step suffix giving taking series used found_process ≡ false
+      → Judged step (test 5 (not (is_some found_record)) ∷ from_record step (the_record found_record))
   unfolding test
   past-turn step figures turn = past-figures step figures past turn
 
-  pub past-found : (step : Step) → giveUpFigures process id suffix giving taking series ≡ true → isOutOfTurn step suffix giving taking series used foundProcess ≡ false
-      → (r : Record) → foundRecord ≡ some r → Judged step (fromRecord step r)
-  unfolding test theRecord
+  pub past-found : (step : Step) → give_up_figures process id suffix giving taking series ≡ true → is_out_of_turn step suffix giving taking series used found_process ≡ false
+      → (r : Record) → found_record ≡ some r → Judged step (from_record step r)
+  unfolding test the_record
   past-found step figures turn r e =
-      subst (λ (o : Option Record). Judged step (fromRecord step (theRecord o))) e
-      (past-turn step figures turn past (ap (λ (o : Option Record). not (is_some o)) e ∙ ap not (isSome-some r)))
+      subst (λ (o : Option Record). Judged step (from_record step (the_record o))) e
+      (past-turn step figures turn past (ap (λ (o : Option Record). not (is_some o)) e ∙ ap not (is_some-some r)))
 
   -- Each of these refuses.
-  pub refuses-figures : (step : Step) → giveUpFigures process id suffix giving taking series ≡ false → verdictIn t (request step) ≡ Refused (pos 3) (pos 0)
+  pub refuses-figures : (step : Step) → give_up_figures process id suffix giving taking series ≡ false → verdict_in t (request step) ≡ Refused (pos 3) (pos 0)
   unfolding test
   refuses-figures step h = sym (stops (all-tests step) (ap not h))
 
-  pub refuses-turn : (step : Step) → giveUpFigures process id suffix giving taking series ≡ true → isOutOfTurn step suffix giving taking series used foundProcess ≡ true
-      → verdictIn t (request step) ≡ Refused (pos 18) (pos 0)
+  pub refuses-turn : (step : Step) → give_up_figures process id suffix giving taking series ≡ true → is_out_of_turn step suffix giving taking series used found_process ≡ true
+      → verdict_in t (request step) ≡ Refused (pos 18) (pos 0)
   unfolding test
   refuses-turn step figures h = sym (stops (past-figures step figures) h)
 
-  pub refuses-missing : (step : Step) → giveUpFigures process id suffix giving taking series ≡ true → isOutOfTurn step suffix giving taking series used foundProcess ≡ false
-      → foundRecord ≡ none → verdictIn t (request step) ≡ Refused (pos 5) (pos 0)
+  pub refuses-missing : (step : Step) → give_up_figures process id suffix giving taking series ≡ true → is_out_of_turn step suffix giving taking series used found_process ≡ false
+      → found_record ≡ none → verdict_in t (request step) ≡ Refused (pos 5) (pos 0)
   unfolding test
   refuses-missing step figures turn e =
-      sym (stops (past-turn step figures turn) (ap (λ (o : Option Record). not (is_some o)) e ∙ ap not (isSome-none Record)))
+      sym (stops (past-turn step figures turn) (ap (λ (o : Option Record). not (is_some o)) e ∙ ap not (is_some-none Record)))
 
   -- ---- the tests from 12 on
 
   module _ (sound : SoundTables t) where
     -- A step that does not complete has that of the process table's room alone.
-    pub step-tail : (step : Step) (r : Record) → is_complete (after step) ≡ false → firstRefusal (tail step r) ≡ firstRefusal (processRoomTest (booksOf t) (some (finished (after step))))
-    unfolding giveUpEffects bookingTests booksOf test firstRefusal any_of all_of
+    pub step-tail : (step : Step) (r : Record) → is_complete (after step) ≡ false → first_refusal (tail step r) ≡ first_refusal (process_room_test (books_of t) (some (finished (after step))))
+    unfolding give_up_effects booking_tests books_of test first_refusal any_of all_of
     step-tail step r h =
-        let room : ltb (roomOf recordsLayout rs) (length (rows_of recordsLayout rs) + 0) ≡ false =
-        le-ltb (roomOf recordsLayout rs) (length (rows_of recordsLayout rs) + 0) (omega (arith, (records-known rs (record-rows-sound rs sound.records)).rows_fit)) in
-        let fits : ltb (roomOf positionsLayout ps) (length (rows_of positionsLayout ps) + absentFrom positionKey (rows_of positionsLayout ps) []) ≡ false =
-        le-ltb (roomOf positionsLayout ps) (length (rows_of positionsLayout ps) + absentFrom positionKey (rows_of positionsLayout ps) [])
-        (omega (arith, (positions-known ps sound.positions).rows_fit, absentFrom-nil positionKey (rows_of positionsLayout ps))) in
+        let room : ltb (room_of records_layout rs) (length (rows_of records_layout rs) + 0) ≡ false =
+        le-ltb (room_of records_layout rs) (length (rows_of records_layout rs) + 0) (omega (arith, (records-known rs (record-rows-sound rs sound.records)).rows_fit)) in
+        let fits : ltb (room_of positions_layout ps) (length (rows_of positions_layout ps) + absent_from position_key (rows_of positions_layout ps) []) ≡ false =
+        le-ltb (room_of positions_layout ps) (length (rows_of positions_layout ps) + absent_from position_key (rows_of positions_layout ps) [])
+        (omega (arith, (positions-known ps sound.positions).rows_fit, absent_from-nil position_key (rows_of positions_layout ps))) in
         rw (h, room, fits)
 
     -- The row of a process that is there needs no room.
-    pub present-room : (p x : ProcessRow) → find processKey (processKey p) (rows_of processesLayout qs) ≡ some x → firstRefusal (processRoomTest (booksOf t) (some p)) ≡ none
-    unfolding processRoomTest booksOf test firstRefusal
+    pub present-room : (p x : ProcessRow) → find process_key (process_key p) (rows_of processes_layout qs) ≡ some x → first_refusal (process_room_test (books_of t) (some p)) ≡ none
+    unfolding process_room_test books_of test first_refusal
     present-room p x e =
-        let fits : ltb (roomOf processesLayout qs) (length (rows_of processesLayout qs) + absentFrom processKey (rows_of processesLayout qs) (p ∷ [])) ≡ false =
-        le-ltb (roomOf processesLayout qs) (length (rows_of processesLayout qs) + absentFrom processKey (rows_of processesLayout qs) (p ∷ []))
-        (omega (arith, (processes-known qs sound.processes).rows_fit, absentFrom-old processKey (rows_of processesLayout qs) p x [] e, absentFrom-nil processKey (rows_of processesLayout qs))) in
+        let fits : ltb (room_of processes_layout qs) (length (rows_of processes_layout qs) + absent_from process_key (rows_of processes_layout qs) (p ∷ [])) ≡ false =
+        le-ltb (room_of processes_layout qs) (length (rows_of processes_layout qs) + absent_from process_key (rows_of processes_layout qs) (p ∷ []))
+        (omega (arith, (processes-known qs sound.processes).rows_fit, absent_from-old process_key (rows_of processes_layout qs) p x [] e, absent_from-nil process_key (rows_of processes_layout qs))) in
         rw fits
 
     -- A later step writes its row in the place of the one that it found,
-    pub stepped-stands : (step : Step) (p : ProcessRow) → foundProcess ≡ some p → find processKey (processKey (finished (stepped step p))) (rows_of processesLayout qs) ≡ some p
+    pub stepped-stands : (step : Step) (p : ProcessRow) → found_process ≡ some p → find process_key (process_key (finished (stepped step p))) (rows_of processes_layout qs) ≡ some p
     stepped-stands step p found =
-        ap (λ (k : Key). find processKey k (rows_of processesLayout qs)) (stepped-key step p ∙ find-key processKey (key_of process id) (rows_of processesLayout qs) p found) ∙ found
+        ap (λ (k : Key). find process_key k (rows_of processes_layout qs)) (stepped-key step p ∙ find-key process_key (key_of process id) (rows_of processes_layout qs) p found) ∙ found
 
-    pub stepped-room : (step : Step) → isOpening step ≡ false → (p : ProcessRow) → foundProcess ≡ some p → firstRefusal (processRoomTest (booksOf t) (some (finished (after step)))) ≡ none
-    unfolding theProcess
+    pub stepped-room : (step : Step) → is_opening step ≡ false → (p : ProcessRow) → found_process ≡ some p → first_refusal (process_room_test (books_of t) (some (finished (after step)))) ≡ none
+    unfolding the_process
     stepped-room step later p found =
-        ap (λ (q : ProcessRow). firstRefusal (processRoomTest (booksOf t) (some (finished q)))) (after-found step later ∙ ap (λ (o : Option ProcessRow). stepped step (theProcess o)) found)
+        ap (λ (q : ProcessRow). first_refusal (process_room_test (books_of t) (some (finished q)))) (after-found step later ∙ ap (λ (o : Option ProcessRow). stepped step (the_process o)) found)
         ∙ present-room (finished (stepped step p)) p (stepped-stands step p found)
 
     -- and an opening, where its process id is not used, a row more: test 23.
-    pub opened-room : used ≡ none → firstRefusal (processRoomTest (booksOf t) (some (finished (after Open)))) ≡ firstRefusal (test 23 (ltb (roomOf processesLayout qs) (length (rows_of processesLayout qs) + 1)) ∷ [])
-    unfolding processRoomTest booksOf stepped processBefore openedProcess finished is_complete is_at eqZ
+    pub opened-room : used ≡ none → first_refusal (process_room_test (books_of t) (some (finished (after Open)))) ≡ first_refusal (test 23 (ltb (room_of processes_layout qs) (length (rows_of processes_layout qs) + 1)) ∷ [])
+    unfolding process_room_test books_of stepped process_before opened_process finished is_complete is_at eq_z
     opened-room unused =
-        ap (λ (n : ℕ). firstRefusal (test 23 (ltb (roomOf processesLayout qs) (length (rows_of processesLayout qs) + n)) ∷ []))
-        (absentFrom-new processKey (rows_of processesLayout qs) (openedProcess process id suffix giving taking series) [] (greatest-none processKey process id (rows_of processesLayout qs) unused)
-        ∙ ap (λ (n : ℕ). 1 + n) (absentFrom-nil processKey (rows_of processesLayout qs)))
+        ap (λ (n : ℕ). first_refusal (test 23 (ltb (room_of processes_layout qs) (length (rows_of processes_layout qs) + n)) ∷ []))
+        (absent_from-new process_key (rows_of processes_layout qs) (opened_process process id suffix giving taking series) [] (greatest-none process_key process id (rows_of processes_layout qs) unused)
+        ∙ ap (λ (n : ℕ). 1 + n) (absent_from-nil process_key (rows_of processes_layout qs)))
 
     -- A step that completes has those of a record that moves, and then that of the room.
     pub complete-tail : (step : Step) (r : Record) → is_complete (after step) ≡ true
-        → firstRefusal (processRoomTest (booksOf t) (some (finished (after step)))) ≡ none → verdictBy (tail step r) ≡ movingVerdict rs ps r id giving taking series
-    unfolding giveUpEffects movingVerdict
+        → first_refusal (process_room_test (books_of t) (some (finished (after step)))) ≡ none → verdict_by (tail step r) ≡ moving_verdict rs ps r id giving taking series
+    unfolding give_up_effects moving_verdict
     complete-tail step r h room =
-        ap (λ (b : Bool). verdictBy (test 12 (b && holdsTooLittle r old)
-        ∷ bookingTests (booksOf t) (withProcessRow (finished (after step)) (cond b (movingEffects giveUpKind takeUpKind rs ps r id giving taking series) (stepEffects step r))))) h
-        ∙ ap (λ (tests : List Test). verdictBy (test 12 (holdsTooLittle r old) ∷ tests)) (moving-step rs ps id giving taking series r giveUpKind takeUpKind qs (finished (after step)))
-        ∙ ap verdictOf (passing-end (test 12 (holdsTooLittle r old) ∷ bookingTests (booksOf (tables_of rs ps)) (movingEffects transferKind transferKind rs ps r id giving taking series)) (processRoomTest (booksOf t) (some (finished (after step)))) room)
+        ap (λ (b : Bool). verdict_by (test 12 (b && holds_too_little r old)
+        ∷ booking_tests (books_of t) (with_process_row (finished (after step)) (cond b (moving_effects give_up_kind take_up_kind rs ps r id giving taking series) (step_effects step r))))) h
+        ∙ ap (λ (tests : List Test). verdict_by (test 12 (holds_too_little r old) ∷ tests)) (moving-step rs ps id giving taking series r give_up_kind take_up_kind qs (finished (after step)))
+        ∙ ap verdict_of (passing-end (test 12 (holds_too_little r old) ∷ booking_tests (books_of (tables_of rs ps)) (moving_effects transfer_kind transfer_kind rs ps r id giving taking series)) (process_room_test (books_of t) (some (finished (after step)))) room)

@@ -1,11 +1,11 @@
 -- Refusals 1, 2 and 19 of a step: accepted where all three tables are sound.
 use Rattle.std.specs.Prelude.{not, List, [], ◌∷◌, ℤ}
-use Rattle.rules.specs.Refusal.{test, firstRefusal}
-use Rattle.rules.specs.Tables.{soundRecords, soundPositions, soundProcesses}
-use Rattle.verdict.specs.Verdict.{verdictOf}
+use Rattle.rules.specs.Refusal.{test, first_refusal}
+use Rattle.rules.specs.Tables.{sound_records, sound_positions, sound_processes}
+use Rattle.verdict.specs.Verdict.{verdict_of}
 use Rattle.verdict.specs.declared.Verdict.{Verdict}
 
-unfoldable pub verdictOnAllTables : (records positions processes : List ℤ) → Verdict
-verdictOnAllTables records positions processes =
-    verdictOf
-    (firstRefusal (test 1 (not (soundRecords records)) ∷ test 2 (not (soundPositions positions)) ∷ test 19 (not (soundProcesses processes)) ∷ []))
+unfoldable pub verdict_on_all_tables : (records positions processes : List ℤ) → Verdict
+verdict_on_all_tables records positions processes =
+    verdict_of
+    (first_refusal (test 1 (not (sound_records records)) ∷ test 2 (not (sound_positions positions)) ∷ test 19 (not (sound_processes processes)) ∷ []))

@@ -1,6 +1,6 @@
 // The steps of a give-up (document 02, K3), apart from the tables' code: what every step names, with its test 3; and the laws of a step's tests and of what it leaves.
 ghost use Rattle.std.specs.Prelude.{◌≡◌};
-ghost use Rattle.give_up_steps.specs.Terms.{termsValid};
+ghost use Rattle.give_up_steps.specs.Terms.{terms_valid};
 
 // What every step names: process, transaction, both accounts and series.
 #[derive(Drop)]
@@ -15,7 +15,7 @@ pub struct Terms {
 
 // 3: every figure in its range, and two different accounts.
 pub fn figures_valid(g: Terms) -> bool
-    ensures { result ≡ termsValid g }
+    ensures { result ≡ terms_valid g }
 {
     if !figures::valid_id(g.process) {
         return false;

@@ -3,14 +3,14 @@ use Rattle.std.specs.Prelude.{Bool, true, false}
 use Rattle.rules.specs.declared.Reply.{Reply}
 use Rattle.rules.specs.declared.Reply.TheVariants.{Booked, ClosingError, Lineage, Refused, Stopped, Written, Replayed, BadLine, LineRefused, Listed}
 
-unfoldable pub isRefusal : Reply → Bool
-isRefusal (Booked rows residual) = false
-isRefusal (ClosingError excess) = false
-isRefusal (Lineage price links) = false
-isRefusal (Refused number place) = true
-isRefusal (Stopped booked number place) = false
-isRefusal (Written bytes) = false
-isRefusal (Replayed lines) = false
-isRefusal (BadLine line) = false
-isRefusal (LineRefused line number place) = false
-isRefusal (Listed records) = false
+unfoldable pub is_refusal : Reply → Bool
+is_refusal (Booked rows residual) = false
+is_refusal (ClosingError excess) = false
+is_refusal (Lineage price links) = false
+is_refusal (Refused number place) = true
+is_refusal (Stopped booked number place) = false
+is_refusal (Written bytes) = false
+is_refusal (Replayed lines) = false
+is_refusal (BadLine line) = false
+is_refusal (LineRefused line number place) = false
+is_refusal (Listed records) = false

@@ -1,16 +1,16 @@
 -- A history of three days, of every kind of request, of batches, of replays and of reporting lists, with four refused requests, a batch that stops, a replay up to a refused line and one up to a bad
 -- line, another order of its accepted ones, in which each day keeps its requests, and a touching pair that may not be exchanged.
 use Rattle.std.specs.Prelude.{ℕ, List, [], ◌∷◌, ◌++◌, ℤ, pos, neg_ℤ, replicate}
-use Rattle.rules.specs.Request.{Request, trade, separate, transfer, merge, lineage, giveUp, newDay}
+use Rattle.rules.specs.Request.{Request, trade, separate, transfer, merge, lineage, give_up, new_day}
 use Rattle.rules.specs.Line.{line_of}
 use Rattle.rules.specs.Call.{Call, one, trades, replay, reportable}
-use Rattle.rules.specs.Tables.{Tables, allTables}
+use Rattle.rules.specs.Tables.{Tables, all_tables}
 use Rattle.rules.specs.declared.Step.{Step}
 use Rattle.rules.specs.declared.Step.TheVariants.{Open, Claim, Cancel, ApproveGiver, ApproveTaker}
 use Rattle.rules.specs.declared.Reply.{Reply}
 use Rattle.rules.specs.declared.Reply.TheVariants.{Booked, Lineage, Listed}
-use Rattle.history.specs.History.{Entry, entriesTouch}
-use Rattle.history.specs.ByPlaces.{inOrder}
+use Rattle.history.specs.History.{Entry, entries_touch}
+use Rattle.history.specs.ByPlaces.{in_order}
 
 -- Tables with no row; cells that hold no row hold -1.
 abbrev pub blank : ℕ → List ℤ
@@ -18,11 +18,11 @@ blank cells = pos 0 ∷ replicate cells (neg_ℤ (pos 1))
 
 -- Records begin at day 0.
 abbrev pub start : Tables
-start = allTables (pos 0 ∷ blank 312) (blank 65) (blank 20)
+start = all_tables (pos 0 ∷ blank 312) (blank 65) (blank 20)
 
 -- Tables with as much room and other cells.
-abbrev pub otherCells : Tables
-otherCells = allTables (pos 0 ∷ pos 0 ∷ replicate 316 (pos 8)) (pos 0 ∷ replicate 63 (pos 8)) (pos 0 ∷ replicate 26 (pos 8))
+abbrev pub other_cells : Tables
+other_cells = all_tables (pos 0 ∷ pos 0 ∷ replicate 316 (pos 8)) (pos 0 ∷ replicate 63 (pos 8)) (pos 0 ∷ replicate 26 (pos 8))
 
 -- Trades 1 and 2, the first separated; trade 3, transferred; the parts of 1 merged into 5.
 abbrev pub trade1 : Request
@@ -70,22 +70,22 @@ abbrev pub trade22 : Request
 trade22 = trade (pos 22) (pos 51) (pos 6) (pos 2) (pos 9) (pos 3)
 
 abbrev pub day1 : Request
-day1 = newDay (pos 1)
+day1 = new_day (pos 1)
 
 -- Five lines: day 1, trade 21 and its separation, then trade 21 again, where it stops, and trade 22, which is not tried.
-abbrev pub upToRefused : Call
-upToRefused = replay (line_of day1 ++ (line_of trade21 ++ (line_of separate21 ++ (line_of trade21 ++ line_of trade22))))
+abbrev pub up_to_refused : Call
+up_to_refused = replay (line_of day1 ++ (line_of trade21 ++ (line_of separate21 ++ (line_of trade21 ++ line_of trade22))))
 
 -- Three lines: trade 22, then an empty line, where it stops, and trade 23, which is not read.
-abbrev pub upToBad : Call
-upToBad = replay (line_of trade22 ++ (10 ∷ line_of (trade (pos 23) (pos 51) (pos 6) (pos 2) (pos 9) (pos 3))))
+abbrev pub up_to_bad : Call
+up_to_bad = replay (line_of trade22 ++ (10 ∷ line_of (trade (pos 23) (pos 51) (pos 6) (pos 2) (pos 9) (pos 3))))
 
 -- Process 90 gives trade 2 up from account 20 to account 21.
-abbrev pub giveUp2 : Step → Request
-giveUp2 step = giveUp step (pos 90) (pos 2) (pos 0) (pos 20) (pos 21) (pos 5)
+abbrev pub give_up2 : Step → Request
+give_up2 step = give_up step (pos 90) (pos 2) (pos 0) (pos 20) (pos 21) (pos 5)
 
 abbrev pub day4 : Request
-day4 = newDay (pos 4)
+day4 = new_day (pos 4)
 
 -- The list, with twenty cells lent for it.
 abbrev pub list : Call
@@ -95,34 +95,34 @@ list = reportable 20
 -- last; the replay begins the second.
 abbrev pub history : List Call
 history =
-    one trade1 ∷ one trade1 ∷ one trade2 ∷ one separate1 ∷ one (giveUp2 Open) ∷ batch ∷ one lineage2 ∷ one (lineage (pos 9) (pos 0)) ∷ one (giveUp2 ApproveTaker) ∷ one trade3
-    ∷ one (giveUp2 Claim) ∷ stopping ∷ list ∷ upToRefused ∷ one day1 ∷ one (giveUp2 ApproveGiver) ∷ one transfer3 ∷ one merge1 ∷ one day4 ∷ upToBad ∷ one (giveUp2 ApproveTaker) ∷ list ∷ []
+    one trade1 ∷ one trade1 ∷ one trade2 ∷ one separate1 ∷ one (give_up2 Open) ∷ batch ∷ one lineage2 ∷ one (lineage (pos 9) (pos 0)) ∷ one (give_up2 ApproveTaker) ∷ one trade3
+    ∷ one (give_up2 Claim) ∷ stopping ∷ list ∷ up_to_refused ∷ one day1 ∷ one (give_up2 ApproveGiver) ∷ one transfer3 ∷ one merge1 ∷ one day4 ∷ up_to_bad ∷ one (give_up2 ApproveTaker) ∷ list ∷ []
 
 abbrev pub entry : Request → Reply → Entry
 entry request reply = record { call = one request; reply = reply; output = [] }
 
 -- The first day's records of status 0 and 3; of the last day the inverse of trade 2, whose parent is of the first day, and two of status 0.
-abbrev pub firstList : List ℤ
-firstList = pos 1 ∷ pos 2 ∷ pos 1 ∷ pos 3 ∷ pos 2 ∷ pos 0 ∷ pos 3 ∷ pos 0 ∷ pos 11 ∷ pos 0 ∷ pos 12 ∷ pos 0 ∷ pos 13 ∷ pos 0 ∷ []
+abbrev pub first_list : List ℤ
+first_list = pos 1 ∷ pos 2 ∷ pos 1 ∷ pos 3 ∷ pos 2 ∷ pos 0 ∷ pos 3 ∷ pos 0 ∷ pos 11 ∷ pos 0 ∷ pos 12 ∷ pos 0 ∷ pos 13 ∷ pos 0 ∷ []
 
-abbrev pub lastList : List ℤ
-lastList = pos 2 ∷ pos 1 ∷ pos 2 ∷ pos 2 ∷ pos 22 ∷ pos 0 ∷ []
+abbrev pub last_list : List ℤ
+last_list = pos 2 ∷ pos 1 ∷ pos 2 ∷ pos 2 ∷ pos 22 ∷ pos 0 ∷ []
 
 -- The batch that stopped stands as the trade that it booked, each replay as the requests that it booked.
 abbrev pub accepted : List Entry
 accepted =
     entry trade1 (Booked (pos 1) (pos 0)) ∷ entry trade2 (Booked (pos 1) (pos 0)) ∷ entry separate1 (Booked (pos 3) (pos 0))
-    ∷ entry (giveUp2 Open) (Booked (pos 0) (pos 0))
+    ∷ entry (give_up2 Open) (Booked (pos 0) (pos 0))
     ∷ record { call = batch; reply = Booked (pos 2) (pos 0); output = pos 0 ∷ pos 5 ∷ [] }
     ∷ entry lineage2 (Lineage (pos 9) (pos 0)) ∷ entry trade3 (Booked (pos 1) (pos 0))
-    ∷ entry (giveUp2 Claim) (Booked (pos 0) (pos 0)) ∷ entry trade13 (Booked (pos 1) (pos 0))
-    ∷ record { call = list; reply = Listed (pos 7); output = firstList }
+    ∷ entry (give_up2 Claim) (Booked (pos 0) (pos 0)) ∷ entry trade13 (Booked (pos 1) (pos 0))
+    ∷ record { call = list; reply = Listed (pos 7); output = first_list }
     ∷ entry day1 (Booked (pos 0) (pos 0))
-    ∷ entry trade21 (Booked (pos 1) (pos 0)) ∷ entry separate21 (Booked (pos 3) (pos 0)) ∷ entry (giveUp2 ApproveGiver) (Booked (pos 0) (pos 0))
+    ∷ entry trade21 (Booked (pos 1) (pos 0)) ∷ entry separate21 (Booked (pos 3) (pos 0)) ∷ entry (give_up2 ApproveGiver) (Booked (pos 0) (pos 0))
     ∷ entry transfer3 (Booked (pos 2) (pos 0)) ∷ entry merge1 (Booked (pos 3) (pos 0))
     ∷ entry day4 (Booked (pos 0) (pos 0))
-    ∷ entry trade22 (Booked (pos 1) (pos 0)) ∷ entry (giveUp2 ApproveTaker) (Booked (pos 2) (pos 0))
-    ∷ record { call = list; reply = Listed (pos 3); output = lastList }
+    ∷ entry trade22 (Booked (pos 1) (pos 0)) ∷ entry (give_up2 ApproveTaker) (Booked (pos 2) (pos 0))
+    ∷ record { call = list; reply = Listed (pos 3); output = last_list }
     ∷ []
 
 -- Trade 3, the batch, trade 2, the opening, trade 1, the lineage, the claim, trade 13, the separation of 1, the list; day 1, the transfer, trade 21, the giver's approval, the merge, the separation of 21;
@@ -135,7 +135,7 @@ abbrev pub past : Entry
 past = entry trade1 (Booked (pos 1) (pos 0))
 
 abbrev pub another : List Entry
-another = inOrder entriesTouch past accepted places
+another = in_order entries_touch past accepted places
 
 -- Both orders end in these rows, after which come the cells that were there.
 abbrev pub row : (id suffix parent kind status account series side quantity price long short into day : ℤ) → List ℤ
@@ -145,8 +145,8 @@ row id suffix parent kind status account series side quantity price long short i
 abbrev pub position : (account series long short cash quantity value : ℤ) → List ℤ
 position account series long short cash quantity value = account ∷ series ∷ long ∷ short ∷ cash ∷ quantity ∷ value ∷ []
 
-abbrev pub rowsThen : (pastRecords pastPositions pastProcesses : List ℤ) → Tables
-rowsThen pastRecords pastPositions pastProcesses = record {
+abbrev pub rows_then : (past_records past_positions past_processes : List ℤ) → Tables
+rows_then past_records past_positions past_processes = record {
   records =
       pos 21
       ∷ pos 4
@@ -171,7 +171,7 @@ rowsThen pastRecords pastPositions pastProcesses = record {
       ++ row (pos 21) (pos 2) (pos 0) (pos 6) (pos 0) (pos 50) (pos 6) (pos 1) (pos 12) (pos 4) (pos 0) (pos 0) (pos 0) (pos 1)
       ++ row (pos 21) (pos 3) (pos 0) (pos 6) (pos 0) (pos 50) (pos 6) (pos 1) (pos 18) (pos 4) (pos 0) (pos 0) (pos 0) (pos 1)
       ++ row (pos 22) (pos 0) (pos 0) (pos 0) (pos 0) (pos 51) (pos 6) (pos 2) (pos 9) (pos 3) (pos 0) (pos 9) (pos 0) (pos 4)
-      ++ pastRecords;
+      ++ past_records;
   positions =
       pos 9
       ∷ position (pos 10) (pos 5) (pos 100) (pos 0) (pos 0) (pos 100) (pos 700)
@@ -183,22 +183,22 @@ rowsThen pastRecords pastPositions pastProcesses = record {
       ++ position (pos 42) (pos 6) (pos 0) (pos 8) (pos 0) (neg_ℤ (pos 8)) (neg_ℤ (pos 16))
       ++ position (pos 50) (pos 6) (pos 30) (pos 0) (pos 0) (pos 30) (pos 120)
       ++ position (pos 51) (pos 6) (pos 0) (pos 9) (pos 0) (neg_ℤ (pos 9)) (neg_ℤ (pos 27))
-      ++ pastPositions;
-  processes = pos 1 ∷ pos 90 ∷ pos 2 ∷ pos 0 ∷ pos 20 ∷ pos 21 ∷ pos 5 ∷ pos 1 ∷ pos 1 ∷ pos 0 ∷ pastProcesses;
+      ++ past_positions;
+  processes = pos 1 ∷ pos 90 ∷ pos 2 ∷ pos 0 ∷ pos 20 ∷ pos 21 ∷ pos 5 ∷ pos 1 ∷ pos 1 ∷ pos 0 ∷ past_processes;
 }
 
 abbrev pub finish : Tables
-finish = rowsThen (replicate 18 (neg_ℤ (pos 1))) (replicate 2 (neg_ℤ (pos 1))) (replicate 11 (neg_ℤ (pos 1)))
+finish = rows_then (replicate 18 (neg_ℤ (pos 1))) (replicate 2 (neg_ℤ (pos 1))) (replicate 11 (neg_ℤ (pos 1)))
 
-abbrev pub finishElsewhere : Tables
-finishElsewhere = rowsThen (replicate 22 (pos 8)) [] (replicate 17 (pos 8))
+abbrev pub finish_elsewhere : Tables
+finish_elsewhere = rows_then (replicate 22 (pos 8)) [] (replicate 17 (pos 8))
 
 -- A give-up of trade 2 that is claimed, and one that is cancelled.
-abbrev pub underWay : List Call
-underWay = one trade2 ∷ one (giveUp2 Open) ∷ one (giveUp2 Claim) ∷ []
+abbrev pub under_way : List Call
+under_way = one trade2 ∷ one (give_up2 Open) ∷ one (give_up2 Claim) ∷ []
 
 abbrev pub ended : List Call
-ended = one trade2 ∷ one (giveUp2 Open) ∷ one (giveUp2 Cancel) ∷ []
+ended = one trade2 ∷ one (give_up2 Open) ∷ one (give_up2 Cancel) ∷ []
 
 -- A buy to open, and a sell to close that closes part of it.
 abbrev pub buy : Request

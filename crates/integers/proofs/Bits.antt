@@ -8,15 +8,15 @@ use lib.IntN.{ℤ}
 use mir.Facts.{to_z-of_z}
 use mir.Syntax.{w64}
 use mir.Val.{SFits, to_z, of_z}
-use Rattle.integers.specs.Order.{eqZ}
-use Rattle.integers.proofs.Parts.{split, eqZ-true, eqZ-false}
+use Rattle.integers.specs.Order.{eq_z}
+use Rattle.integers.proofs.Parts.{split, eq_z-true, eq_z-false}
 
-pub ofZ-inj : {a b : ℤ} → SFits w64 a → SFits w64 b → of_z w64 a ≡ of_z w64 b → a ≡ b
-ofZ-inj f g e = sym (to_z-of_z f) ∙ ap (to_z w64) e ∙ to_z-of_z g
+pub of_z-inj : {a b : ℤ} → SFits w64 a → SFits w64 b → of_z w64 a ≡ of_z w64 b → a ≡ b
+of_z-inj f g e = sym (to_z-of_z f) ∙ ap (to_z w64) e ∙ to_z-of_z g
 
-pub eqb-ofZ : {a b : ℤ} → SFits w64 a → SFits w64 b → eqb (of_z w64 a) (of_z w64 b) ≡ eqZ a b
-eqb-ofZ {a} {b} f g = go (split (eqZ a b))
+pub eqb-of_z : {a b : ℤ} → SFits w64 a → SFits w64 b → eqb (of_z w64 a) (of_z w64 b) ≡ eq_z a b
+eqb-of_z {a} {b} f g = go (split (eq_z a b))
   where
-    go : (eqZ a b ≡ true) ⊎ (eqZ a b ≡ false) → eqb (of_z w64 a) (of_z w64 b) ≡ eqZ a b
-    go (inl e) = eq-eqb (of_z w64 a) (of_z w64 b) (ap (of_z w64) (eqZ-true a b e)) ∙ sym e
-    go (inr e) = ne_eqb (of_z w64 a) (of_z w64 b) (λ h. eqZ-false a b e (ofZ-inj f g h)) ∙ sym e
+    go : (eq_z a b ≡ true) ⊎ (eq_z a b ≡ false) → eqb (of_z w64 a) (of_z w64 b) ≡ eq_z a b
+    go (inl e) = eq-eqb (of_z w64 a) (of_z w64 b) (ap (of_z w64) (eq_z-true a b e)) ∙ sym e
+    go (inr e) = ne_eqb (of_z w64 a) (of_z w64 b) (λ h. eq_z-false a b e (of_z-inj f g h)) ∙ sym e

@@ -9,74 +9,74 @@ use lib.IntN.{ℤ, pos, negsuc, ◌+ℤ◌, ◌-ℤ◌, ◌*ℤ◌, neg_ℤ, nat
 use lib.Signed.{lt_z, le_z, non_neg, ◌≤ℤ◌}
 use mir.Syntax.{w64}
 use mir.Val.{SFits}
-use Rattle.integers.proofs.Parts.{posPart, negPart, le_parts, parts-le, lt-parts, parts-lt, eq-parts, parts-eq}
-use Rattle.integers.proofs.Parts.{leZ-T, leZ-not, T-leZ, not_le_z, leZ-true, leZ-false, true-leZ, false-leZ}
-use Rattle.integers.proofs.Parts.{ltZ-T, ltZ-not, T-ltZ, not_lt_z, ltZ-true, ltZ-false, true-ltZ, false-ltZ}
-use Rattle.integers.proofs.Parts.{eqZ-true-parts, eqZ-false-parts, parts-true-eqZ, parts-false-eqZ}
+use Rattle.integers.proofs.Parts.{pos_part, neg_part, le_parts, parts-le, lt-parts, parts-lt, eq-parts, parts-eq}
+use Rattle.integers.proofs.Parts.{le_z-T, le_z-not, T-le_z, not_le_z, le_z-true, le_z-false, true-le_z, false-le_z}
+use Rattle.integers.proofs.Parts.{lt_z-T, lt_z-not, T-lt_z, not_lt_z, lt_z-true, lt_z-false, true-lt_z, false-lt_z}
+use Rattle.integers.proofs.Parts.{eq_z-true-parts, eq_z-false-parts, parts-true-eq_z, parts-false-eq_z}
 
 -- ---- operations
 
 -- the difference of two naturals
-pub sub-lin : (a b : ℕ) → posPart (sub_ℕ a b) + b ≡ a + negPart (sub_ℕ a b)
+pub sub-lin : (a b : ℕ) → pos_part (sub_ℕ a b) + b ≡ a + neg_part (sub_ℕ a b)
 sub-lin a b = go (ltb a b) (ltb→lt a b) (nltb→le a b)
   where
     go : (t : Bool) → (T t → a < b) → (T (not t) → b ≤ a)
-        → posPart (cond t (negsuc (b - suc a)) (pos (a - b))) + b ≡ a + negPart (cond t (negsuc (b - suc a)) (pos (a - b)))
+        → pos_part (cond t (negsuc (b - suc a)) (pos (a - b))) + b ≡ a + neg_part (cond t (negsuc (b - suc a)) (pos (a - b)))
     go true f g = omega (arith, f tt)
     go false f g = omega (arith, g tt)
 
-pub neg-lin : (a : ℤ) → (posPart (neg_ℤ a) ≡ negPart a) × (negPart (neg_ℤ a) ≡ posPart a)
+pub neg-lin : (a : ℤ) → (pos_part (neg_ℤ a) ≡ neg_part a) × (neg_part (neg_ℤ a) ≡ pos_part a)
 neg-lin (pos zero) = (refl, refl)
 neg-lin (pos (suc a)) = (refl, refl)
 neg-lin (negsuc a) = (refl, refl)
 
-pub +-lin : (a b : ℤ) → posPart (a +ℤ b) + (negPart a + negPart b) ≡ posPart a + posPart b + negPart (a +ℤ b)
+pub +-lin : (a b : ℤ) → pos_part (a +ℤ b) + (neg_part a + neg_part b) ≡ pos_part a + pos_part b + neg_part (a +ℤ b)
 +-lin (pos a) (pos b) = omega arith
 +-lin (pos a) (negsuc b) = omega (arith, sub-lin a (suc b))
 +-lin (negsuc a) (pos b) = omega (arith, sub-lin b (suc a))
 +-lin (negsuc a) (negsuc b) = omega arith
 
-pub minus-lin : (a b : ℤ) → posPart (a -ℤ b) + (negPart a + posPart b) ≡ posPart a + negPart b + negPart (a -ℤ b)
+pub minus-lin : (a b : ℤ) → pos_part (a -ℤ b) + (neg_part a + pos_part b) ≡ pos_part a + neg_part b + neg_part (a -ℤ b)
 minus-lin a b = omega (arith, +-lin a (neg_ℤ b), neg-lin b)
 
 -- of a product by parts: what it is linear in are the products of parts
-pub *-lin : (a b : ℤ) → posPart (a *ℤ b) + (posPart a * negPart b + negPart a * posPart b) ≡ posPart a * posPart b + negPart a * negPart b + negPart (a *ℤ b)
+pub *-lin : (a b : ℤ) → pos_part (a *ℤ b) + (pos_part a * neg_part b + neg_part a * pos_part b) ≡ pos_part a * pos_part b + neg_part a * neg_part b + neg_part (a *ℤ b)
 *-lin (pos a) (pos b) = omega arith
 *-lin (pos a) (negsuc b) = omega (arith, neg-lin (pos (a * suc b)))
 *-lin (negsuc a) (pos b) = omega (arith, neg-lin (pos (suc a * b)))
 *-lin (negsuc a) (negsuc b) = omega arith
 
-pub abs-sum : (a : ℤ) → nat_abs a ≡ posPart a + negPart a
+pub abs-sum : (a : ℤ) → nat_abs a ≡ pos_part a + neg_part a
 abs-sum (pos a) = omega arith
 abs-sum (negsuc a) = omega arith
 
 -- the magnitude is the sum of the parts, of which one is 0
-pub abs-lin : (a : ℤ) → (nat_abs a ≡ posPart a + negPart a) × (min (posPart a) (negPart a) ≡ 0)
+pub abs-lin : (a : ℤ) → (nat_abs a ≡ pos_part a + neg_part a) × (min (pos_part a) (neg_part a) ≡ 0)
 abs-lin (pos a) = omega arith
 abs-lin (negsuc a) = omega arith
 
 -- ---- signs and ranges
 
-pub nonNeg-T : (z : ℤ) → T (non_neg z) → negPart z ≡ 0
-nonNeg-T (pos a) t = refl
-nonNeg-T (negsuc a) t = absurd t
+pub non_neg-T : (z : ℤ) → T (non_neg z) → neg_part z ≡ 0
+non_neg-T (pos a) t = refl
+non_neg-T (negsuc a) t = absurd t
 
-pub T-nonNeg : (z : ℤ) → negPart z ≤ posPart z → T (non_neg z)
-T-nonNeg (pos a) h = tt
-T-nonNeg (negsuc a) h = absurd (omega arith)
+pub T-non_neg : (z : ℤ) → neg_part z ≤ pos_part z → T (non_neg z)
+T-non_neg (pos a) h = tt
+T-non_neg (negsuc a) h = absurd (omega arith)
 
--- posPart z < 2 ^ 63 and negPart z ≤ 2 ^ 63 in one line, as a rule of `omega` says one thing
-pub sfits-parts : {z : ℤ} → SFits w64 z → 2 ^ 63 * posPart z + (2 ^ 63 - 1) * negPart z ≤ 2 ^ 63 * (2 ^ 63 - 1)
+-- pos_part z < 2 ^ 63 and neg_part z ≤ 2 ^ 63 in one line, as a rule of `omega` says one thing
+pub sfits-parts : {z : ℤ} → SFits w64 z → 2 ^ 63 * pos_part z + (2 ^ 63 - 1) * neg_part z ≤ 2 ^ 63 * (2 ^ 63 - 1)
 sfits-parts {z = pos a} h = let k : a < 2 ^ 63 = h.sfits in omega arith
 sfits-parts {z = negsuc a} h = let k : a < 2 ^ 63 = h.sfits in omega arith
 
-pub parts-sfits : {z : ℤ} → max (suc (posPart z) - negPart z) (negPart z - posPart z) ≤ 2 ^ 63 → SFits w64 z
+pub parts-sfits : {z : ℤ} → max (suc (pos_part z) - neg_part z) (neg_part z - pos_part z) ≤ 2 ^ 63 → SFits w64 z
 parts-sfits {z = pos a} h = record { sfits = omega arith }
 parts-sfits {z = negsuc a} h = record { sfits = omega arith }
 
 -- ---- the rules
 
-pub ruleset zarith = (arith, le_parts, parts-le, lt-parts, parts-lt, eq-parts, parts-eq, leZ-T, leZ-not, T-leZ, not_le_z, leZ-true, leZ-false, true-leZ, false-leZ, ltZ-T, ltZ-not, T-ltZ, not_lt_z, ltZ-true, ltZ-false, true-ltZ, false-ltZ, eqZ-true-parts, eqZ-false-parts, parts-true-eqZ, parts-false-eqZ, nonNeg-T, T-nonNeg, sfits-parts, parts-sfits)
+pub ruleset zarith = (arith, le_parts, parts-le, lt-parts, parts-lt, eq-parts, parts-eq, le_z-T, le_z-not, T-le_z, not_le_z, le_z-true, le_z-false, true-le_z, false-le_z, lt_z-T, lt_z-not, T-lt_z, not_lt_z, lt_z-true, lt_z-false, true-lt_z, false-lt_z, eq_z-true-parts, eq_z-false-parts, parts-true-eq_z, parts-false-eq_z, non_neg-T, T-non_neg, sfits-parts, parts-sfits)
 
 -- a difference of two, with a fact of each kind
 example : (a b c : ℤ) → lt_z a b ≡ false → a ≤ℤ c → nat_abs (c -ℤ b) ≤ 5 → le_z (a -ℤ b) (pos 5) ≡ true

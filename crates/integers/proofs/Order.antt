@@ -11,29 +11,29 @@ use Rattle.integers.proofs.Linear.{zarith}
 
 -- ---- tests
 
-pub le-leZ : {a b : ℤ} → a ≤ℤ b → le_z a b ≡ true
-le-leZ h = omega zarith
+pub le-le_z : {a b : ℤ} → a ≤ℤ b → le_z a b ≡ true
+le-le_z h = omega zarith
 
-pub lt-leZ : {a b : ℤ} → b <ℤ a → le_z a b ≡ false
-lt-leZ h = omega zarith
+pub lt-le_z : {a b : ℤ} → b <ℤ a → le_z a b ≡ false
+lt-le_z h = omega zarith
 
-pub lt-ltZ : {a b : ℤ} → a <ℤ b → lt_z a b ≡ true
-lt-ltZ h = omega zarith
+pub lt-lt_z : {a b : ℤ} → a <ℤ b → lt_z a b ≡ true
+lt-lt_z h = omega zarith
 
-pub le-ltZ : {a b : ℤ} → b ≤ℤ a → lt_z a b ≡ false
-le-ltZ h = omega zarith
+pub le-lt_z : {a b : ℤ} → b ≤ℤ a → lt_z a b ≡ false
+le-lt_z h = omega zarith
 
-pub leZ-le : (a b : ℤ) → le_z a b ≡ true → a ≤ℤ b
-leZ-le a b e = omega zarith
+pub le_z-le : (a b : ℤ) → le_z a b ≡ true → a ≤ℤ b
+le_z-le a b e = omega zarith
 
-pub leZ-lt : (a b : ℤ) → le_z a b ≡ false → b <ℤ a
-leZ-lt a b e = omega zarith
+pub le_z-lt : (a b : ℤ) → le_z a b ≡ false → b <ℤ a
+le_z-lt a b e = omega zarith
 
-pub ltZ-lt : (a b : ℤ) → lt_z a b ≡ true → a <ℤ b
-ltZ-lt a b e = omega zarith
+pub lt_z-lt : (a b : ℤ) → lt_z a b ≡ true → a <ℤ b
+lt_z-lt a b e = omega zarith
 
-pub ltZ-le : (a b : ℤ) → lt_z a b ≡ false → b ≤ℤ a
-ltZ-le a b e = omega zarith
+pub lt_z-le : (a b : ℤ) → lt_z a b ≡ false → b ≤ℤ a
+lt_z-le a b e = omega zarith
 
 -- ---- order
 
@@ -54,8 +54,8 @@ pub ≤ℤ-or-> : (a b : ℤ) → (a ≤ℤ b) ⊎ (b <ℤ a)
 ≤ℤ-or-> a b = go (split (le_z a b))
   where
     go : (le_z a b ≡ true) ⊎ (le_z a b ≡ false) → (a ≤ℤ b) ⊎ (b <ℤ a)
-    go (inl e) = inl (leZ-le a b e)
-    go (inr e) = inr (leZ-lt a b e)
+    go (inl e) = inl (le_z-le a b e)
+    go (inr e) = inr (le_z-lt a b e)
 
 -- ---- ranges
 
@@ -73,27 +73,27 @@ pub in_range-true : (low high z : ℤ) → in_range low high z ≡ true → (low
 unfolding in_range
 in_range-true low high z e =
     let t : (le_z low z ≡ true) × (le_z z high ≡ true) = both (le_z low z) (le_z z high) e in
-    (leZ-le low z t.0, leZ-le z high t.1)
+    (le_z-le low z t.0, le_z-le z high t.1)
 
-pub true-inRange : {low high z : ℤ} → low ≤ℤ z → z ≤ℤ high → in_range low high z ≡ true
+pub true-in_range : {low high z : ℤ} → low ≤ℤ z → z ≤ℤ high → in_range low high z ≡ true
 unfolding in_range
-true-inRange {low} {high} {z} h k = rw (le-leZ h, le-leZ k)
+true-in_range {low} {high} {z} h k = rw (le-le_z h, le-le_z k)
 
 pub in_range-false : (low high z : ℤ) → in_range low high z ≡ false → (z <ℤ low) ⊎ (high <ℤ z)
 unfolding in_range
 in_range-false low high z e = go (either (le_z low z) (le_z z high) e)
   where
     go : (le_z low z ≡ false) ⊎ (le_z z high ≡ false) → (z <ℤ low) ⊎ (high <ℤ z)
-    go (inl f) = inl (leZ-lt low z f)
-    go (inr f) = inr (leZ-lt z high f)
+    go (inl f) = inl (le_z-lt low z f)
+    go (inr f) = inr (le_z-lt z high f)
 
-pub below-inRange : {low z : ℤ} (high : ℤ) → z <ℤ low → in_range low high z ≡ false
+pub below-in_range : {low z : ℤ} (high : ℤ) → z <ℤ low → in_range low high z ≡ false
 unfolding in_range
-below-inRange high h = rw (lt-leZ h)
+below-in_range high h = rw (lt-le_z h)
 
-pub above-inRange : {high z : ℤ} (low : ℤ) → high <ℤ z → in_range low high z ≡ false
+pub above-in_range : {high z : ℤ} (low : ℤ) → high <ℤ z → in_range low high z ≡ false
 unfolding in_range
-above-inRange {high} {z} low h = go (le_z low z) (le_z z high) (lt-leZ h)
+above-in_range {high} {z} low h = go (le_z low z) (le_z z high) (lt-le_z h)
   where
     go : (s t : Bool) → t ≡ false → (s && t) ≡ false
     go true t e = e

@@ -6,7 +6,7 @@ use mathlib.Core.Logic.{◌↔◌}
 use Prim.Native.Nat.{ℕ, suc, ◌+◌, ◌*◌}
 use native.Mathlib.Omega.{arith}
 use lib.IntN.{ℤ, pos, negsuc, ◌+ℤ◌, ◌-ℤ◌, ◌*ℤ◌, neg_ℤ, sub_ℕ}
-use Rattle.integers.proofs.Parts.{posPart, negPart, parts-eq, eq-parts}
+use Rattle.integers.proofs.Parts.{pos_part, neg_part, parts-eq, eq-parts}
 use Rattle.integers.proofs.Linear.{sub-lin, neg-lin, +-lin, *-lin}
 
 -- The integer a - b of two naturals.
@@ -14,15 +14,15 @@ infixl 6 ◌⊖◌
 pub ◌⊖◌ : ℕ → ℕ → ℤ
 a ⊖ b = sub_ℕ a b
 
-pub ⊖-lin : (a b : ℕ) → posPart (a ⊖ b) + b ≡ a + negPart (a ⊖ b)
+pub ⊖-lin : (a b : ℕ) → pos_part (a ⊖ b) + b ≡ a + neg_part (a ⊖ b)
 unfolding ◌⊖◌
 ⊖-lin a b = sub-lin a b
 
 pub ⊖-eq : (a b c d : ℕ) → (a ⊖ b ≡ c ⊖ d) ↔ (a + d ≡ c + b)
 ⊖-eq a b c d = ((λ e. omega (arith, eq-parts e, ⊖-lin a b, ⊖-lin c d)), (λ e. parts-eq (omega (arith, ⊖-lin a b, ⊖-lin c d))))
 
-pub diff : (a : ℤ) → a ≡ posPart a ⊖ negPart a
-diff a = parts-eq (omega (arith, ⊖-lin (posPart a) (negPart a)))
+pub diff : (a : ℤ) → a ≡ pos_part a ⊖ neg_part a
+diff a = parts-eq (omega (arith, ⊖-lin (pos_part a) (neg_part a)))
 
 pub pos-⊖ : (a : ℕ) → pos a ≡ a ⊖ 0
 pos-⊖ a = diff (pos a)
@@ -43,7 +43,7 @@ product P N R S a b c d e f =
 pub ⊖-* : (a b c d : ℕ) → (a ⊖ b) *ℤ (c ⊖ d) ≡ (a * c + b * d) ⊖ (a * d + b * c)
 ⊖-* a b c d =
     parts-eq
-    (omega (arith, *-lin (a ⊖ b) (c ⊖ d), ⊖-lin (a * c + b * d) (a * d + b * c), product (posPart (a ⊖ b)) (negPart (a ⊖ b)) (posPart (c ⊖ d)) (negPart (c ⊖ d)) a b c d (⊖-lin a b) (⊖-lin c d)))
+    (omega (arith, *-lin (a ⊖ b) (c ⊖ d), ⊖-lin (a * c + b * d) (a * d + b * c), product (pos_part (a ⊖ b)) (neg_part (a ⊖ b)) (pos_part (c ⊖ d)) (neg_part (c ⊖ d)) a b c d (⊖-lin a b) (⊖-lin c d)))
 
 pub ruleset zdiff = (⊖-+, ⊖-neg, ⊖-*, ⊖-eq, pos-⊖, negsuc-⊖)
 

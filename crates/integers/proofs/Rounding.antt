@@ -7,8 +7,8 @@ use lib.IntN.{ℤ, pos, negsuc, ◌+ℤ◌, ◌-ℤ◌, ◌*ℤ◌, neg_ℤ, nat
 use lib.Signed.{quot_z, rem_z, ◌≤ℤ◌, ◌<ℤ◌}
 use mir.Syntax.{w64}
 use mir.Val.{SFits, of_z}
-use Rattle.integers.specs.Rounded.{halfUp, rounded}
-use Rattle.integers.specs.Average.{averageOf, residualOf}
+use Rattle.integers.specs.Rounded.{half_up, rounded}
+use Rattle.integers.specs.Average.{average_of, residual_of}
 use Rattle.integers.specs.Averageable.{Averageable}
 use Rattle.integers.proofs.Linear.{zarith, neg-lin, +-lin, minus-lin, abs-sum, abs-lin}
 use Rattle.integers.proofs.Products.{mul-sfits, sfits-of-bound}
@@ -19,8 +19,8 @@ use Rattle.integers.proofs.AverageLaws.{average-bound, residual-buy, residual-se
 -- ---- the three ways: division is toward zero, so the remainder has the value's sign
 
 -- a half or more is left above
-pub rounds-up : (v q : ℤ) → pos 1 ≤ℤ q → q ≤ℤ (rem_z v q +ℤ rem_z v q) → quot_z v q +ℤ pos 1 ≡ averageOf v q
-unfolding averageOf rounded
+pub rounds-up : (v q : ℤ) → pos 1 ≤ℤ q → q ≤ℤ (rem_z v q +ℤ rem_z v q) → quot_z v q +ℤ pos 1 ≡ average_of v q
+unfolding average_of rounded
 rounds-up (pos a) (pos m) h t = ap pos (sym (half-up-next a m (omega zarith) (omega zarith)))
 rounds-up (negsuc a) (pos m) h t =
     let r : ℤ = neg_ℤ (pos (suc a % m)) in
@@ -28,20 +28,20 @@ rounds-up (negsuc a) (pos m) h t =
 rounds-up v (negsuc m) h t = absurd (omega zarith)
 
 -- a half or more is left below
-pub rounds-down : (v q : ℤ) → pos 1 ≤ℤ q → (rem_z v q +ℤ rem_z v q) ≤ℤ (pos 0 -ℤ q) → quot_z v q -ℤ pos 1 ≡ averageOf v q
-unfolding averageOf rounded
+pub rounds-down : (v q : ℤ) → pos 1 ≤ℤ q → (rem_z v q +ℤ rem_z v q) ≤ℤ (pos 0 -ℤ q) → quot_z v q -ℤ pos 1 ≡ average_of v q
+unfolding average_of rounded
 rounds-down (pos a) (pos m) h t = absurd (omega (zarith, minus-lin (pos 0) (pos m)))
 rounds-down (negsuc a) (pos m) h t =
     let r : ℤ = neg_ℤ (pos (suc a % m)) in
     let x : ℤ = neg_ℤ (pos (suc a / m)) in
-    let up : halfUp (suc a) m ≡ suc a / m + 1 =
+    let up : half_up (suc a) m ≡ suc a / m + 1 =
     half-up-next (suc a) m (omega zarith) (omega (zarith, neg-lin (pos (suc a % m)), +-lin r r, minus-lin (pos 0) (pos m))) in
-    omega (zarith, up, neg-lin (pos (suc a / m)), minus-lin x (pos 1), neg-lin (pos (halfUp (suc a) m)))
+    omega (zarith, up, neg-lin (pos (suc a / m)), minus-lin x (pos 1), neg-lin (pos (half_up (suc a) m)))
 rounds-down v (negsuc m) h t = absurd (omega zarith)
 
 -- less than a half is left on either side
-pub stays : (v q : ℤ) → pos 1 ≤ℤ q → (rem_z v q +ℤ rem_z v q) <ℤ q → (pos 0 -ℤ q) <ℤ (rem_z v q +ℤ rem_z v q) → quot_z v q ≡ averageOf v q
-unfolding averageOf rounded
+pub stays : (v q : ℤ) → pos 1 ≤ℤ q → (rem_z v q +ℤ rem_z v q) <ℤ q → (pos 0 -ℤ q) <ℤ (rem_z v q +ℤ rem_z v q) → quot_z v q ≡ average_of v q
+unfolding average_of rounded
 stays (pos a) (pos m) h t u = ap pos (sym (half-up-stays a m (omega zarith)))
 stays (negsuc a) (pos m) h t u =
     let r : ℤ = neg_ℤ (pos (suc a % m)) in
@@ -86,26 +86,26 @@ module _ (v q : ℤ) (ok : Averageable v q) where
 
   -- ---- the residual's steps fit
 
-  pub product-fits : SFits w64 (q *ℤ averageOf v q)
+  pub product-fits : SFits w64 (q *ℤ average_of v q)
   product-fits =
       let h : nat_abs q ≤ 1_000_000 = omega (zarith, ok.most, ok.positive, abs-lin q) in
-      mul-sfits q (averageOf v q) h (average-bound v q ok.positive ok.bounded) (omega arith)
+      mul-sfits q (average_of v q) h (average-bound v q ok.positive ok.bounded) (omega arith)
 
-  above : nat_abs (q *ℤ averageOf v q -ℤ v) ≤ 1_000_000
+  above : nat_abs (q *ℤ average_of v q -ℤ v) ≤ 1_000_000
   above =
-      let h : 2 * nat_abs (q *ℤ averageOf v q -ℤ v) ≤ nat_abs q = rw (residual-buy v q) at (residual-bound true v q ok.positive) in
+      let h : 2 * nat_abs (q *ℤ average_of v q -ℤ v) ≤ nat_abs q = rw (residual-buy v q) at (residual-bound true v q ok.positive) in
       omega (zarith, ok.most, ok.positive, abs-lin q)
 
-  pub above-fits : SFits w64 (q *ℤ averageOf v q -ℤ v)
-  above-fits = sfits-of-bound (q *ℤ averageOf v q -ℤ v) above (omega arith)
+  pub above-fits : SFits w64 (q *ℤ average_of v q -ℤ v)
+  above-fits = sfits-of-bound (q *ℤ average_of v q -ℤ v) above (omega arith)
 
-  pub below-fits : SFits w64 (v -ℤ q *ℤ averageOf v q)
+  pub below-fits : SFits w64 (v -ℤ q *ℤ average_of v q)
   below-fits =
-      let x : ℤ = q *ℤ averageOf v q in
+      let x : ℤ = q *ℤ average_of v q in
       omega (zarith, above, abs-sum (x -ℤ v), minus-lin x v, minus-lin v x)
 
-  pub sells : v -ℤ q *ℤ averageOf v q ≡ residualOf false v q
+  pub sells : v -ℤ q *ℤ average_of v q ≡ residual_of false v q
   sells =
-      let x : ℤ = q *ℤ averageOf v q in
+      let x : ℤ = q *ℤ average_of v q in
       let e : v -ℤ x ≡ neg_ℤ (x -ℤ v) = omega (zarith, minus-lin x v, minus-lin v x, neg-lin (x -ℤ v)) in
       rw (residual-sell v q) e

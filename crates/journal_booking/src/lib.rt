@@ -1,10 +1,10 @@
 // The request that a line of a journal names, booked on sound records (document 02, K5). Whether the positions and the process table are sound is told: beside positions that are not every request is
 // refused 2 but a new day (K8), and a step of a give-up beside processes that are not is refused 19.
 ghost use Rattle.std.specs.Prelude.{◌≤◌, ◌≡◌, true, length};
-ghost use Rattle.rules.specs.Reader.{hasItsFigures, requestNamed};
-ghost use Rattle.rules.specs.Tables.{allTables, tables_of, soundRecords, soundPositions, soundProcesses};
+ghost use Rattle.rules.specs.Reader.{has_its_figures, request_named};
+ghost use Rattle.rules.specs.Tables.{all_tables, tables_of, sound_records, sound_positions, sound_processes};
 ghost use Rattle.rules.specs.declared.Heading.TheVariants as Heading;
-ghost use Rattle.journal_booking.specs.RequestBooked.{RequestBooked, BookedBeside, verdictOfReply, isDay};
+ghost use Rattle.journal_booking.specs.RequestBooked.{RequestBooked, BookedBeside, verdict_of_reply, is_day};
 
 use give_up_steps::Terms;
 use rules::{Heading, Reply, Step};
@@ -12,7 +12,7 @@ use verdict::Verdict;
 
 // Whether a reply is a refusal, and which.
 fn verdict_of(reply: Reply) -> Verdict
-    ensures { result ≡ verdictOfReply reply }
+    ensures { result ≡ verdict_of_reply reply }
 {
     match reply {
         Reply::Booked { rows, residual } => Verdict::Accepted,
@@ -33,8 +33,8 @@ fn verdict_of(reply: Reply) -> Verdict
 }
 
 fn book_trade(records: &mut [i64], positions: &mut [i64], figures: &[i64]) -> Verdict
-    requires { (soundRecords records.old ≡ true) × (soundPositions positions.old ≡ true) × (length figures.now ≡ 6) }
-    ensures { RequestBooked (tables_of records.old positions.old) (requestNamed Heading.Trade figures.now) result (tables_of records.new positions.new) }
+    requires { (sound_records records.old ≡ true) × (sound_positions positions.old ≡ true) × (length figures.now ≡ 6) }
+    ensures { RequestBooked (tables_of records.old positions.old) (request_named Heading.Trade figures.now) result (tables_of records.new positions.new) }
 {
     let id = figures[0];
     let account = figures[1];
@@ -48,8 +48,8 @@ fn book_trade(records: &mut [i64], positions: &mut [i64], figures: &[i64]) -> Ve
 }
 
 fn book_separation(records: &mut [i64], positions: &mut [i64], figures: &[i64]) -> Verdict
-    requires { (soundRecords records.old ≡ true) × (soundPositions positions.old ≡ true) × (4 ≤ length figures.now) }
-    ensures { RequestBooked (tables_of records.old positions.old) (requestNamed Heading.Separation figures.now) result (tables_of records.new positions.new) }
+    requires { (sound_records records.old ≡ true) × (sound_positions positions.old ≡ true) × (4 ≤ length figures.now) }
+    ensures { RequestBooked (tables_of records.old positions.old) (request_named Heading.Separation figures.now) result (tables_of records.new positions.new) }
 {
     let id = figures[0];
     let suffix = figures[1];
@@ -67,8 +67,8 @@ fn book_separation(records: &mut [i64], positions: &mut [i64], figures: &[i64]) 
 }
 
 fn book_transfer(records: &mut [i64], positions: &mut [i64], figures: &[i64]) -> Verdict
-    requires { (soundRecords records.old ≡ true) × (soundPositions positions.old ≡ true) × (length figures.now ≡ 5) }
-    ensures { RequestBooked (tables_of records.old positions.old) (requestNamed Heading.Transfer figures.now) result (tables_of records.new positions.new) }
+    requires { (sound_records records.old ≡ true) × (sound_positions positions.old ≡ true) × (length figures.now ≡ 5) }
+    ensures { RequestBooked (tables_of records.old positions.old) (request_named Heading.Transfer figures.now) result (tables_of records.new positions.new) }
 {
     let id = figures[0];
     let suffix = figures[1];
@@ -79,8 +79,8 @@ fn book_transfer(records: &mut [i64], positions: &mut [i64], figures: &[i64]) ->
 }
 
 fn book_merge(records: &mut [i64], positions: &mut [i64], figures: &[i64]) -> Verdict
-    requires { (soundRecords records.old ≡ true) × (soundPositions positions.old ≡ true) × (3 ≤ length figures.now) }
-    ensures { RequestBooked (tables_of records.old positions.old) (requestNamed Heading.Merge figures.now) result (tables_of records.new positions.new) }
+    requires { (sound_records records.old ≡ true) × (sound_positions positions.old ≡ true) × (3 ≤ length figures.now) }
+    ensures { RequestBooked (tables_of records.old positions.old) (request_named Heading.Merge figures.now) result (tables_of records.new positions.new) }
 {
     let id = figures[0];
     let account = figures[1];
@@ -96,8 +96,8 @@ fn book_step(
     step: Step,
     figures: &[i64],
 ) -> Verdict
-    requires { (soundRecords records.old ≡ true) × (soundPositions positions.old ≡ true) × (sound ≡ soundProcesses processes.old) × (length figures.now ≡ 6) }
-    ensures { RequestBooked (allTables records.old positions.old processes.old) (requestNamed (Heading.GiveUp step) figures.now) result (allTables records.new positions.new processes.new) }
+    requires { (sound_records records.old ≡ true) × (sound_positions positions.old ≡ true) × (sound ≡ sound_processes processes.old) × (length figures.now ≡ 6) }
+    ensures { RequestBooked (all_tables records.old positions.old processes.old) (request_named (Heading.GiveUp step) figures.now) result (all_tables records.new positions.new processes.new) }
 {
     if !sound {
         return Verdict::Refused(19, 0);
@@ -121,8 +121,8 @@ fn book_step(
 
 // A day neither reads nor changes the other tables.
 fn book_day(records: &mut [i64], figures: &[i64]) -> Verdict
-    requires { (soundRecords records.old ≡ true) × (length figures.now ≡ 1) }
-    ensures { BookedBeside records.old (requestNamed Heading.Day figures.now) result records.new }
+    requires { (sound_records records.old ≡ true) × (length figures.now ≡ 1) }
+    ensures { BookedBeside records.old (request_named Heading.Day figures.now) result records.new }
 {
     let day = figures[0];
     verdict_of(new_day::on_sound(records, day))
@@ -137,8 +137,8 @@ fn book_on_positions(
     heading: Heading,
     figures: &[i64],
 ) -> Verdict
-    requires { (soundRecords records.old ≡ true) × (soundPositions positions.old ≡ true) × (sound ≡ soundProcesses processes.old) × (hasItsFigures heading (length figures.now) ≡ true) }
-    ensures { RequestBooked (allTables records.old positions.old processes.old) (requestNamed heading figures.now) result (allTables records.new positions.new processes.new) }
+    requires { (sound_records records.old ≡ true) × (sound_positions positions.old ≡ true) × (sound ≡ sound_processes processes.old) × (has_its_figures heading (length figures.now) ≡ true) }
+    ensures { RequestBooked (all_tables records.old positions.old processes.old) (request_named heading figures.now) result (all_tables records.new positions.new processes.new) }
 {
     match heading {
         Heading::Trade => book_trade(records, positions, figures),
@@ -151,7 +151,7 @@ fn book_on_positions(
 }
 
 fn is_day(heading: Heading) -> bool
-    ensures { result ≡ isDay heading }
+    ensures { result ≡ is_day heading }
 {
     match heading {
         Heading::Trade => false,
@@ -173,8 +173,8 @@ pub fn book_line(
     heading: Heading,
     figures: &[i64],
 ) -> Verdict
-    requires { (soundRecords records.old ≡ true) × (passes2 ≡ soundPositions positions.old) × (passes19 ≡ soundProcesses processes.old) × (hasItsFigures heading (length figures.now) ≡ true) }
-    ensures { RequestBooked (allTables records.old positions.old processes.old) (requestNamed heading figures.now) result (allTables records.new positions.new processes.new) }
+    requires { (sound_records records.old ≡ true) × (passes2 ≡ sound_positions positions.old) × (passes19 ≡ sound_processes processes.old) × (has_its_figures heading (length figures.now) ≡ true) }
+    ensures { RequestBooked (all_tables records.old positions.old processes.old) (request_named heading figures.now) result (all_tables records.new positions.new processes.new) }
 {
     if passes2 {
         return book_on_positions(records, positions, processes, passes19, heading, figures);

@@ -1,6 +1,6 @@
 // Test 3 of the figures of a line: as many as its kind asks for, and each in its range.
 ghost use Rattle.std.specs.Prelude.{◌≡◌};
-ghost use Rattle.rules.specs.Reader.{isValidLine};
+ghost use Rattle.rules.specs.Reader.{is_valid_line};
 ghost use Rattle.rules.specs.declared.Step.TheVariants.{Open};
 ghost use Rattle.rules.specs.declared.Heading.TheVariants as Heading;
 
@@ -8,7 +8,7 @@ use give_up_steps::Terms;
 use rules::Heading;
 
 fn trade_valid(figures: &[i64]) -> bool
-    ensures { result ≡ isValidLine Heading.Trade figures.now }
+    ensures { result ≡ is_valid_line Heading.Trade figures.now }
 {
     if figures.len() != 6 {
         return false;
@@ -19,7 +19,7 @@ fn trade_valid(figures: &[i64]) -> bool
 }
 
 fn separation_valid(figures: &[i64]) -> bool
-    ensures { result ≡ isValidLine Heading.Separation figures.now }
+    ensures { result ≡ is_valid_line Heading.Separation figures.now }
 {
     if figures.len() < 4 {
         return false;
@@ -34,7 +34,7 @@ fn separation_valid(figures: &[i64]) -> bool
 }
 
 fn transfer_valid(figures: &[i64]) -> bool
-    ensures { result ≡ isValidLine Heading.Transfer figures.now }
+    ensures { result ≡ is_valid_line Heading.Transfer figures.now }
 {
     if figures.len() != 5 {
         return false;
@@ -43,7 +43,7 @@ fn transfer_valid(figures: &[i64]) -> bool
 }
 
 fn merge_valid(figures: &[i64]) -> bool
-    ensures { result ≡ isValidLine Heading.Merge figures.now }
+    ensures { result ≡ is_valid_line Heading.Merge figures.now }
 {
     if figures.len() < 3 {
         return false;
@@ -53,7 +53,7 @@ fn merge_valid(figures: &[i64]) -> bool
 
 // The same for every step.
 fn step_valid(figures: &[i64]) -> bool
-    ensures { result ≡ isValidLine (Heading.GiveUp Open) figures.now }
+    ensures { result ≡ is_valid_line (Heading.GiveUp Open) figures.now }
 {
     if figures.len() != 6 {
         return false;
@@ -77,7 +77,7 @@ fn step_valid(figures: &[i64]) -> bool
 
 // A day's range alone: whether it lies after the current day is asked where it is booked.
 fn day_valid(figures: &[i64]) -> bool
-    ensures { result ≡ isValidLine Heading.Day figures.now }
+    ensures { result ≡ is_valid_line Heading.Day figures.now }
 {
     if figures.len() != 1 {
         return false;
@@ -86,7 +86,7 @@ fn day_valid(figures: &[i64]) -> bool
 }
 
 pub fn line_valid(heading: Heading, figures: &[i64]) -> bool
-    ensures { result ≡ isValidLine heading figures.now }
+    ensures { result ≡ is_valid_line heading figures.now }
 {
     match heading {
         Heading::Trade => trade_valid(figures),

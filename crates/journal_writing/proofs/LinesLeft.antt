@@ -8,25 +8,25 @@ use lib.IntN.{ℤ}
 use lib.ListN.{length, length-append}
 use Rattle.text.specs.Written.{written}
 use Rattle.text.proofs.WrittenLaws.{Wrote, written-nothing, written_after, wrote-length}
-use Rattle.rules.specs.Batch.{tradeCount, tradesOf}
-use Rattle.rules.specs.Line.{lineText}
+use Rattle.rules.specs.Batch.{trade_count, trades_of}
+use Rattle.rules.specs.Line.{line_text}
 use Rattle.rules.specs.declared.Heading.TheVariants.{Trade}
-use Rattle.journal_writing.proofs.TradesLeft.{tradesFrom, lines_of, cells_of, all_left, none_left, next-line}
+use Rattle.journal_writing.proofs.TradesLeft.{trades_from, lines_of, cells_of, all_left, none_left, next-line}
 
 abbrev lines_from : List ℤ → ℕ → List ℕ
-lines_from trades i = lines_of (tradesFrom trades i)
+lines_from trades i = lines_of (trades_from trades i)
 
 -- With the first i lines in the text, the next at a place.
 pub record LinesLeft (trades : List ℤ) (text₀ text : List ℕ) (next i : ℕ) : Type 0 where
-  pub within : i ≤ tradeCount trades
+  pub within : i ≤ trade_count trades
   pub same_size : length text ≡ length text₀
-  pub reaches : next + length (lines_from trades i) ≡ length (lines_of (tradesOf trades))
-  pub whole : written (lines_from trades i) next text ≡ written (lines_of (tradesOf trades)) 0 text₀
+  pub reaches : next + length (lines_from trades i) ≡ length (lines_of (trades_of trades))
+  pub whole : written (lines_from trades i) next text ≡ written (lines_of (trades_of trades)) 0 text₀
 
 module _ (trades : List ℤ) (text₀ : List ℕ) where
   pub none_written : LinesLeft trades text₀ text₀ 0 0
   none_written =
-      let first : lines_from trades 0 ≡ lines_of (tradesOf trades) = ap lines_of (sym (all_left trades)) in
+      let first : lines_from trades 0 ≡ lines_of (trades_of trades) = ap lines_of (sym (all_left trades)) in
       record {
         within = omega arith;
         same_size = refl;
@@ -35,14 +35,14 @@ module _ (trades : List ℤ) (text₀ : List ℕ) where
       }
 
   module _ (text : List ℕ) (next i : ℕ) (left : LinesLeft trades text₀ text next i) where
-    module _ (more : i < tradeCount trades) (room : length (lines_of (tradesOf trades)) ≤ length text₀) where
+    module _ (more : i < trade_count trades) (room : length (lines_of (trades_of trades)) ≤ length text₀) where
       abbrev line : List ℕ
-      line = lineText Trade (cells_of trades i)
+      line = line_text Trade (cells_of trades i)
 
       abbrev rest : List ℕ
       rest = lines_from trades (i + 1)
 
-      rest-reaches : next + length line + length rest ≡ length (lines_of (tradesOf trades))
+      rest-reaches : next + length line + length rest ≡ length (lines_of (trades_of trades))
       rest-reaches = omega (arith, left.reaches, ap length (next-line trades i more), length-append line rest)
 
       pub line-fits : next + length line ≤ length text
@@ -62,7 +62,7 @@ module _ (trades : List ℤ) (text₀ : List ℕ) where
                 ∙ left.whole;
           }
 
-    pub all-written : tradeCount trades ≤ i → (next ≡ length (lines_of (tradesOf trades))) × (text ≡ written (lines_of (tradesOf trades)) 0 text₀)
+    pub all-written : trade_count trades ≤ i → (next ≡ length (lines_of (trades_of trades))) × (text ≡ written (lines_of (trades_of trades)) 0 text₀)
     unfolding flat_map
     all-written past =
         let none : lines_from trades i ≡ [] = ap lines_of (none_left trades i past) in

@@ -12,16 +12,16 @@ use Rattle.cells.proofs.RowCells.{cells_at}
 use Rattle.rules.specs.Refusal.{all_of}
 use Rattle.rules.specs.Request.{Request}
 use Rattle.rules.specs.Layout.{decode}
-use Rattle.rules.specs.Batch.{tradeAt, tradeCount, tradesOf}
-use Rattle.rules.specs.Line.{lineText, line_of, passesTest3}
+use Rattle.rules.specs.Batch.{trade_at, trade_count, trades_of}
+use Rattle.rules.specs.Line.{line_text, line_of, passes_test3}
 use Rattle.rules.specs.declared.Heading.TheVariants.{Trade}
 
 -- The trades from the i-th on, counted from 0; whether each passes test 3; and their lines.
-abbrev pub tradesFrom : List ℤ → ℕ → List Request
-tradesFrom trades i = decode tradeAt 6 (tradeCount trades - i) (i * 6) trades
+abbrev pub trades_from : List ℤ → ℕ → List Request
+trades_from trades i = decode trade_at 6 (trade_count trades - i) (i * 6) trades
 
-abbrev pub allPass : List Request → Bool
-allPass requests = all_of (map passesTest3 requests)
+abbrev pub all_pass : List Request → Bool
+all_pass requests = all_of (map passes_test3 requests)
 
 abbrev pub lines_of : List Request → List ℕ
 lines_of requests = flat_map line_of requests
@@ -33,31 +33,31 @@ cells_of trades i = take (i * 6 + 6 - i * 6) (drop (i * 6) trades) ++ []
 module _ (trades : List ℤ) where
   -- ---- the list
 
-  pub all_left : tradesOf trades ≡ tradesFrom trades 0
-  unfolding tradesOf
+  pub all_left : trades_of trades ≡ trades_from trades 0
+  unfolding trades_of
   all_left =
-      let all : tradeCount trades ≡ tradeCount trades - 0 = omega arith in
-      ap (λ (n : ℕ). decode tradeAt 6 n 0 trades) all
+      let all : trade_count trades ≡ trade_count trades - 0 = omega arith in
+      ap (λ (n : ℕ). decode trade_at 6 n 0 trades) all
 
   module _ (i : ℕ) where
-    pub none_left : tradeCount trades ≤ i → tradesFrom trades i ≡ []
+    pub none_left : trade_count trades ≤ i → trades_from trades i ≡ []
     none_left past =
-        let none : tradeCount trades - i ≡ 0 = omega arith in
-        ap (λ (n : ℕ). decode tradeAt 6 n (i * 6) trades) none
+        let none : trade_count trades - i ≡ 0 = omega arith in
+        ap (λ (n : ℕ). decode trade_at 6 n (i * 6) trades) none
 
-    module _ (more : i < tradeCount trades) where
-      next-left : tradesFrom trades i ≡ tradeAt trades (i * 6) ∷ tradesFrom trades (i + 1)
+    module _ (more : i < trade_count trades) where
+      next-left : trades_from trades i ≡ trade_at trades (i * 6) ∷ trades_from trades (i + 1)
       next-left =
-          let fewer : tradeCount trades - i - 1 ≡ tradeCount trades - (i + 1) = omega arith in
+          let fewer : trade_count trades - i - 1 ≡ trade_count trades - (i + 1) = omega arith in
           let further : i * 6 + 6 ≡ (i + 1) * 6 = omega arith in
-          decode-step tradeAt 6 (tradeCount trades - i) (i * 6) trades (omega arith)
-          ∙ ap₂ (λ (n at : ℕ). tradeAt trades (i * 6) ∷ decode tradeAt 6 n at trades) fewer further
+          decode-step trade_at 6 (trade_count trades - i) (i * 6) trades (omega arith)
+          ∙ ap₂ (λ (n at : ℕ). trade_at trades (i * 6) ∷ decode trade_at 6 n at trades) fewer further
 
       -- ---- test 3
 
-      pub next-passes : allPass (tradesFrom trades i) ≡ (passesTest3 (tradeAt trades (i * 6)) && allPass (tradesFrom trades (i + 1)))
+      pub next-passes : all_pass (trades_from trades i) ≡ (passes_test3 (trade_at trades (i * 6)) && all_pass (trades_from trades (i + 1)))
       unfolding all_of
-      next-passes = ap allPass next-left
+      next-passes = ap all_pass next-left
 
       -- ---- the lines
 
@@ -66,12 +66,12 @@ module _ (trades : List ℤ) where
           let six : i * 6 + 6 - i * 6 ≡ 6 = omega arith in
           ap (λ (n : ℕ). length (take n (drop (i * 6) trades))) six ∙ length_part trades (i * 6) 6 (omega arith)
 
-      pub next-line : lines_of (tradesFrom trades i) ≡ lineText Trade (cells_of trades i) ++ lines_of (tradesFrom trades (i + 1))
+      pub next-line : lines_of (trades_from trades i) ≡ line_text Trade (cells_of trades i) ++ lines_of (trades_from trades (i + 1))
       unfolding flat_map line_of
       next-line =
           let six : 6 ≡ i * 6 + 6 - i * 6 = omega arith in
           let within : i * 6 + 6 ≤ length trades = omega arith in
           let here : List ℤ = drop (i * 6) trades in
-          let line : line_of (tradeAt trades (i * 6)) ≡ lineText Trade (cells_of trades i) =
-          ap (lineText Trade) (cells_at 5 (i * 6) trades within ∙ ap (λ (n : ℕ). take n here) six ∙ sym (append-nil (take (i * 6 + 6 - i * 6) here))) in
-          ap lines_of next-left ∙ ap (λ (l : List ℕ). l ++ lines_of (tradesFrom trades (i + 1))) line
+          let line : line_of (trade_at trades (i * 6)) ≡ line_text Trade (cells_of trades i) =
+          ap (line_text Trade) (cells_at 5 (i * 6) trades within ∙ ap (λ (n : ℕ). take n here) six ∙ sym (append-nil (take (i * 6 + 6 - i * 6) here))) in
+          ap lines_of next-left ∙ ap (λ (l : List ℕ). l ++ lines_of (trades_from trades (i + 1))) line

@@ -9,28 +9,28 @@ use lib.IntN.{ℤ, pos}
 use lib.ListN.{length, drop}
 use Rattle.text.specs.Written.{written}
 use Rattle.text.proofs.WrittenLaws.{Wrote}
-use Rattle.rules.specs.Refusal.{test, all_of, firstRefusal}
-use Rattle.rules.specs.Reply.{refusedBy}
+use Rattle.rules.specs.Refusal.{test, all_of, first_refusal}
+use Rattle.rules.specs.Reply.{refused_by}
 use Rattle.rules.specs.Request.{Request}
-use Rattle.rules.specs.Batch.{tradeCount, tradesOf, batchFigures}
-use Rattle.rules.specs.Line.{line_of, passesTest3}
-use Rattle.rules.specs.Writing.{textLeft, leftIn, writing, writeRequest, writeTrades}
+use Rattle.rules.specs.Batch.{trade_count, trades_of, batch_figures}
+use Rattle.rules.specs.Line.{line_of, passes_test3}
+use Rattle.rules.specs.Writing.{text_left, left_in, writing, write_request, write_trades}
 use Rattle.rules.specs.declared.Reply.TheVariants.{Refused, Written}
 
 -- ---- by the two tests
 
-pub refused-3 : (lines buffer : List ℕ) → textLeft (Refused (pos 3) (pos 0)) buffer ≡ writing false lines buffer
-unfolding writing leftIn firstRefusal test refusedBy
+pub refused-3 : (lines buffer : List ℕ) → text_left (Refused (pos 3) (pos 0)) buffer ≡ writing false lines buffer
+unfolding writing left_in first_refusal test refused_by
 refused-3 lines buffer = refl
 
 module _ (lines buffer : List ℕ) where
-  pub refused-14 : length buffer < length lines → textLeft (Refused (pos 14) (pos 0)) buffer ≡ writing true lines buffer
-  unfolding writing leftIn firstRefusal test refusedBy
+  pub refused-14 : length buffer < length lines → text_left (Refused (pos 14) (pos 0)) buffer ≡ writing true lines buffer
+  unfolding writing left_in first_refusal test refused_by
   refused-14 short = rw (lt-ltb (length buffer) (length lines) short)
 
   -- The lines at the front of the buffer, and the place after them.
-  pub written-at-front : (end : ℕ) (after : List ℕ) → length lines ≤ length buffer → Wrote lines 0 buffer end after → textLeft (Written (pos end)) after ≡ writing true lines buffer
-  unfolding writing leftIn firstRefusal test written
+  pub written-at-front : (end : ℕ) (after : List ℕ) → length lines ≤ length buffer → Wrote lines 0 buffer end after → text_left (Written (pos end)) after ≡ writing true lines buffer
+  unfolding writing left_in first_refusal test written
   written-at-front end after room w =
       let n : ℕ = length lines in
       let reaches : end ≡ n = w.0 ∙ zero-add n in
@@ -40,34 +40,34 @@ module _ (lines buffer : List ℕ) where
 -- ---- of a request
 
 module _ (r : Request) (buffer : List ℕ) where
-  pub request-refused : passesTest3 r ≡ false → textLeft (Refused (pos 3) (pos 0)) buffer ≡ writeRequest r buffer
-  unfolding writeRequest
+  pub request-refused : passes_test3 r ≡ false → text_left (Refused (pos 3) (pos 0)) buffer ≡ write_request r buffer
+  unfolding write_request
   request-refused fails = refused-3 (line_of r) buffer ∙ ap (λ (valid : Bool). writing valid (line_of r) buffer) (sym fails)
 
-  pub request-passes : passesTest3 r ≡ true → writing true (line_of r) buffer ≡ writeRequest r buffer
-  unfolding writeRequest
+  pub request-passes : passes_test3 r ≡ true → writing true (line_of r) buffer ≡ write_request r buffer
+  unfolding write_request
   request-passes passes = ap (λ (valid : Bool). writing valid (line_of r) buffer) (sym passes)
 
 -- ---- of a batch
 
 module _ (trades : List ℤ) (buffer : List ℕ) where
   abbrev lines : List ℕ
-  lines = flat_map line_of (tradesOf trades)
+  lines = flat_map line_of (trades_of trades)
 
   abbrev listed : Bool
-  listed = batchFigures trades (tradeCount trades)
+  listed = batch_figures trades (trade_count trades)
 
   abbrev each : Bool
-  each = all_of (map passesTest3 (tradesOf trades))
+  each = all_of (map passes_test3 (trades_of trades))
 
-  pub list-refused : listed ≡ false → textLeft (Refused (pos 3) (pos 0)) buffer ≡ writeTrades trades buffer
-  unfolding writeTrades
+  pub list-refused : listed ≡ false → text_left (Refused (pos 3) (pos 0)) buffer ≡ write_trades trades buffer
+  unfolding write_trades
   list-refused fails = refused-3 lines buffer ∙ ap (λ (valid : Bool). writing (valid && each) lines buffer) (sym fails)
 
-  pub trade-refused : listed ≡ true → each ≡ false → textLeft (Refused (pos 3) (pos 0)) buffer ≡ writeTrades trades buffer
-  unfolding writeTrades
+  pub trade-refused : listed ≡ true → each ≡ false → text_left (Refused (pos 3) (pos 0)) buffer ≡ write_trades trades buffer
+  unfolding write_trades
   trade-refused passes fails = refused-3 lines buffer ∙ rw (passes, fails)
 
-  pub trades-pass : listed ≡ true → each ≡ true → writing true lines buffer ≡ writeTrades trades buffer
-  unfolding writeTrades
+  pub trades-pass : listed ≡ true → each ≡ true → writing true lines buffer ≡ write_trades trades buffer
+  unfolding write_trades
   trades-pass passes valid = rw (passes, valid)

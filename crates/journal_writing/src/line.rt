@@ -1,9 +1,9 @@
 // The writing call of each kind of request.
 ghost use Rattle.std.specs.Prelude.{◌≤◌, ◌≡◌, true, ◌++◌, length};
-ghost use Rattle.rules.specs.Line.{lineText};
+ghost use Rattle.rules.specs.Line.{line_text};
 ghost use Rattle.rules.specs.Request as Request;
 ghost use Rattle.give_up_steps.specs.Terms.{step_of};
-ghost use Rattle.rules.specs.Writing.{textLeft, writing, writeRequest, writeGiveUp};
+ghost use Rattle.rules.specs.Writing.{text_left, writing, write_request, write_give_up};
 
 use give_up_steps::Terms;
 use rules::{Heading, Reply, Step};
@@ -11,7 +11,7 @@ use rules::{Heading, Reply, Step};
 // A line whose figures, in two lists, passed test 3.
 fn write_valid(text: &mut [u8], heading: Heading, figures: &[i64], more: &[i64]) -> Reply
     requires { (length figures.now ≤ 6) × (length more.now ≤ 2000) }
-    ensures { textLeft result text.new ≡ writing true (lineText heading (figures.now ++ more.now)) text.old }
+    ensures { text_left result text.new ≡ writing true (line_text heading (figures.now ++ more.now)) text.old }
 {
     let width = writer::line::line_width(heading, figures, more);
     if text.len() < width {
@@ -24,7 +24,7 @@ fn write_valid(text: &mut [u8], heading: Heading, figures: &[i64], more: &[i64])
 // A line with no list after its figures.
 fn write_figures(text: &mut [u8], heading: Heading, figures: &[i64]) -> Reply
     requires { length figures.now ≤ 6 }
-    ensures { textLeft result text.new ≡ writing true (lineText heading figures.now) text.old }
+    ensures { text_left result text.new ≡ writing true (line_text heading figures.now) text.old }
 {
     write_valid(text, heading, figures, &figures[..0])
 }
@@ -38,7 +38,7 @@ pub fn write_trade(
     quantity: i64,
     price: i64,
 ) -> Reply
-    ensures { textLeft result text.new ≡ writeRequest (Request.trade id account series side quantity price) text.old }
+    ensures { text_left result text.new ≡ write_request (Request.trade id account series side quantity price) text.old }
 {
     if !trade::figures_valid(id, account, series, side, quantity, price) {
         return Reply::Refused(3, 0);
@@ -55,7 +55,7 @@ pub fn write_separation(
     series: i64,
     parts: &[i64],
 ) -> Reply
-    ensures { textLeft result text.new ≡ writeRequest (Request.separate id suffix account series parts.now) text.old }
+    ensures { text_left result text.new ≡ write_request (Request.separate id suffix account series parts.now) text.old }
 {
     if !separation::figures_valid(id, suffix, account, series, parts) {
         return Reply::Refused(3, 0);
@@ -72,7 +72,7 @@ pub fn write_transfer(
     to: i64,
     series: i64,
 ) -> Reply
-    ensures { textLeft result text.new ≡ writeRequest (Request.transfer id suffix from to series) text.old }
+    ensures { text_left result text.new ≡ write_request (Request.transfer id suffix from to series) text.old }
 {
     if !transfer::figures_valid(id, suffix, from, to, series) {
         return Reply::Refused(3, 0);
@@ -82,7 +82,7 @@ pub fn write_transfer(
 }
 
 pub fn write_merge(text: &mut [u8], id: i64, account: i64, series: i64, pairs: &[i64]) -> Reply
-    ensures { textLeft result text.new ≡ writeRequest (Request.merge id account series pairs.now) text.old }
+    ensures { text_left result text.new ≡ write_request (Request.merge id account series pairs.now) text.old }
 {
     if !merge_sources::pairs::figures_valid(id, account, series, pairs) {
         return Reply::Refused(3, 0);
@@ -93,7 +93,7 @@ pub fn write_merge(text: &mut [u8], id: i64, account: i64, series: i64, pairs: &
 
 // A step of a give-up whose letter is known.
 fn write_step(text: &mut [u8], step: Step, g: Terms) -> Reply
-    ensures { textLeft result text.new ≡ writeRequest (step_of step g) text.old }
+    ensures { text_left result text.new ≡ write_request (step_of step g) text.old }
 {
     if !give_up_steps::figures_valid(g) {
         return Reply::Refused(3, 0);
@@ -113,7 +113,7 @@ pub fn write_give_up(
     taking: i64,
     series: i64,
 ) -> Reply
-    ensures { textLeft result text.new ≡ writeGiveUp step process id suffix giving taking series text.old }
+    ensures { text_left result text.new ≡ write_give_up step process id suffix giving taking series text.old }
 {
     let g = Terms {
         process,
@@ -146,7 +146,7 @@ pub fn write_give_up(
 
 // Of a day its range alone is test 3: no table is read.
 pub fn write_day(text: &mut [u8], day: i64) -> Reply
-    ensures { textLeft result text.new ≡ writeRequest (Request.newDay day) text.old }
+    ensures { text_left result text.new ≡ write_request (Request.new_day day) text.old }
 {
     if !figures::valid_day(day) {
         return Reply::Refused(3, 0);

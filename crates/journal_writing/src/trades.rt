@@ -3,9 +3,9 @@ ghost use Rattle.std.specs.Prelude.{◌+◌, ◌*◌, ◌≤◌, ◌≡◌, leng
 ghost use mathlib.Core.List.{map, flat_map};
 ghost use Rattle.text.specs.Written.{written};
 ghost use Rattle.rules.specs.Refusal.{all_of};
-ghost use Rattle.rules.specs.Line.{line_of, passesTest3};
-ghost use Rattle.rules.specs.Batch.{tradeAt, tradeCount, tradesOf};
-ghost use Rattle.rules.specs.Writing.{textLeft, writeTrades};
+ghost use Rattle.rules.specs.Line.{line_of, passes_test3};
+ghost use Rattle.rules.specs.Batch.{trade_at, trade_count, trades_of};
+ghost use Rattle.rules.specs.Writing.{text_left, write_trades};
 
 use rules::{Heading, Reply};
 
@@ -14,7 +14,7 @@ const TRADE_WIDTH: usize = 6;
 // Test 3 of the trade whose figures begin at this cell.
 fn trade_valid(trades: &[i64], at: usize) -> bool
     requires { at + 6 ≤ length trades.now }
-    ensures { result ≡ passesTest3 (tradeAt trades.now at) }
+    ensures { result ≡ passes_test3 (trade_at trades.now at) }
 {
     let id = trades[at];
     let account = trades[at + 1];
@@ -26,7 +26,7 @@ fn trade_valid(trades: &[i64], at: usize) -> bool
 }
 
 fn each_valid(trades: &[i64]) -> bool
-    ensures { result ≡ all_of (map passesTest3 (tradesOf trades.now)) }
+    ensures { result ≡ all_of (map passes_test3 (trades_of trades.now)) }
 {
     let count = trades.len() / TRADE_WIDTH;
     let mut i = 0;
@@ -41,8 +41,8 @@ fn each_valid(trades: &[i64]) -> bool
 
 // How many bytes the lines take.
 fn trades_width(trades: &[i64]) -> usize
-    requires { tradeCount trades.now ≤ 1000 }
-    ensures { (result ≡ length (flat_map line_of (tradesOf trades.now))) × (result ≤ 136 * tradeCount trades.now) }
+    requires { trade_count trades.now ≤ 1000 }
+    ensures { (result ≡ length (flat_map line_of (trades_of trades.now))) × (result ≤ 136 * trade_count trades.now) }
 {
     let count = trades.len() / TRADE_WIDTH;
     let mut width = 0;
@@ -58,8 +58,8 @@ fn trades_width(trades: &[i64]) -> usize
 
 // Answers the place after the last line.
 fn write_each(text: &mut [u8], trades: &[i64]) -> usize
-    requires { (tradeCount trades.now ≤ 1000) × (length (flat_map line_of (tradesOf trades.now)) ≤ length text.old) }
-    ensures { (result ≡ length (flat_map line_of (tradesOf trades.now))) × (text.new ≡ written (flat_map line_of (tradesOf trades.now)) 0 text.old) }
+    requires { (trade_count trades.now ≤ 1000) × (length (flat_map line_of (trades_of trades.now)) ≤ length text.old) }
+    ensures { (result ≡ length (flat_map line_of (trades_of trades.now))) × (text.new ≡ written (flat_map line_of (trades_of trades.now)) 0 text.old) }
 {
     let count = trades.len() / TRADE_WIDTH;
     let mut next = 0;
@@ -81,7 +81,7 @@ fn write_each(text: &mut [u8], trades: &[i64]) -> usize
 
 // A line for each: 1 to 1,000 trades, each of which passes test 3.
 pub fn write_trades(text: &mut [u8], trades: &[i64]) -> Reply
-    ensures { textLeft result text.new ≡ writeTrades trades.now text.old }
+    ensures { text_left result text.new ≡ write_trades trades.now text.old }
 {
     if !batch::figures_valid(trades, trades.len() / TRADE_WIDTH) {
         return Reply::Refused(3, 0);

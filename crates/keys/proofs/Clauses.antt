@@ -5,38 +5,38 @@ use mathlib.Core.Bool.{Bool, true, false, cond, ◌&&◌}
 use mathlib.Core.List.{List, [], ◌∷◌, map}
 use mathlib.Core.Option.{Option, none, some}
 use lib.IntN.{ℤ}
-use Rattle.integers.specs.Order.{eqZ}
-use Rattle.rules.specs.Keyed.{Key, below, same, is_some, at_least, rising, find, greatest, upsert, upsertAll, absentFrom}
+use Rattle.integers.specs.Order.{eq_z}
+use Rattle.rules.specs.Keyed.{Key, below, same, is_some, at_least, rising, find, greatest, upsert, upsert_all, absent_from}
 use Rattle.rules.specs.Refusal.{all_of}
 use Rattle.keys.proofs.Split.{and_intro, and_left, and_right, cond-true, cond-false}
 use Rattle.keys.proofs.KeyOrder.{same-not-below}
 
-pub allOf-nil : all_of [] ≡ true
+pub all_of-nil : all_of [] ≡ true
 unfolding all_of
-allOf-nil = refl
+all_of-nil = refl
 
-pub allOf-cons : (b : Bool) (rest : List Bool) → all_of (b ∷ rest) ≡ (b && all_of rest)
+pub all_of-cons : (b : Bool) (rest : List Bool) → all_of (b ∷ rest) ≡ (b && all_of rest)
 unfolding all_of
-allOf-cons b rest = refl
+all_of-cons b rest = refl
 
-pub allOf-intro : (b : Bool) (rest : List Bool) → b ≡ true → all_of rest ≡ true → all_of (b ∷ rest) ≡ true
-allOf-intro b rest p q = allOf-cons b rest ∙ and_intro p q
+pub all_of-intro : (b : Bool) (rest : List Bool) → b ≡ true → all_of rest ≡ true → all_of (b ∷ rest) ≡ true
+all_of-intro b rest p q = all_of-cons b rest ∙ and_intro p q
 
-pub allOf-head : (b : Bool) (rest : List Bool) → all_of (b ∷ rest) ≡ true → b ≡ true
+pub all_of-head : (b : Bool) (rest : List Bool) → all_of (b ∷ rest) ≡ true → b ≡ true
 unfolding all_of
-allOf-head b rest h = and_left b (all_of rest) h
+all_of-head b rest h = and_left b (all_of rest) h
 
-pub allOf-tail : (b : Bool) (rest : List Bool) → all_of (b ∷ rest) ≡ true → all_of rest ≡ true
+pub all_of-tail : (b : Bool) (rest : List Bool) → all_of (b ∷ rest) ≡ true → all_of rest ≡ true
 unfolding all_of
-allOf-tail b rest h = and_right b (all_of rest) h
+all_of-tail b rest h = and_right b (all_of rest) h
 
-pub isSome-none : (A : Type 0) → is_some {A = A} none ≡ false
+pub is_some-none : (A : Type 0) → is_some {A = A} none ≡ false
 unfolding is_some
-isSome-none A = refl
+is_some-none A = refl
 
-pub isSome-some : {A : Type 0} (a : A) → is_some (some a) ≡ true
+pub is_some-some : {A : Type 0} (a : A) → is_some (some a) ≡ true
 unfolding is_some
-isSome-some a = refl
+is_some-some a = refl
 
 module _ {Row : Type 0} (key : Row → Key) where
   pub find-nil : (k : Key) → find key k [] ≡ none
@@ -55,11 +55,11 @@ module _ {Row : Type 0} (key : Row → Key) where
   unfolding greatest
   greatest-nil m = refl
 
-  pub greatest-here : (m : ℤ) (r : Row) (rest : List Row) → eqZ (key r).major m ≡ true → greatest key m (r ∷ rest) ≡ some (at_least (key r).minor (greatest key m rest))
+  pub greatest-here : (m : ℤ) (r : Row) (rest : List Row) → eq_z (key r).major m ≡ true → greatest key m (r ∷ rest) ≡ some (at_least (key r).minor (greatest key m rest))
   unfolding greatest
   greatest-here m r rest h = cond-true (some (at_least (key r).minor (greatest key m rest))) (greatest key m rest) h
 
-  pub greatest-there : (m : ℤ) (r : Row) (rest : List Row) → eqZ (key r).major m ≡ false → greatest key m (r ∷ rest) ≡ greatest key m rest
+  pub greatest-there : (m : ℤ) (r : Row) (rest : List Row) → eq_z (key r).major m ≡ false → greatest key m (r ∷ rest) ≡ greatest key m rest
   unfolding greatest
   greatest-there m r rest h = cond-false (some (at_least (key r).minor (greatest key m rest))) (greatest key m rest) h
 
@@ -83,34 +83,34 @@ module _ {Row : Type 0} (key : Row → Key) where
       cond-false (new ∷ r ∷ rest) (cond (same (key new) (key r)) (new ∷ rest) (r ∷ upsert key new rest)) h
       ∙ cond-false (new ∷ rest) (r ∷ upsert key new rest) k
 
-  pub upsertAll-nil : (table : List Row) → upsertAll key [] table ≡ table
-  unfolding upsertAll
-  upsertAll-nil table = refl
+  pub upsert_all-nil : (table : List Row) → upsert_all key [] table ≡ table
+  unfolding upsert_all
+  upsert_all-nil table = refl
 
-  pub upsertAll-cons : (new : Row) (more table : List Row) → upsertAll key (new ∷ more) table ≡ upsertAll key more (upsert key new table)
-  unfolding upsertAll
-  upsertAll-cons new more table = refl
+  pub upsert_all-cons : (new : Row) (more table : List Row) → upsert_all key (new ∷ more) table ≡ upsert_all key more (upsert key new table)
+  unfolding upsert_all
+  upsert_all-cons new more table = refl
 
-  pub absentFrom-nil : (table : List Row) → absentFrom key table [] ≡ 0
-  unfolding absentFrom
-  absentFrom-nil table = refl
+  pub absent_from-nil : (table : List Row) → absent_from key table [] ≡ 0
+  unfolding absent_from
+  absent_from-nil table = refl
 
-  pub absentFrom-cons : (table : List Row) (r : Row) (rest : List Row) → absentFrom key table (r ∷ rest) ≡ cond (is_some (find key (key r) table)) 0 1 + absentFrom key table rest
-  unfolding absentFrom
-  absentFrom-cons table r rest = refl
+  pub absent_from-cons : (table : List Row) (r : Row) (rest : List Row) → absent_from key table (r ∷ rest) ≡ cond (is_some (find key (key r) table)) 0 1 + absent_from key table rest
+  unfolding absent_from
+  absent_from-cons table r rest = refl
 
-  pub absentFrom-new : (table : List Row) (r : Row) (rest : List Row) → find key (key r) table ≡ none → absentFrom key table (r ∷ rest) ≡ 1 + absentFrom key table rest
-  unfolding absentFrom is_some
-  absentFrom-new table r rest h = ap (λ (o : Option Row). cond (is_some o) 0 1 + absentFrom key table rest) h
+  pub absent_from-new : (table : List Row) (r : Row) (rest : List Row) → find key (key r) table ≡ none → absent_from key table (r ∷ rest) ≡ 1 + absent_from key table rest
+  unfolding absent_from is_some
+  absent_from-new table r rest h = ap (λ (o : Option Row). cond (is_some o) 0 1 + absent_from key table rest) h
 
-  pub absentFrom-old : (table : List Row) (r x : Row) (rest : List Row) → find key (key r) table ≡ some x → absentFrom key table (r ∷ rest) ≡ 0 + absentFrom key table rest
-  unfolding absentFrom is_some
-  absentFrom-old table r x rest h = ap (λ (o : Option Row). cond (is_some o) 0 1 + absentFrom key table rest) h
+  pub absent_from-old : (table : List Row) (r x : Row) (rest : List Row) → find key (key r) table ≡ some x → absent_from key table (r ∷ rest) ≡ 0 + absent_from key table rest
+  unfolding absent_from is_some
+  absent_from-old table r x rest h = ap (λ (o : Option Row). cond (is_some o) 0 1 + absent_from key table rest) h
 
   pub rising-nil : rising key [] ≡ true
   unfolding rising
   rising-nil = refl
 
   -- A key lies below every row of a list.
-  abbrev pub belowAll : Key → List Row → Bool
-  belowAll k rows = all_of (map (λ (r : Row). below k (key r)) rows)
+  abbrev pub below_all : Key → List Row → Bool
+  below_all k rows = all_of (map (λ (r : Row). below k (key r)) rows)

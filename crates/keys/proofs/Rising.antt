@@ -10,23 +10,23 @@ use native.Mathlib.Omega.{arith}
 use Rattle.rules.specs.Keyed.{Key, below, rising, find, upsert}
 use Rattle.keys.proofs.Split.{none-some, and_intro, and_left, and_right}
 use Rattle.keys.proofs.KeyOrder.{same-sym, below-trans, above-not-same, Way, lower, level, upper, way}
-use Rattle.keys.proofs.Clauses.{belowAll, allOf-nil, allOf-intro, allOf-head, allOf-tail, find-nil, find-here, find-there, upsert-nil, upsert-lower, upsert-level, upsert-upper}
+use Rattle.keys.proofs.Clauses.{below_all, all_of-nil, all_of-intro, all_of-head, all_of-tail, find-nil, find-here, find-there, upsert-nil, upsert-lower, upsert-level, upsert-upper}
 use Rattle.keys.proofs.Lookup.{all-upsert}
 
 module _ {Row : Type 0} (key : Row → Key) where
-  pub belowAll-head : (k : Key) (r : Row) (rest : List Row) → belowAll key k (r ∷ rest) ≡ true → below k (key r) ≡ true
-  belowAll-head k r rest h = allOf-head (below k (key r)) (map (λ (s : Row). below k (key s)) rest) h
+  pub below_all-head : (k : Key) (r : Row) (rest : List Row) → below_all key k (r ∷ rest) ≡ true → below k (key r) ≡ true
+  below_all-head k r rest h = all_of-head (below k (key r)) (map (λ (s : Row). below k (key s)) rest) h
 
-  pub belowAll-tail : (k : Key) (r : Row) (rest : List Row) → belowAll key k (r ∷ rest) ≡ true → belowAll key k rest ≡ true
-  belowAll-tail k r rest h = allOf-tail (below k (key r)) (map (λ (s : Row). below k (key s)) rest) h
+  pub below_all-tail : (k : Key) (r : Row) (rest : List Row) → below_all key k (r ∷ rest) ≡ true → below_all key k rest ≡ true
+  below_all-tail k r rest h = all_of-tail (below k (key r)) (map (λ (s : Row). below k (key s)) rest) h
 
-  pub belowAll-intro : (k : Key) (r : Row) (rest : List Row) → below k (key r) ≡ true → belowAll key k rest ≡ true → belowAll key k (r ∷ rest) ≡ true
-  belowAll-intro k r rest p q = allOf-intro (below k (key r)) (map (λ (s : Row). below k (key s)) rest) p q
+  pub below_all-intro : (k : Key) (r : Row) (rest : List Row) → below k (key r) ≡ true → below_all key k rest ≡ true → below_all key k (r ∷ rest) ≡ true
+  below_all-intro k r rest p q = all_of-intro (below k (key r)) (map (λ (s : Row). below k (key s)) rest) p q
 
-  pub belowAll-lower : (j k : Key) (rows : List Row) → below j k ≡ true → belowAll key k rows ≡ true → belowAll key j rows ≡ true
-  belowAll-lower j k [] h a = allOf-nil
-  belowAll-lower j k (r ∷ rest) h a =
-      belowAll-intro j r rest (below-trans j k (key r) h (belowAll-head k r rest a)) (belowAll-lower j k rest h (belowAll-tail k r rest a))
+  pub below_all-lower : (j k : Key) (rows : List Row) → below j k ≡ true → below_all key k rows ≡ true → below_all key j rows ≡ true
+  below_all-lower j k [] h a = all_of-nil
+  below_all-lower j k (r ∷ rest) h a =
+      below_all-intro j r rest (below-trans j k (key r) h (below_all-head k r rest a)) (below_all-lower j k rest h (below_all-tail k r rest a))
 
   pub rising-tail : (r : Row) (rest : List Row) → rising key (r ∷ rest) ≡ true → rising key rest ≡ true
   unfolding rising
@@ -34,35 +34,35 @@ module _ {Row : Type 0} (key : Row → Key) where
   rising-tail r (s ∷ rest) h = and_right (below (key r) (key s)) (rising key (s ∷ rest)) h
 
   -- The first row of a rising table lies below every other.
-  pub rising-head : (r : Row) (rest : List Row) → rising key (r ∷ rest) ≡ true → belowAll key (key r) rest ≡ true
+  pub rising-head : (r : Row) (rest : List Row) → rising key (r ∷ rest) ≡ true → below_all key (key r) rest ≡ true
   unfolding rising
-  rising-head r [] h = allOf-nil
+  rising-head r [] h = all_of-nil
   rising-head r (s ∷ rest) h =
       let b : below (key r) (key s) ≡ true = and_left (below (key r) (key s)) (rising key (s ∷ rest)) h in
-      belowAll-intro (key r) s rest b (belowAll-lower (key r) (key s) rest b (rising-head s rest (and_right (below (key r) (key s)) (rising key (s ∷ rest)) h)))
+      below_all-intro (key r) s rest b (below_all-lower (key r) (key s) rest b (rising-head s rest (and_right (below (key r) (key s)) (rising key (s ∷ rest)) h)))
 
-  pub rising-intro : (r : Row) (rest : List Row) → belowAll key (key r) rest ≡ true → rising key rest ≡ true → rising key (r ∷ rest) ≡ true
+  pub rising-intro : (r : Row) (rest : List Row) → below_all key (key r) rest ≡ true → rising key rest ≡ true → rising key (r ∷ rest) ≡ true
   unfolding rising
   rising-intro r [] a h = refl
-  rising-intro r (s ∷ rest) a h = and_intro (belowAll-head (key r) s rest a) h
+  rising-intro r (s ∷ rest) a h = and_intro (below_all-head (key r) s rest a) h
 
   -- A key below every row of a table is not in it.
-  pub find-low : (k : Key) (t : List Row) → belowAll key k t ≡ true → find key k t ≡ none
+  pub find-low : (k : Key) (t : List Row) → below_all key k t ≡ true → find key k t ≡ none
   find-low k [] a = find-nil key k
   find-low k (r ∷ rest) a =
-      find-there key k r rest (above-not-same (key r) k (belowAll-head k r rest a)) ∙ find-low k rest (belowAll-tail k r rest a)
+      find-there key k r rest (above-not-same (key r) k (below_all-head k r rest a)) ∙ find-low k rest (below_all-tail k r rest a)
 
   pub upsert-rises : (new : Row) (t : List Row) → rising key t ≡ true → rising key (upsert key new t) ≡ true
-  upsert-rises new [] h = rw (upsert-nil key new) (rising-intro new [] allOf-nil h)
+  upsert-rises new [] h = rw (upsert-nil key new) (rising-intro new [] all_of-nil h)
   upsert-rises new (r ∷ rest) h = go (upsert-rises new rest (rising-tail r rest h)) (way (key new) (key r))
     where
       go : rising key (upsert key new rest) ≡ true → Way (key new) (key r) → rising key (upsert key new (r ∷ rest)) ≡ true
       go again (lower b _ _) =
           rw (upsert-lower key new r rest b)
-          (rising-intro new (r ∷ rest) (belowAll-intro (key new) r rest b (belowAll-lower (key new) (key r) rest b (rising-head r rest h))) h)
+          (rising-intro new (r ∷ rest) (below_all-intro (key new) r rest b (below_all-lower (key new) (key r) rest b (rising-head r rest h))) h)
       go again (level e s _ _) =
           rw (upsert-level key new r rest s)
-          (rising-intro new rest (subst (λ (k : Key). belowAll key k rest ≡ true) (sym e) (rising-head r rest h)) (rising-tail r rest h))
+          (rising-intro new rest (subst (λ (k : Key). below_all key k rest ≡ true) (sym e) (rising-head r rest h)) (rising-tail r rest h))
       go again (upper a s b) =
           rw (upsert-upper key new r rest b s)
           (rising-intro r (upsert key new rest) (all-upsert key (λ (x : Row). below (key r) (key x)) new rest a (rising-head r rest h)) again)
@@ -94,7 +94,7 @@ module _ {Row : Type 0} (key : Row → Key) where
     where
       go : (find key (key new) rest ≡ some x → length (upsert key new rest) ≡ length rest) → Way (key new) (key r) →
           length (upsert key new (r ∷ rest)) ≡ length (r ∷ rest)
-      go again (lower b _ _) = none-some (find-low (key new) (r ∷ rest) (belowAll-intro (key new) r rest b (belowAll-lower (key new) (key r) rest b (rising-head r rest h)))) f
+      go again (lower b _ _) = none-some (find-low (key new) (r ∷ rest) (below_all-intro (key new) r rest b (below_all-lower (key new) (key r) rest b (rising-head r rest h)))) f
       go again (level e s _ _) = ap (λ (l : List Row). length l) (upsert-level key new r rest s)
       go again (upper a s b) =
           ap (λ (l : List Row). length l) (upsert-upper key new r rest b s)
@@ -107,7 +107,7 @@ module _ {Row : Type 0} (key : Row → Key) where
     where
       go : (find key (key new) rest ≡ some x → map key (upsert key new rest) ≡ map key rest) → Way (key new) (key r) →
           map key (upsert key new (r ∷ rest)) ≡ map key (r ∷ rest)
-      go again (lower b _ _) = none-some (find-low (key new) (r ∷ rest) (belowAll-intro (key new) r rest b (belowAll-lower (key new) (key r) rest b (rising-head r rest h)))) f
+      go again (lower b _ _) = none-some (find-low (key new) (r ∷ rest) (below_all-intro (key new) r rest b (below_all-lower (key new) (key r) rest b (rising-head r rest h)))) f
       go again (level e s _ _) = ap (map key) (upsert-level key new r rest s) ∙ ap (λ (k : Key). k ∷ map key rest) e
       go again (upper a s b) =
           ap (map key) (upsert-upper key new r rest b s)

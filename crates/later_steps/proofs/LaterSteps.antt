@@ -5,130 +5,130 @@ use mathlib.Core.Bool.{Bool, true, false, cond, not, ◌&&◌}
 use mathlib.Core.List.{List, [], ◌∷◌, ◌++◌}
 use mathlib.Core.Option.{Option, none, some}
 use lib.IntN.{ℤ, pos}
-use Rattle.rules.specs.Figures.{giveUpKind, takeUpKind}
-use Rattle.rules.specs.Keyed.{find, upsert, upsertAll}
-use Rattle.rules.specs.Rows.{recordKey}
-use Rattle.rules.specs.ProcessRows.{processKey, theProcess}
-use Rattle.rules.specs.Refusal.{Test, firstRefusal}
+use Rattle.rules.specs.Figures.{give_up_kind, take_up_kind}
+use Rattle.rules.specs.Keyed.{find, upsert, upsert_all}
+use Rattle.rules.specs.Rows.{record_key}
+use Rattle.rules.specs.ProcessRows.{process_key, the_process}
+use Rattle.rules.specs.Refusal.{Test, first_refusal}
 use Rattle.rules.specs.Request.{Request}
-use Rattle.rules.specs.Plan.{processRoomTest}
-use Rattle.rules.specs.GiveUp.{giveUpFigures, isOpening, hasFigures, hasTurn, mayStep, isOutOfTurn, stepped, is_complete, stepStatusTest, recordAfter, finished}
+use Rattle.rules.specs.Plan.{process_room_test}
+use Rattle.rules.specs.GiveUp.{give_up_figures, is_opening, has_figures, has_turn, may_step, is_out_of_turn, stepped, is_complete, step_status_test, record_after, finished}
 use Rattle.rules.specs.Layout.{rows_of, write}
-use Rattle.rules.specs.Tables.{allTables, booksOf, recordsLayout, processesLayout}
-use Rattle.rules.specs.Handle.{answeredBy}
+use Rattle.rules.specs.Tables.{all_tables, books_of, records_layout, processes_layout}
+use Rattle.rules.specs.Handle.{answered_by}
 use Rattle.rules.specs.declared.Record.{Record}
 use Rattle.rules.specs.declared.ProcessRow.{ProcessRow}
 use Rattle.rules.specs.declared.Reply.TheVariants as Reply
 use Rattle.rules.specs.declared.Step.{Step}
 use Rattle.keys.proofs.Split.{none-some}
 use Rattle.soundness.specs.SoundTables.{SoundTables}
-use Rattle.verdict.specs.Verdict.{verdictOf, verdictIn}
-use Rattle.verdict.specs.Moving.{movingEffects, movingVerdict, recordsAfter, positionsAfter}
+use Rattle.verdict.specs.Verdict.{verdict_of, verdict_in}
+use Rattle.verdict.specs.Moving.{moving_effects, moving_verdict, records_after, positions_after}
 use Rattle.verdict.specs.declared.Verdict.TheVariants.{Accepted, Refused}
 use Rattle.verdict.proofs.Acceptance.{none-accepted}
 use Rattle.verdict.proofs.Handled.{refused-before}
-use Rattle.verdict.proofs.Remaining.{verdictBy}
+use Rattle.verdict.proofs.Remaining.{verdict_by}
 use Rattle.give_up_steps.specs.HandledIn.{HandledIn}
-use Rattle.give_up_steps.specs.StepTests.{laterTests}
+use Rattle.give_up_steps.specs.StepTests.{later_tests}
 use Rattle.give_up_steps.proofs.Answering.{refused-soundly, booked-soundly}
-use Rattle.give_up_steps.proofs.StepVerdict.{request, used, foundProcess, foundRecord, after, after-found, tail, past-found, refuses-figures, refuses-turn, refuses-missing, step-tail, stepped-stands as written-in-place, stepped-room, complete-tail}
-use Rattle.give_up_steps.proofs.StepBooked.{processesWith, step-booked, complete-booked}
+use Rattle.give_up_steps.proofs.StepVerdict.{request, used, found_process, found_record, after, after-found, tail, past-found, refuses-figures, refuses-turn, refuses-missing, step-tail, stepped-stands as written-in-place, stepped-room, complete-tail}
+use Rattle.give_up_steps.proofs.StepBooked.{processes_with, step-booked, complete-booked}
 
 -- Tests that pass at the front of a list change nothing.
-passing-front : (xs ys : List Test) → firstRefusal xs ≡ none → firstRefusal (xs ++ ys) ≡ firstRefusal ys
-unfolding firstRefusal
+passing-front : (xs ys : List Test) → first_refusal xs ≡ none → first_refusal (xs ++ ys) ≡ first_refusal ys
+unfolding first_refusal
 passing-front [] ys h = refl
 passing-front (x ∷ xs) ys h = go x.applies h (passing-front xs ys)
   where
-    go : (b : Bool) → cond b (some x) (firstRefusal xs) ≡ none → (firstRefusal xs ≡ none → firstRefusal (xs ++ ys) ≡ firstRefusal ys) → cond b (some x) (firstRefusal (xs ++ ys)) ≡ firstRefusal ys
+    go : (b : Bool) → cond b (some x) (first_refusal xs) ≡ none → (first_refusal xs ≡ none → first_refusal (xs ++ ys) ≡ first_refusal ys) → cond b (some x) (first_refusal (xs ++ ys)) ≡ first_refusal ys
     go true k again = none-some k refl
     go false k again = again k
 
-module _ (rs ps qs : List ℤ) (sound : SoundTables (allTables rs ps qs)) (process id suffix giving taking series : ℤ) (step : Step) (later : isOpening step ≡ false) where
+module _ (rs ps qs : List ℤ) (sound : SoundTables (all_tables rs ps qs)) (process id suffix giving taking series : ℤ) (step : Step) (later : is_opening step ≡ false) where
   abbrev pub steps : Request
   steps = request rs ps qs process id suffix giving taking series step
 
-  pub later-figures : giveUpFigures process id suffix giving taking series ≡ false → HandledIn (allTables rs ps qs) steps (answeredBy (Reply.Refused (pos 3) (pos 0)) (allTables rs ps qs))
-  later-figures h = refused-soundly (allTables rs ps qs) sound steps (pos 3) (pos 0) (refuses-figures rs ps qs process id suffix giving taking series step h)
+  pub later-figures : give_up_figures process id suffix giving taking series ≡ false → HandledIn (all_tables rs ps qs) steps (answered_by (Reply.Refused (pos 3) (pos 0)) (all_tables rs ps qs))
+  later-figures h = refused-soundly (all_tables rs ps qs) sound steps (pos 3) (pos 0) (refuses-figures rs ps qs process id suffix giving taking series step h)
 
-  module _ (figures : giveUpFigures process id suffix giving taking series ≡ true) where
-    out-of-turn : (b : Bool) → not (mayStep step suffix giving taking series (foundProcess rs ps qs process id suffix giving taking series)) ≡ b
-        → isOutOfTurn step suffix giving taking series (used rs ps qs process id suffix giving taking series) (foundProcess rs ps qs process id suffix giving taking series) ≡ b
-    unfolding isOutOfTurn
+  module _ (figures : give_up_figures process id suffix giving taking series ≡ true) where
+    out-of-turn : (b : Bool) → not (may_step step suffix giving taking series (found_process rs ps qs process id suffix giving taking series)) ≡ b
+        → is_out_of_turn step suffix giving taking series (used rs ps qs process id suffix giving taking series) (found_process rs ps qs process id suffix giving taking series) ≡ b
+    unfolding is_out_of_turn
     out-of-turn b h = rw later h
 
-    refused-18 : not (mayStep step suffix giving taking series (foundProcess rs ps qs process id suffix giving taking series)) ≡ true
-        → HandledIn (allTables rs ps qs) steps (answeredBy (Reply.Refused (pos 18) (pos 0)) (allTables rs ps qs))
-    refused-18 h = refused-soundly (allTables rs ps qs) sound steps (pos 18) (pos 0) (refuses-turn rs ps qs process id suffix giving taking series step figures (out-of-turn true h))
+    refused-18 : not (may_step step suffix giving taking series (found_process rs ps qs process id suffix giving taking series)) ≡ true
+        → HandledIn (all_tables rs ps qs) steps (answered_by (Reply.Refused (pos 18) (pos 0)) (all_tables rs ps qs))
+    refused-18 h = refused-soundly (all_tables rs ps qs) sound steps (pos 18) (pos 0) (refuses-turn rs ps qs process id suffix giving taking series step figures (out-of-turn true h))
 
     -- No such process.
-    pub later-unknown : foundProcess rs ps qs process id suffix giving taking series ≡ none
-        → HandledIn (allTables rs ps qs) steps (answeredBy (Reply.Refused (pos 18) (pos 0)) (allTables rs ps qs))
-    unfolding mayStep
-    later-unknown e = refused-18 (ap (λ (o : Option ProcessRow). not (mayStep step suffix giving taking series o)) e)
+    pub later-unknown : found_process rs ps qs process id suffix giving taking series ≡ none
+        → HandledIn (all_tables rs ps qs) steps (answered_by (Reply.Refused (pos 18) (pos 0)) (all_tables rs ps qs))
+    unfolding may_step
+    later-unknown e = refused-18 (ap (λ (o : Option ProcessRow). not (may_step step suffix giving taking series o)) e)
 
-    module _ (x : ProcessRow) (found : foundProcess rs ps qs process id suffix giving taking series ≡ some x) where
+    module _ (x : ProcessRow) (found : found_process rs ps qs process id suffix giving taking series ≡ some x) where
       -- Figures unlike the row's, or out of turn.
-      pub later-out : (hasFigures suffix giving taking series x && hasTurn step x) ≡ false
-          → HandledIn (allTables rs ps qs) steps (answeredBy (Reply.Refused (pos 18) (pos 0)) (allTables rs ps qs))
-      unfolding mayStep
-      later-out h = refused-18 (ap (λ (o : Option ProcessRow). not (mayStep step suffix giving taking series o)) found ∙ ap not h)
+      pub later-out : (has_figures suffix giving taking series x && has_turn step x) ≡ false
+          → HandledIn (all_tables rs ps qs) steps (answered_by (Reply.Refused (pos 18) (pos 0)) (all_tables rs ps qs))
+      unfolding may_step
+      later-out h = refused-18 (ap (λ (o : Option ProcessRow). not (may_step step suffix giving taking series o)) found ∙ ap not h)
 
-      module _ (turn : (hasFigures suffix giving taking series x && hasTurn step x) ≡ true) where
-        its-turn : isOutOfTurn step suffix giving taking series (used rs ps qs process id suffix giving taking series) (foundProcess rs ps qs process id suffix giving taking series) ≡ false
-        unfolding mayStep
-        its-turn = out-of-turn false (ap (λ (o : Option ProcessRow). not (mayStep step suffix giving taking series o)) found ∙ ap not turn)
+      module _ (turn : (has_figures suffix giving taking series x && has_turn step x) ≡ true) where
+        its-turn : is_out_of_turn step suffix giving taking series (used rs ps qs process id suffix giving taking series) (found_process rs ps qs process id suffix giving taking series) ≡ false
+        unfolding may_step
+        its-turn = out-of-turn false (ap (λ (o : Option ProcessRow). not (may_step step suffix giving taking series o)) found ∙ ap not turn)
 
         -- What the step makes of the row that it found.
         after_is : after rs ps qs process id suffix giving taking series step ≡ stepped step x
-        unfolding theProcess
-        after_is = after-found rs ps qs process id suffix giving taking series step later ∙ ap (λ (o : Option ProcessRow). stepped step (theProcess o)) found
+        unfolding the_process
+        after_is = after-found rs ps qs process id suffix giving taking series step later ∙ ap (λ (o : Option ProcessRow). stepped step (the_process o)) found
 
         -- Its row has the key of the row that it found, and is written in its place.
-        pub stepped-stands : find processKey (processKey (finished (stepped step x))) (rows_of processesLayout qs) ≡ some x
+        pub stepped-stands : find process_key (process_key (finished (stepped step x))) (rows_of processes_layout qs) ≡ some x
         stepped-stands = written-in-place rs ps qs process id suffix giving taking series sound step x found
 
-        has_room : firstRefusal (processRoomTest (booksOf (allTables rs ps qs)) (some (finished (after rs ps qs process id suffix giving taking series step)))) ≡ none
+        has_room : first_refusal (process_room_test (books_of (all_tables rs ps qs)) (some (finished (after rs ps qs process id suffix giving taking series step)))) ≡ none
         has_room = stepped-room rs ps qs process id suffix giving taking series sound step later x found
 
-        pub later-missing : foundRecord rs ps qs process id suffix giving taking series ≡ none
-            → HandledIn (allTables rs ps qs) steps (answeredBy (Reply.Refused (pos 5) (pos 0)) (allTables rs ps qs))
-        later-missing e = refused-soundly (allTables rs ps qs) sound steps (pos 5) (pos 0) (refuses-missing rs ps qs process id suffix giving taking series step figures its-turn e)
+        pub later-missing : found_record rs ps qs process id suffix giving taking series ≡ none
+            → HandledIn (all_tables rs ps qs) steps (answered_by (Reply.Refused (pos 5) (pos 0)) (all_tables rs ps qs))
+        later-missing e = refused-soundly (all_tables rs ps qs) sound steps (pos 5) (pos 0) (refuses-missing rs ps qs process id suffix giving taking series step figures its-turn e)
 
-        module _ (r : Record) (named : foundRecord rs ps qs process id suffix giving taking series ≡ some r) where
-          judged : verdictIn (allTables rs ps qs) steps ≡ verdictOf (firstRefusal (laterTests r giving series ++ tail rs ps qs process id suffix giving taking series step r))
-          unfolding stepStatusTest
+        module _ (r : Record) (named : found_record rs ps qs process id suffix giving taking series ≡ some r) where
+          judged : verdict_in (all_tables rs ps qs) steps ≡ verdict_of (first_refusal (later_tests r giving series ++ tail rs ps qs process id suffix giving taking series step r))
+          unfolding step_status_test
           judged = (rw later at (past-found rs ps qs process id suffix giving taking series step figures its-turn r named).is)
 
-          pub later-refused : (n p : ℤ) → verdictOf (firstRefusal (laterTests r giving series)) ≡ Refused n p
-              → HandledIn (allTables rs ps qs) steps (answeredBy (Reply.Refused n p) (allTables rs ps qs))
+          pub later-refused : (n p : ℤ) → verdict_of (first_refusal (later_tests r giving series)) ≡ Refused n p
+              → HandledIn (all_tables rs ps qs) steps (answered_by (Reply.Refused n p) (all_tables rs ps qs))
           later-refused n p v =
-              refused-soundly (allTables rs ps qs) sound steps n p (judged ∙ refused-before (laterTests r giving series) (tail rs ps qs process id suffix giving taking series step r) n p v)
+              refused-soundly (all_tables rs ps qs) sound steps n p (judged ∙ refused-before (later_tests r giving series) (tail rs ps qs process id suffix giving taking series step r) n p v)
 
-          module _ (passed : verdictOf (firstRefusal (laterTests r giving series)) ≡ Accepted) where
-            judged-tail : verdictIn (allTables rs ps qs) steps ≡ verdictBy (tail rs ps qs process id suffix giving taking series step r)
+          module _ (passed : verdict_of (first_refusal (later_tests r giving series)) ≡ Accepted) where
+            judged-tail : verdict_in (all_tables rs ps qs) steps ≡ verdict_by (tail rs ps qs process id suffix giving taking series step r)
             judged-tail =
                 judged
-                ∙ ap verdictOf (passing-front (laterTests r giving series) (tail rs ps qs process id suffix giving taking series step r) (none-accepted (firstRefusal (laterTests r giving series)) passed))
+                ∙ ap verdict_of (passing-front (later_tests r giving series) (tail rs ps qs process id suffix giving taking series step r) (none-accepted (first_refusal (later_tests r giving series)) passed))
 
             -- The process table as the code writes it.
-            as-stepped : (q : ProcessRow) → q ≡ finished (stepped step x) → (qs₁ : List ℤ) → qs₁ ≡ write processesLayout qs (upsert processKey q (rows_of processesLayout qs))
-                → qs₁ ≡ processesWith rs ps qs process id suffix giving taking series step r named
+            as-stepped : (q : ProcessRow) → q ≡ finished (stepped step x) → (qs₁ : List ℤ) → qs₁ ≡ write processes_layout qs (upsert process_key q (rows_of processes_layout qs))
+                → qs₁ ≡ processes_with rs ps qs process id suffix giving taking series step r named
             as-stepped q e qs₁ g =
                 g
-                ∙ ap (λ (p : ProcessRow). write processesLayout qs (upsert processKey p (rows_of processesLayout qs))) e
-                ∙ ap (λ (p : ProcessRow). write processesLayout qs (upsert processKey (finished p) (rows_of processesLayout qs))) (sym after_is)
+                ∙ ap (λ (p : ProcessRow). write processes_layout qs (upsert process_key p (rows_of processes_layout qs))) e
+                ∙ ap (λ (p : ProcessRow). write processes_layout qs (upsert process_key (finished p) (rows_of processes_layout qs))) (sym after_is)
 
             -- A step that does not complete.
             pub later-advanced : is_complete (stepped step x) ≡ false → (q : ProcessRow) → q ≡ stepped step x → (rs₁ qs₁ : List ℤ)
-                → rs₁ ≡ write recordsLayout rs (upsertAll recordKey (recordAfter step r) (rows_of recordsLayout rs))
-                → qs₁ ≡ write processesLayout qs (upsert processKey q (rows_of processesLayout qs))
-                → HandledIn (allTables rs ps qs) steps (answeredBy (Reply.Booked (pos 0) (pos 0)) (allTables rs₁ ps qs₁))
-            unfolding finished verdictOf
+                → rs₁ ≡ write records_layout rs (upsert_all record_key (record_after step r) (rows_of records_layout rs))
+                → qs₁ ≡ write processes_layout qs (upsert process_key q (rows_of processes_layout qs))
+                → HandledIn (all_tables rs ps qs) steps (answered_by (Reply.Booked (pos 0) (pos 0)) (all_tables rs₁ ps qs₁))
+            unfolding finished verdict_of
             later-advanced h q e rs₁ qs₁ f g =
-                booked-soundly (allTables rs ps qs) sound steps
-                (judged-tail ∙ ap verdictOf (step-tail rs ps qs process id suffix giving taking series sound step r waits ∙ has_room)) _
-                ((λ i. answeredBy (Reply.Booked (pos 0) (pos 0)) (allTables (f i) ps (as-stepped q (e ∙ own) qs₁ g i)))
+                booked-soundly (all_tables rs ps qs) sound steps
+                (judged-tail ∙ ap verdict_of (step-tail rs ps qs process id suffix giving taking series sound step r waits ∙ has_room)) _
+                ((λ i. answered_by (Reply.Booked (pos 0) (pos 0)) (all_tables (f i) ps (as-stepped q (e ∙ own) qs₁ g i)))
                 ∙ sym (step-booked rs ps qs process id suffix giving taking series step r named waits sound.positions))
               where
                 waits : is_complete (after rs ps qs process id suffix giving taking series step) ≡ false
@@ -142,19 +142,19 @@ module _ (rs ps qs : List ℤ) (sound : SoundTables (allTables rs ps qs)) (proce
               completes : is_complete (after rs ps qs process id suffix giving taking series step) ≡ true
               completes = ap is_complete after_is ∙ complete
 
-              judged-moving : verdictIn (allTables rs ps qs) steps ≡ movingVerdict rs ps r id giving taking series
+              judged-moving : verdict_in (all_tables rs ps qs) steps ≡ moving_verdict rs ps r id giving taking series
               judged-moving = judged-tail ∙ complete-tail rs ps qs process id suffix giving taking series sound step r completes has_room
 
-              pub later-not-moved : (n p : ℤ) → movingVerdict rs ps r id giving taking series ≡ Refused n p
-                  → HandledIn (allTables rs ps qs) steps (answeredBy (Reply.Refused n p) (allTables rs ps qs))
-              later-not-moved n p v = refused-soundly (allTables rs ps qs) sound steps n p (judged-moving ∙ v)
+              pub later-not-moved : (n p : ℤ) → moving_verdict rs ps r id giving taking series ≡ Refused n p
+                  → HandledIn (all_tables rs ps qs) steps (answered_by (Reply.Refused n p) (all_tables rs ps qs))
+              later-not-moved n p v = refused-soundly (all_tables rs ps qs) sound steps n p (judged-moving ∙ v)
 
-              pub later-completed : movingVerdict rs ps r id giving taking series ≡ Accepted → (q : ProcessRow) → q ≡ finished (stepped step x) → (rs₁ ps₁ qs₁ : List ℤ)
-                  → rs₁ ≡ recordsAfter (movingEffects giveUpKind takeUpKind rs ps r id giving taking series) rs
-                  → ps₁ ≡ positionsAfter (movingEffects giveUpKind takeUpKind rs ps r id giving taking series) ps
-                  → qs₁ ≡ write processesLayout qs (upsert processKey q (rows_of processesLayout qs))
-                  → HandledIn (allTables rs ps qs) steps (answeredBy (Reply.Booked (pos 2) (pos 0)) (allTables rs₁ ps₁ qs₁))
+              pub later-completed : moving_verdict rs ps r id giving taking series ≡ Accepted → (q : ProcessRow) → q ≡ finished (stepped step x) → (rs₁ ps₁ qs₁ : List ℤ)
+                  → rs₁ ≡ records_after (moving_effects give_up_kind take_up_kind rs ps r id giving taking series) rs
+                  → ps₁ ≡ positions_after (moving_effects give_up_kind take_up_kind rs ps r id giving taking series) ps
+                  → qs₁ ≡ write processes_layout qs (upsert process_key q (rows_of processes_layout qs))
+                  → HandledIn (all_tables rs ps qs) steps (answered_by (Reply.Booked (pos 2) (pos 0)) (all_tables rs₁ ps₁ qs₁))
               later-completed v q e rs₁ ps₁ qs₁ f h g =
-                  booked-soundly (allTables rs ps qs) sound steps (judged-moving ∙ v) _
-                  ((λ i. answeredBy (Reply.Booked (pos 2) (pos 0)) (allTables (f i) (h i) (as-stepped q e qs₁ g i)))
+                  booked-soundly (all_tables rs ps qs) sound steps (judged-moving ∙ v) _
+                  ((λ i. answered_by (Reply.Booked (pos 2) (pos 0)) (all_tables (f i) (h i) (as-stepped q e qs₁ g i)))
                   ∙ sym (complete-booked rs ps qs process id suffix giving taking series step r named completes))

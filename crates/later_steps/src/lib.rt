@@ -1,18 +1,18 @@
 // A step on a give-up that is open (document 02, K3), on sound tables: claim, cancel, refuse, and the two approvals. The one that completes claim and both approvals books what a transfer books.
 ghost use Rattle.std.specs.Prelude.{◌≡◌, true, false, ◌&&◌, ◌<◌, length};
 ghost use Rattle.rules.specs.Figures.{adjustable};
-ghost use Rattle.rules.specs.Keyed.{upsertAll};
-ghost use Rattle.rules.specs.Rows.{recordKey, withStatus, soundRecord};
-ghost use Rattle.rules.specs.ProcessRows.{rowOfProcess};
-ghost use Rattle.rules.specs.Refusal.{firstRefusal};
-ghost use Rattle.rules.specs.GiveUp.{isOpening, hasFigures, hasTurn, stepped, is_complete, recordAfter};
+ghost use Rattle.rules.specs.Keyed.{upsert_all};
+ghost use Rattle.rules.specs.Rows.{record_key, with_status, sound_record};
+ghost use Rattle.rules.specs.ProcessRows.{row_of_process};
+ghost use Rattle.rules.specs.Refusal.{first_refusal};
+ghost use Rattle.rules.specs.GiveUp.{is_opening, has_figures, has_turn, stepped, is_complete, record_after};
 ghost use Rattle.rules.specs.Layout.{row_at, rows_of, write};
-ghost use Rattle.rules.specs.Tables.{allTables, recordsLayout, soundRecordRows};
-ghost use Rattle.rules.specs.Handle.{answeredBy};
+ghost use Rattle.rules.specs.Tables.{all_tables, records_layout, sound_record_rows};
+ghost use Rattle.rules.specs.Handle.{answered_by};
 ghost use Rattle.soundness.specs.SoundTables.{SoundTables};
-ghost use Rattle.verdict.specs.Verdict.{verdictOf};
+ghost use Rattle.verdict.specs.Verdict.{verdict_of};
 ghost use Rattle.give_up_steps.specs.HandledIn.{HandledIn};
-ghost use Rattle.give_up_steps.specs.StepTests.{laterTests};
+ghost use Rattle.give_up_steps.specs.StepTests.{later_tests};
 ghost use Rattle.give_up_steps.specs.Terms.{step_of};
 ghost use Rattle.later_steps.specs.LaterReady.{LaterReady, RecordReady};
 
@@ -26,7 +26,7 @@ use verdict::Verdict;
 
 // 18: the figures are the row's, and it is the step's turn.
 fn may_step(step: Step, p: Process, g: Terms) -> bool
-    ensures { result ≡ (hasFigures g.suffix g.giving g.taking g.series (rowOfProcess p) && hasTurn step (rowOfProcess p)) }
+    ensures { result ≡ (has_figures g.suffix g.giving g.taking g.series (row_of_process p) && has_turn step (row_of_process p)) }
 {
     if !stages::has_figures(p, g.suffix, g.giving, g.taking, g.series) {
         return false;
@@ -36,7 +36,7 @@ fn may_step(step: Step, p: Process, g: Terms) -> bool
 
 // Tests 6 to 8, of the record that was found: 7 where its status isn't 3.
 fn verdict(r: Record, giving: i64, series: i64) -> Verdict
-    ensures { result ≡ verdictOf (firstRefusal (laterTests r giving series)) }
+    ensures { result ≡ verdict_of (first_refusal (later_tests r giving series)) }
 {
     if requests::is_elsewhere(r, giving, series) {
         return Verdict::Refused(6, 0);
@@ -52,8 +52,8 @@ fn verdict(r: Record, giving: i64, series: i64) -> Verdict
 
 // Cancelled or refused sets the record back to status 0; the other steps leave it.
 fn restate(records: &mut [i64], row: usize, step: Step)
-    requires { (soundRecordRows records.old ≡ true) × (row < length (rows_of recordsLayout records.old)) × (soundRecord (withStatus adjustable (row_at recordsLayout records.old row)) ≡ true) × (isOpening step ≡ false) }
-    ensures { records.new ≡ write recordsLayout records.old (upsertAll recordKey (recordAfter step (row_at recordsLayout records.old row)) (rows_of recordsLayout records.old)) }
+    requires { (sound_record_rows records.old ≡ true) × (row < length (rows_of records_layout records.old)) × (sound_record (with_status adjustable (row_at records_layout records.old row)) ≡ true) × (is_opening step ≡ false) }
+    ensures { records.new ≡ write records_layout records.old (upsert_all record_key (record_after step (row_at records_layout records.old row)) (rows_of records_layout records.old)) }
 {
     match step {
         Step::Open => {}
@@ -76,8 +76,8 @@ fn advance(
     p: Process,
     named: Named,
 ) -> Reply
-    requires { RecordReady records.old positions.now processes.old step g at p named × (is_complete (stepped step (rowOfProcess p)) ≡ false) }
-    ensures { HandledIn (allTables records.old positions.now processes.old) (step_of step g) (answeredBy result (allTables records.new positions.now processes.new)) }
+    requires { RecordReady records.old positions.now processes.old step g at p named × (is_complete (stepped step (row_of_process p)) ≡ false) }
+    ensures { HandledIn (all_tables records.old positions.now processes.old) (step_of step g) (answered_by result (all_tables records.new positions.now processes.new)) }
 {
     let q = stages::stepped(step, p);
     let row = named.row;
@@ -100,8 +100,8 @@ fn complete(
     p: Process,
     named: Named,
 ) -> Reply
-    requires { RecordReady records.old positions.old processes.old step g at p named × (is_complete (stepped step (rowOfProcess p)) ≡ true) }
-    ensures { HandledIn (allTables records.old positions.old processes.old) (step_of step g) (answeredBy result (allTables records.new positions.new processes.new)) }
+    requires { RecordReady records.old positions.old processes.old step g at p named × (is_complete (stepped step (row_of_process p)) ≡ true) }
+    ensures { HandledIn (all_tables records.old positions.old processes.old) (step_of step g) (answered_by result (all_tables records.new positions.new processes.new)) }
 {
     let old = requests::position_held(positions, g.giving, g.series);
     let new = requests::position_held(positions, g.taking, g.series);
@@ -135,7 +135,7 @@ fn on_turn(
     p: Process,
 ) -> Reply
     requires { LaterReady records.old positions.old processes.old step g at p }
-    ensures { HandledIn (allTables records.old positions.old processes.old) (step_of step g) (answeredBy result (allTables records.new positions.new processes.new)) }
+    ensures { HandledIn (all_tables records.old positions.old processes.old) (step_of step g) (answered_by result (all_tables records.new positions.new processes.new)) }
 {
     let Sought::Present(row, greatest, next) = records::look_up(records, g.id, g.suffix) else {
         return Reply::Refused(5, 0);
@@ -160,8 +160,8 @@ pub fn on_sound(
     step: Step,
     g: Terms,
 ) -> Reply
-    requires { SoundTables (allTables records.old positions.old processes.old) × (isOpening step ≡ false) }
-    ensures { HandledIn (allTables records.old positions.old processes.old) (step_of step g) (answeredBy result (allTables records.new positions.new processes.new)) }
+    requires { SoundTables (all_tables records.old positions.old processes.old) × (is_opening step ≡ false) }
+    ensures { HandledIn (all_tables records.old positions.old processes.old) (step_of step g) (answered_by result (all_tables records.new positions.new processes.new)) }
 {
     if !give_up_steps::figures_valid(g) {
         return Reply::Refused(3, 0);

@@ -1,10 +1,10 @@
 // Lineage: tests 1, 3 and 5, and the way from parent to parent. It reads the records table alone, and never writes.
 ghost use Rattle.std.specs.Prelude.{◌≡◌, true, []};
-ghost use Rattle.rules.specs.Figures.{validSuffix};
+ghost use Rattle.rules.specs.Figures.{valid_suffix};
 ghost use Rattle.rules.specs.Request as Request;
-ghost use Rattle.rules.specs.Tables.{soundRecordRows, tables_of};
+ghost use Rattle.rules.specs.Tables.{sound_record_rows, tables_of};
 ghost use Rattle.rules.specs.Handle.{handle};
-ghost use Rattle.lineage.specs.Origin.{originFound};
+ghost use Rattle.lineage.specs.Origin.{origin_found};
 
 use lookup::Sought;
 use rules::Reply;
@@ -19,8 +19,8 @@ pub enum Traced {
 
 // From a suffix to its parent, which is below it, until suffix 0.
 fn origin(records: &[i64], id: i64, suffix: i64) -> Traced
-    requires { (soundRecordRows records.now ≡ true) × (validSuffix suffix ≡ true) }
-    ensures { result ≡ originFound records.now id suffix }
+    requires { (sound_record_rows records.now ≡ true) × (valid_suffix suffix ≡ true) }
+    ensures { result ≡ origin_found records.now id suffix }
 {
     let Sought::Present(row, greatest, next) = records::look_up(records, id, suffix) else {
         return Traced::Missing;

@@ -11,7 +11,7 @@ use lib.ListN.{length}
 use Rattle.text.specs.Scan.{Taken, taken}
 use Rattle.rules.specs.Request.{Request}
 use Rattle.rules.specs.Line.{line_of}
-use Rattle.rules.specs.Reader.{takeRequest, Reading, lineThen, readWithin, reading_of}
+use Rattle.rules.specs.Reader.{take_request, Reading, line_then, read_within, reading_of}
 use Rattle.lines.specs.Journalled.{AllJournalled}
 use Rattle.lines.proofs.Exactly.{line_taken, shorter}
 
@@ -24,34 +24,34 @@ after r later = record { requests = r ∷ later.requests; whole = later.whole }
 
 -- ---- in at most so many lines
 
-within_end : (lines : ℕ) → readWithin lines [] ≡ reading [] true
-unfolding readWithin
+within_end : (lines : ℕ) → read_within lines [] ≡ reading [] true
+unfolding read_within
 within_end zero = refl
 within_end (suc lines) = refl
 
-within_more : (lines : ℕ) (text : List ℕ) → 0 < length text → readWithin (suc lines) text ≡ lineThen (takeRequest text) (λ (rest : List ℕ). readWithin lines rest)
-unfolding readWithin
+within_more : (lines : ℕ) (text : List ℕ) → 0 < length text → read_within (suc lines) text ≡ line_then (take_request text) (λ (rest : List ℕ). read_within lines rest)
+unfolding read_within
 within_more lines text h =
-    ap (λ (b : Bool). cond b (reading [] true) (lineThen (takeRequest text) (λ (rest : List ℕ). readWithin lines rest))) (ne_eqb (length text) 0 (λ e. omega arith))
+    ap (λ (b : Bool). cond b (reading [] true) (line_then (take_request text) (λ (rest : List ℕ). read_within lines rest))) (ne_eqb (length text) 0 (λ e. omega arith))
 
-within-bad : (lines : ℕ) (text : List ℕ) → 0 < length text → takeRequest text ≡ none → readWithin (suc lines) text ≡ reading [] false
-unfolding lineThen
-within-bad lines text h e = within_more lines text h ∙ ap (λ (o : Option (Taken Request)). lineThen o (λ (rest : List ℕ). readWithin lines rest)) e
+within-bad : (lines : ℕ) (text : List ℕ) → 0 < length text → take_request text ≡ none → read_within (suc lines) text ≡ reading [] false
+unfolding line_then
+within-bad lines text h e = within_more lines text h ∙ ap (λ (o : Option (Taken Request)). line_then o (λ (rest : List ℕ). read_within lines rest)) e
 
-within-next : (lines : ℕ) (text : List ℕ) (t : Taken Request) → takeRequest text ≡ some t → readWithin (suc lines) text ≡ after t.value (readWithin lines t.rest)
-unfolding lineThen
+within-next : (lines : ℕ) (text : List ℕ) (t : Taken Request) → take_request text ≡ some t → read_within (suc lines) text ≡ after t.value (read_within lines t.rest)
+unfolding line_then
 within-next lines text t e =
-    within_more lines text (omega (arith, shorter text t e)) ∙ ap (λ (o : Option (Taken Request)). lineThen o (λ (rest : List ℕ). readWithin lines rest)) e
+    within_more lines text (omega (arith, shorter text t e)) ∙ ap (λ (o : Option (Taken Request)). line_then o (λ (rest : List ℕ). read_within lines rest)) e
 
-within-enough : (lines other : ℕ) (text : List ℕ) → length text ≤ lines → length text ≤ other → readWithin lines text ≡ readWithin other text
+within-enough : (lines other : ℕ) (text : List ℕ) → length text ≤ lines → length text ≤ other → read_within lines text ≡ read_within other text
 within-enough zero other [] h g = within_end 0 ∙ sym (within_end other)
 within-enough zero other (b ∷ text) h g = absurd (omega arith)
 within-enough (suc lines) other [] h g = within_end (suc lines) ∙ sym (within_end other)
 within-enough (suc lines) zero (b ∷ text) h g = absurd (omega arith)
-within-enough (suc lines) (suc other) (b ∷ text) h g = go (takeRequest (b ∷ text)) refl (λ (rest : List ℕ). within-enough lines other rest)
+within-enough (suc lines) (suc other) (b ∷ text) h g = go (take_request (b ∷ text)) refl (λ (rest : List ℕ). within-enough lines other rest)
   where
-    go : (o : Option (Taken Request)) → takeRequest (b ∷ text) ≡ o → ((rest : List ℕ) → length rest ≤ lines → length rest ≤ other → readWithin lines rest ≡ readWithin other rest)
-        → readWithin (suc lines) (b ∷ text) ≡ readWithin (suc other) (b ∷ text)
+    go : (o : Option (Taken Request)) → take_request (b ∷ text) ≡ o → ((rest : List ℕ) → length rest ≤ lines → length rest ≤ other → read_within lines rest ≡ read_within other rest)
+        → read_within (suc lines) (b ∷ text) ≡ read_within (suc other) (b ∷ text)
     go none e onward = within-bad lines (b ∷ text) (omega arith) e ∙ sym (within-bad other (b ∷ text) (omega arith) e)
     go (some t) e onward =
         let less : length t.rest < length (b ∷ text) = shorter (b ∷ text) t e in
@@ -63,12 +63,12 @@ pub reading-end : reading_of [] ≡ record { requests = []; whole = true }
 unfolding reading_of
 reading-end = within_end 0
 
-pub reading-bad : (text : List ℕ) → 0 < length text → takeRequest text ≡ none → reading_of text ≡ record { requests = []; whole = false }
+pub reading-bad : (text : List ℕ) → 0 < length text → take_request text ≡ none → reading_of text ≡ record { requests = []; whole = false }
 unfolding reading_of
 reading-bad [] h e = absurd (omega arith)
 reading-bad (b ∷ text) h e = within-bad (length text) (b ∷ text) h e
 
-pub reading-next : (text : List ℕ) (t : Taken Request) → takeRequest text ≡ some t
+pub reading-next : (text : List ℕ) (t : Taken Request) → take_request text ≡ some t
     → reading_of text ≡ record { requests = t.value ∷ (reading_of t.rest).requests; whole = (reading_of t.rest).whole }
 unfolding reading_of
 reading-next [] t e = absurd (omega (arith, shorter [] t e))
@@ -78,15 +78,15 @@ reading-next (b ∷ text) t e =
 
 -- A claim of a text and its reading holds of every text if it holds where the text is at its end, where its first line is bad, and, where that is good, if it holds of what follows it.
 module _ (Claim : List ℕ → Reading → Type 0) (end : Claim [] (reading [] true))
-    (bad : (text : List ℕ) → 0 < length text → takeRequest text ≡ none → Claim text (reading [] false))
-    (good : (text : List ℕ) (t : Taken Request) → takeRequest text ≡ some t → Claim t.rest (reading_of t.rest) → Claim text (after t.value (reading_of t.rest))) where
+    (bad : (text : List ℕ) → 0 < length text → take_request text ≡ none → Claim text (reading [] false))
+    (good : (text : List ℕ) (t : Taken Request) → take_request text ≡ some t → Claim t.rest (reading_of t.rest) → Claim text (after t.value (reading_of t.rest))) where
   within : (most : ℕ) (text : List ℕ) → length text ≤ most → Claim text (reading_of text)
   within zero [] h = subst (Claim []) (sym reading-end) end
   within zero (b ∷ text) h = absurd (omega arith)
   within (suc most) [] h = subst (Claim []) (sym reading-end) end
-  within (suc most) (b ∷ text) h = go (takeRequest (b ∷ text)) refl (within most)
+  within (suc most) (b ∷ text) h = go (take_request (b ∷ text)) refl (within most)
     where
-      go : (o : Option (Taken Request)) → takeRequest (b ∷ text) ≡ o → ((rest : List ℕ) → length rest ≤ most → Claim rest (reading_of rest)) → Claim (b ∷ text) (reading_of (b ∷ text))
+      go : (o : Option (Taken Request)) → take_request (b ∷ text) ≡ o → ((rest : List ℕ) → length rest ≤ most → Claim rest (reading_of rest)) → Claim (b ∷ text) (reading_of (b ∷ text))
       go none e onward = subst (Claim (b ∷ text)) (sym (reading-bad (b ∷ text) (omega arith) e)) (bad (b ∷ text) (omega arith) e)
       go (some t) e onward =
           let less : length t.rest < length (b ∷ text) = shorter (b ∷ text) t e in

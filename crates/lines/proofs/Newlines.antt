@@ -10,17 +10,17 @@ use borrow.Author.Tests.{ne_eqb}
 use lib.Dec.{eqb}
 use lib.IntN.{ℤ, pos, negsuc}
 use lib.ListN.{length}
-use Rattle.text.specs.Decimal.{digit, minus, digitsOf, numberText}
-use Rattle.text.specs.Fields.{tab, newline, fieldsText}
+use Rattle.text.specs.Decimal.{digit, minus, digits_of, number_text}
+use Rattle.text.specs.Fields.{tab, newline, fields_text}
 use Rattle.text.proofs.DecimalLaws.{digits-one, digits_more, by_digits}
 use Rattle.rules.specs.Request.{Request}
-use Rattle.rules.specs.Line.{headingText, lineText, line_of, isJournalled, passesTest3}
+use Rattle.rules.specs.Line.{heading_text, line_text, line_of, is_journalled, passes_test3}
 use Rattle.rules.specs.declared.Step.TheVariants.{Open, Claim, Cancel, Refuse, ApproveGiver, ApproveTaker}
 use Rattle.rules.specs.declared.Heading.{Heading}
 use Rattle.rules.specs.declared.Heading.TheVariants.{Trade, Separation, Transfer, Merge, GiveUp, Day}
 use Rattle.keys.proofs.Split.{split, cond-true, cond-false}
 use Rattle.lines.specs.Journalled.{AllJournalled}
-use Rattle.lines.specs.LineNumbers.{newlines, afterNewline, OneLine}
+use Rattle.lines.specs.LineNumbers.{newlines, after_newline, OneLine}
 use Rattle.lines.proofs.NamedRequests.{ItsLine, its-line}
 
 -- ---- counted
@@ -43,7 +43,7 @@ none-in-both a b h g = omega (arith, newlines-append a b)
 
 -- ---- none in a heading or a field
 
-heading-has-none : (heading : Heading) → newlines (headingText heading) ≡ 0
+heading-has-none : (heading : Heading) → newlines (heading_text heading) ≡ 0
 unfolding newlines
 heading-has-none Trade = refl
 heading-has-none Separation = refl
@@ -61,61 +61,61 @@ digit-has-none : (n : ℕ) → newlines (digit n ∷ []) ≡ 0
 unfolding newlines
 digit-has-none n = other_byte (digit n) [] (λ e. omega arith)
 
-digits-have-none : (n : ℕ) → newlines (digitsOf n) ≡ 0
-digits-have-none n = by_digits (λ n. newlines (digitsOf n) ≡ 0) one more n
+digits-have-none : (n : ℕ) → newlines (digits_of n) ≡ 0
+digits-have-none n = by_digits (λ n. newlines (digits_of n) ≡ 0) one more n
   where
-    one : (n : ℕ) → n < 10 → newlines (digitsOf n) ≡ 0
+    one : (n : ℕ) → n < 10 → newlines (digits_of n) ≡ 0
     one n few = ap newlines (digits-one n few) ∙ digit-has-none n
 
-    more : (n : ℕ) → 10 ≤ n → newlines (digitsOf (n / 10)) ≡ 0 → newlines (digitsOf n) ≡ 0
-    more n many before = ap newlines (digits_more n many) ∙ none-in-both (digitsOf (n / 10)) (digit (n % 10) ∷ []) before (digit-has-none (n % 10))
+    more : (n : ℕ) → 10 ≤ n → newlines (digits_of (n / 10)) ≡ 0 → newlines (digits_of n) ≡ 0
+    more n many before = ap newlines (digits_more n many) ∙ none-in-both (digits_of (n / 10)) (digit (n % 10) ∷ []) before (digit-has-none (n % 10))
 
-number-has-none : (z : ℤ) → newlines (numberText z) ≡ 0
-unfolding numberText
+number-has-none : (z : ℤ) → newlines (number_text z) ≡ 0
+unfolding number_text
 number-has-none (pos n) = digits-have-none n
-number-has-none (negsuc n) = other_byte minus (digitsOf (suc n)) (λ e. omega arith) ∙ digits-have-none (suc n)
+number-has-none (negsuc n) = other_byte minus (digits_of (suc n)) (λ e. omega arith) ∙ digits-have-none (suc n)
 
-fields-have-none : (figures : List ℤ) → newlines (fieldsText figures) ≡ 0
-unfolding fieldsText newlines
+fields-have-none : (figures : List ℤ) → newlines (fields_text figures) ≡ 0
+unfolding fields_text newlines
 fields-have-none [] = refl
 fields-have-none (z ∷ rest) =
-    other_byte tab (numberText z ++ fieldsText rest) (λ e. omega arith) ∙ none-in-both (numberText z) (fieldsText rest) (number-has-none z) (fields-have-none rest)
+    other_byte tab (number_text z ++ fields_text rest) (λ e. omega arith) ∙ none-in-both (number_text z) (fields_text rest) (number-has-none z) (fields-have-none rest)
 
 -- ---- one line
 
-line-text-one : (heading : Heading) (figures : List ℤ) → OneLine (lineText heading figures)
-unfolding lineText
+line-text-one : (heading : Heading) (figures : List ℤ) → OneLine (line_text heading figures)
+unfolding line_text
 line-text-one heading figures = record {
-  front = headingText heading ++ fieldsText figures;
-  ended = sym (append_assoc (headingText heading) (fieldsText figures) (newline ∷ []));
-  no_other = none-in-both (headingText heading) (fieldsText figures) (heading-has-none heading) (fields-have-none figures);
+  front = heading_text heading ++ fields_text figures;
+  ended = sym (append_assoc (heading_text heading) (fields_text figures) (newline ∷ []));
+  no_other = none-in-both (heading_text heading) (fields_text figures) (heading-has-none heading) (fields-have-none figures);
 }
 
 -- An accepted line has exactly one newline, its last byte.
-pub one_line : (r : Request) → isJournalled r ≡ true → passesTest3 r ≡ true → OneLine (line_of r)
+pub one_line : (r : Request) → is_journalled r ≡ true → passes_test3 r ≡ true → OneLine (line_of r)
 one_line r journalled passes =
     let l : ItsLine r = its-line r journalled passes in
-    let o : OneLine (lineText l.heading l.figures) = line-text-one l.heading l.figures in
+    let o : OneLine (line_text l.heading l.figures) = line-text-one l.heading l.figures in
     record { front = o.front; ended = l.written ∙ o.ended; no_other = o.no_other }
 
 -- ---- after a line
 
-after_front : (front rest : List ℕ) → newlines front ≡ 0 → afterNewline (front ++ (newline ∷ rest)) ≡ rest
-unfolding newlines afterNewline
+after_front : (front rest : List ℕ) → newlines front ≡ 0 → after_newline (front ++ (newline ∷ rest)) ≡ rest
+unfolding newlines after_newline
 after_front [] rest h = refl
 after_front (b ∷ front) rest h = go (split (eqb b newline)) (after_front front rest)
   where
-    go : (eqb b newline ≡ true) ⊎ (eqb b newline ≡ false) → (newlines front ≡ 0 → afterNewline (front ++ (newline ∷ rest)) ≡ rest)
-        → cond (eqb b newline) (front ++ (newline ∷ rest)) (afterNewline (front ++ (newline ∷ rest))) ≡ rest
+    go : (eqb b newline ≡ true) ⊎ (eqb b newline ≡ false) → (newlines front ≡ 0 → after_newline (front ++ (newline ∷ rest)) ≡ rest)
+        → cond (eqb b newline) (front ++ (newline ∷ rest)) (after_newline (front ++ (newline ∷ rest))) ≡ rest
     go (inl e) again = let one : suc (newlines front) ≡ 0 = sym (cond-true (suc (newlines front)) (newlines front) e) ∙ h in absurd (omega arith)
     go (inr e) again =
-        cond-false (front ++ (newline ∷ rest)) (afterNewline (front ++ (newline ∷ rest))) e ∙ again (sym (cond-false (suc (newlines front)) (newlines front) e) ∙ h)
+        cond-false (front ++ (newline ∷ rest)) (after_newline (front ++ (newline ∷ rest))) e ∙ again (sym (cond-false (suc (newlines front)) (newlines front) e) ∙ h)
 
 line-then : (line rest : List ℕ) (o : OneLine line) → line ++ rest ≡ o.front ++ (newline ∷ rest)
 line-then line rest o = ap (λ (l : List ℕ). l ++ rest) o.ended ∙ append_assoc o.front (newline ∷ []) rest
 
-pub after_line : (line rest : List ℕ) → OneLine line → afterNewline (line ++ rest) ≡ rest
-after_line line rest o = ap afterNewline (line-then line rest o) ∙ after_front o.front rest o.no_other
+pub after_line : (line rest : List ℕ) → OneLine line → after_newline (line ++ rest) ≡ rest
+after_line line rest o = ap after_newline (line-then line rest o) ∙ after_front o.front rest o.no_other
 
 line-counted : (line : List ℕ) → OneLine line → newlines line ≡ 1
 unfolding newlines

@@ -8,52 +8,52 @@ use borrow.Author.Tests.{eqb-true}
 use lib.Dec.{eqb}
 use lib.IntN.{ℤ}
 use lib.ListN.{length, drop}
-use Rattle.text.specs.Fields.{newline, fieldsText}
-use Rattle.text.specs.Scan.{Taken, taken, first, takeFields}
+use Rattle.text.specs.Fields.{newline, fields_text}
+use Rattle.text.specs.Scan.{Taken, taken, first, take_fields}
 use Rattle.text.proofs.FirstByte.{first_rest, below-digits}
 use Rattle.text.proofs.TakenWritten.{fields-written}
 use Rattle.text.proofs.WrittenTaken.{AllShort, fields-taken}
-use Rattle.rules.specs.Line.{headingText, lineText}
-use Rattle.rules.specs.Reader.{Line, takeHeading, mostFigures, endOfLine, figuresAfter, takeLine}
+use Rattle.rules.specs.Line.{heading_text, line_text}
+use Rattle.rules.specs.Reader.{Line, take_heading, most_figures, end_of_line, figures_after, take_line}
 use Rattle.rules.specs.declared.Heading.{Heading}
 use Rattle.lines.proofs.Chosen.{chosen-only}
 use Rattle.lines.proofs.Headings.{heading-written, heading-taken}
 
-abbrev pub lineWith : Heading → List ℤ → Line
-lineWith heading figures = record { heading = heading; figures = figures }
+abbrev pub line_with : Heading → List ℤ → Line
+line_with heading figures = record { heading = heading; figures = figures }
 
 -- Heading, fields, newline and rest, grouped as they are read.
-line-parts : (heading : Heading) (figures : List ℤ) (rest : List ℕ) → lineText heading figures ++ rest ≡ headingText heading ++ (fieldsText figures ++ (newline ∷ rest))
-unfolding lineText
+line-parts : (heading : Heading) (figures : List ℤ) (rest : List ℕ) → line_text heading figures ++ rest ≡ heading_text heading ++ (fields_text figures ++ (newline ∷ rest))
+unfolding line_text
 line-parts heading figures rest = simp append_assoc
 
-end-written : (heading : Heading) (f : Taken (List ℤ)) (t : Taken Line) → endOfLine heading f ≡ some t
-    → headingText heading ++ (fieldsText f.value ++ f.rest) ≡ lineText t.value.heading t.value.figures ++ t.rest
-unfolding endOfLine
+end-written : (heading : Heading) (f : Taken (List ℤ)) (t : Taken Line) → end_of_line heading f ≡ some t
+    → heading_text heading ++ (fields_text f.value ++ f.rest) ≡ line_text t.value.heading t.value.figures ++ t.rest
+unfolding end_of_line
 end-written heading f t h =
-    let (e, g) = chosen-only (eqb (first f.rest) newline) (some (taken (lineWith heading f.value) (drop 1 f.rest))) t h in
+    let (e, g) = chosen-only (eqb (first f.rest) newline) (some (taken (line_with heading f.value) (drop 1 f.rest))) t h in
     let at : first f.rest ≡ newline = eqb-true (first f.rest) newline e in
-    ap (λ (l : List ℕ). headingText heading ++ (fieldsText f.value ++ l)) (first_rest f.rest (omega arith) ∙ ap (λ (b : ℕ). b ∷ drop 1 f.rest) at)
+    ap (λ (l : List ℕ). heading_text heading ++ (fields_text f.value ++ l)) (first_rest f.rest (omega arith) ∙ ap (λ (b : ℕ). b ∷ drop 1 f.rest) at)
     ∙ sym (line-parts heading f.value (drop 1 f.rest))
-    ∙ ap (λ (t : Taken Line). lineText t.value.heading t.value.figures ++ t.rest) (some-injective (taken (lineWith heading f.value) (drop 1 f.rest)) t g)
+    ∙ ap (λ (t : Taken Line). line_text t.value.heading t.value.figures ++ t.rest) (some-injective (taken (line_with heading f.value) (drop 1 f.rest)) t g)
 
-figures-written : (text : List ℕ) (o : Option (Taken Heading)) (t : Taken Line) → takeHeading text ≡ o → figuresAfter o ≡ some t
-    → text ≡ lineText t.value.heading t.value.figures ++ t.rest
-unfolding figuresAfter
+figures-written : (text : List ℕ) (o : Option (Taken Heading)) (t : Taken Line) → take_heading text ≡ o → figures_after o ≡ some t
+    → text ≡ line_text t.value.heading t.value.figures ++ t.rest
+unfolding figures_after
 figures-written text none t e h = absurd (none-ne-some t h)
 figures-written text (some w) t e h =
     heading-written text w e
-    ∙ ap (λ (l : List ℕ). headingText w.value ++ l) (fields-written mostFigures w.rest)
-    ∙ end-written w.value (takeFields mostFigures w.rest) t h
+    ∙ ap (λ (l : List ℕ). heading_text w.value ++ l) (fields-written most_figures w.rest)
+    ∙ end-written w.value (take_fields most_figures w.rest) t h
 
-pub whole-line-written : (text : List ℕ) (t : Taken Line) → takeLine text ≡ some t → text ≡ lineText t.value.heading t.value.figures ++ t.rest
-unfolding takeLine
-whole-line-written text t h = figures-written text (takeHeading text) t refl h
+pub whole-line-written : (text : List ℕ) (t : Taken Line) → take_line text ≡ some t → text ≡ line_text t.value.heading t.value.figures ++ t.rest
+unfolding take_line
+whole-line-written text t h = figures-written text (take_heading text) t refl h
 
-pub whole-line-taken : (heading : Heading) (figures : List ℤ) (rest : List ℕ) → length figures ≤ mostFigures → AllShort figures
-    → takeLine (lineText heading figures ++ rest) ≡ some (taken (lineWith heading figures) rest)
-unfolding takeLine figuresAfter endOfLine
+pub whole-line-taken : (heading : Heading) (figures : List ℤ) (rest : List ℕ) → length figures ≤ most_figures → AllShort figures
+    → take_line (line_text heading figures ++ rest) ≡ some (taken (line_with heading figures) rest)
+unfolding take_line figures_after end_of_line
 whole-line-taken heading figures rest few short =
-    ap takeLine (line-parts heading figures rest)
-    ∙ ap figuresAfter (heading-taken heading (fieldsText figures ++ (newline ∷ rest)))
-    ∙ ap (endOfLine heading) (fields-taken mostFigures figures (newline ∷ rest) few short (below-digits newline (omega arith)) refl)
+    ap take_line (line-parts heading figures rest)
+    ∙ ap figures_after (heading-taken heading (fields_text figures ++ (newline ∷ rest)))
+    ∙ ap (end_of_line heading) (fields-taken most_figures figures (newline ∷ rest) few short (below-digits newline (omega arith)) refl)

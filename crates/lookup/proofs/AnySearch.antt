@@ -11,7 +11,7 @@ use lib.Pow.{pow_mono}
 use borrow.Author.Tests.{leb-true, leb-false, le-leb, lt-leb}
 use Rattle.keys.proofs.Split.{split, cond-true, cond-false}
 use Rattle.lookup.specs.Steps.{halvings}
-use Rattle.lookup.specs.AnySearch.{Search, answer, look, steps_of, answered, FindsAll, byHalving}
+use Rattle.lookup.specs.AnySearch.{Search, answer, look, steps_of, answered, FindsAll, by_halving}
 use Rattle.lookup.proofs.Steps.{halvings-within, within-halvings, halvings-of-full-tables}
 
 -- ---- what a step says
@@ -50,8 +50,8 @@ places-told-apart s rows finds = omega (arith, few-places s 0 rows (λ place h g
 
 -- ---- halving finds them
 
-halved : (steps low left place : ℕ) → left < 2 ^ steps → low ≤ place → place ≤ low + left → answered (byHalving steps low left) place ≡ place
-unfolding byHalving answered
+halved : (steps low left place : ℕ) → left < 2 ^ steps → low ≤ place → place ≤ low + left → answered (by_halving steps low left) place ≡ place
+unfolding by_halving answered
 halved zero low left place h g b = omega arith
 halved (suc steps) low left place h g b = go (split (leb place (past - 1))) (λ low'. halved steps low' (left / 2) place (omega (arith, two-pow-succ steps)))
   where
@@ -59,17 +59,17 @@ halved (suc steps) low left place h g b = go (split (leb place (past - 1))) (λ 
     past = low + (left - left / 2)
 
     go : (leb place (past - 1) ≡ true) ⊎ (leb place (past - 1) ≡ false)
-        → ((low' : ℕ) → low' ≤ place → place ≤ low' + left / 2 → answered (byHalving steps low' (left / 2)) place ≡ place)
-        → answered (byHalving (suc steps) low left) place ≡ place
+        → ((low' : ℕ) → low' ≤ place → place ≤ low' + left / 2 → answered (by_halving steps low' (left / 2)) place ≡ place)
+        → answered (by_halving (suc steps) low left) place ≡ place
     go (inl t) half =
-        look-before (past - 1) (byHalving steps low (left / 2)) (byHalving steps past (left / 2)) place (leb-true place (past - 1) t)
+        look-before (past - 1) (by_halving steps low (left / 2)) (by_halving steps past (left / 2)) place (leb-true place (past - 1) t)
         ∙ half low g (omega (arith, leb-true place (past - 1) t))
     go (inr t) half =
-        look-otherwise (past - 1) (byHalving steps low (left / 2)) (byHalving steps past (left / 2)) place (leb-false place (past - 1) t)
+        look-otherwise (past - 1) (by_halving steps low (left / 2)) (by_halving steps past (left / 2)) place (leb-false place (past - 1) t)
         ∙ half past (omega (arith, leb-false place (past - 1) t)) (omega arith)
 
-halving-steps : (steps low left : ℕ) → steps_of (byHalving steps low left) ≡ steps
-unfolding byHalving steps_of
+halving-steps : (steps low left : ℕ) → steps_of (by_halving steps low left) ≡ steps
+unfolding by_halving steps_of
 halving-steps zero low left = refl
 halving-steps (suc steps) low left =
     omega (arith, halving-steps steps low (left / 2), halving-steps steps (low + (left - left / 2)) (left / 2))
@@ -79,7 +79,7 @@ halving-steps (suc steps) low left =
 pub no-search-is-shorter : (s : Search) (rows : ℕ) → FindsAll s rows → halvings rows ≤ steps_of s
 no-search-is-shorter s rows finds = halvings-within (steps_of s) rows (places-told-apart s rows finds)
 
-pub halving-finds-all : (rows : ℕ) → FindsAll (byHalving (halvings rows) 0 rows) rows × (steps_of (byHalving (halvings rows) 0 rows) ≡ halvings rows)
+pub halving-finds-all : (rows : ℕ) → FindsAll (by_halving (halvings rows) 0 rows) rows × (steps_of (by_halving (halvings rows) 0 rows) ≡ halvings rows)
 halving-finds-all rows = (λ place h. halved (halvings rows) 0 rows place (within-halvings rows) (omega arith) (omega arith), halving-steps (halvings rows) 0 rows)
 
 -- ---- of 4,096 rows
@@ -88,6 +88,6 @@ pub twelve-steps-do-not : (s : Search) → FindsAll s 4096 → 12 < steps_of s
 twelve-steps-do-not s finds = omega (arith, no-search-is-shorter s 4096 finds, halvings-of-full-tables.0)
 
 -- Stopped after 12 steps, halving answers 4,095 for a key that belongs after all rows; a step more, and it has its place.
-pub one-step-short : (answered (byHalving 12 0 4096) 4096 ≡ 4095) × (answered (byHalving 13 0 4096) 4096 ≡ 4096)
-unfolding byHalving answered
+pub one-step-short : (answered (by_halving 12 0 4096) 4096 ≡ 4095) × (answered (by_halving 13 0 4096) 4096 ≡ 4096)
+unfolding by_halving answered
 one-step-short = (refl, refl)

@@ -6,28 +6,28 @@ use mathlib.Core.List.{List, [], ◌∷◌}
 use mathlib.Core.Option.{none, some}
 use Rattle.rules.specs.Keyed.{Key, below, same}
 use Rattle.keys.proofs.Split.{cond-true, cond-false}
-use Rattle.lookup.specs.Lookup.{rowFrom, placeFrom}
+use Rattle.lookup.specs.Lookup.{row_from, place_from}
 
-pub rowFrom-nil : (row : ℕ) (k : Key) → rowFrom row k [] ≡ none
-unfolding rowFrom
-rowFrom-nil row k = refl
+pub row_from-nil : (row : ℕ) (k : Key) → row_from row k [] ≡ none
+unfolding row_from
+row_from-nil row k = refl
 
-pub rowFrom-here : (row : ℕ) (k e : Key) (rest : List Key) → same e k ≡ true → rowFrom row k (e ∷ rest) ≡ some row
-unfolding rowFrom
-rowFrom-here row k e rest h = cond-true (some row) (rowFrom (row + 1) k rest) h
+pub row_from-here : (row : ℕ) (k e : Key) (rest : List Key) → same e k ≡ true → row_from row k (e ∷ rest) ≡ some row
+unfolding row_from
+row_from-here row k e rest h = cond-true (some row) (row_from (row + 1) k rest) h
 
-pub rowFrom-there : (row : ℕ) (k e : Key) (rest : List Key) → same e k ≡ false → rowFrom row k (e ∷ rest) ≡ rowFrom (row + 1) k rest
-unfolding rowFrom
-rowFrom-there row k e rest h = cond-false (some row) (rowFrom (row + 1) k rest) h
+pub row_from-there : (row : ℕ) (k e : Key) (rest : List Key) → same e k ≡ false → row_from row k (e ∷ rest) ≡ row_from (row + 1) k rest
+unfolding row_from
+row_from-there row k e rest h = cond-false (some row) (row_from (row + 1) k rest) h
 
-pub placeFrom-nil : (row : ℕ) (k : Key) → placeFrom row k [] ≡ row
-unfolding placeFrom
-placeFrom-nil row k = refl
+pub place_from-nil : (row : ℕ) (k : Key) → place_from row k [] ≡ row
+unfolding place_from
+place_from-nil row k = refl
 
-pub placeFrom-here : (row : ℕ) (k e : Key) (rest : List Key) → below k e ≡ true → placeFrom row k (e ∷ rest) ≡ row
-unfolding placeFrom
-placeFrom-here row k e rest h = cond-true row (placeFrom (row + 1) k rest) h
+pub place_from-here : (row : ℕ) (k e : Key) (rest : List Key) → below k e ≡ true → place_from row k (e ∷ rest) ≡ row
+unfolding place_from
+place_from-here row k e rest h = cond-true row (place_from (row + 1) k rest) h
 
-pub placeFrom-there : (row : ℕ) (k e : Key) (rest : List Key) → below k e ≡ false → placeFrom row k (e ∷ rest) ≡ placeFrom (row + 1) k rest
-unfolding placeFrom
-placeFrom-there row k e rest h = cond-false row (placeFrom (row + 1) k rest) h
+pub place_from-there : (row : ℕ) (k e : Key) (rest : List Key) → below k e ≡ false → place_from row k (e ∷ rest) ≡ place_from (row + 1) k rest
+unfolding place_from
+place_from-there row k e rest h = cond-false row (place_from (row + 1) k rest) h

@@ -15,21 +15,21 @@ use lib.Signed.{lt_z, le_z}
 use Rattle.rules.specs.Keyed.{Key, rising, find, greatest}
 use Rattle.rules.specs.Rows.{key_of}
 use Rattle.keys.proofs.Split.{clash, is_false, Found, absent, present, found}
-use Rattle.keys.proofs.Equal.{ltZ-irrefl, ltZ-trans, not-ltZ-of-leZ}
+use Rattle.keys.proofs.Equal.{lt_z-irrefl, lt_z-trans, not-lt_z-of-le_z}
 use Rattle.keys.proofs.KeyOrder.{below-cases, below-major}
 use Rattle.keys.proofs.Lookup.{find-key}
 use Rattle.keys.proofs.Greatest.{greatest-found, found-greatest, greatest-bounds}
-use Rattle.lookup.specs.Lookup.{rowFrom, placeFrom}
+use Rattle.lookup.specs.Lookup.{row_from, place_from}
 use Rattle.lookup.proofs.RowFound.{find-found}
 use Rattle.lookup.proofs.RisingKeys.{earlier-below, place_in, before-place, at_place, find-there}
 
 module _ (keys : List Key) (rises : rising (λ e. e) keys ≡ true) (m top : ℤ)
-    (bound : placeFrom 0 (key_of m top) keys < length keys → lt_z top (get_or keys (placeFrom 0 (key_of m top) keys) (key_of m top)).minor ≡ false) where
+    (bound : place_from 0 (key_of m top) keys < length keys → lt_z top (get_or keys (place_from 0 (key_of m top) keys) (key_of m top)).minor ≡ false) where
   abbrev last : Key
   last = key_of m top
 
   abbrev place : ℕ
-  place = placeFrom 0 last keys
+  place = place_from 0 last keys
 
   -- From the place on the first figure is greater.
   pub greater-at : place < length keys → lt_z m (get_or keys place last).major ≡ true
@@ -49,7 +49,7 @@ module _ (keys : List Key) (rises : rising (λ e. e) keys ≡ true) (m top : ℤ
       later : (lt_z (get_or keys place last).major (get_or keys i last).major ≡ true)
           ⊎ (((get_or keys place last).major ≡ (get_or keys i last).major) × (lt_z (get_or keys place last).minor (get_or keys i last).minor ≡ true))
           → lt_z m (get_or keys i last).major ≡ true
-      later (inl l) = ltZ-trans m (get_or keys place last).major (get_or keys i last).major here l
+      later (inl l) = lt_z-trans m (get_or keys place last).major (get_or keys i last).major here l
       later (inr w) = subst (λ (x : ℤ). lt_z m x ≡ true) w.0 here
 
       go : (place ≡ i) ⊎ (place < i) → lt_z m (get_or keys i last).major ≡ true
@@ -57,7 +57,7 @@ module _ (keys : List Key) (rises : rising (λ e. e) keys ≡ true) (m top : ℤ
       go (inr l) = later (below-cases (get_or keys place last) (get_or keys i last) (earlier-below keys place i last rises l b))
 
   of-figure : (i : ℕ) → i < length keys → (get_or keys i last).major ≡ m → i < place
-  of-figure i b e = lt_of_not-le (λ h. clash (subst (λ (x : ℤ). lt_z m x ≡ true) e (greater-from i h b)) (ltZ-irrefl m))
+  of-figure i b e = lt_of_not-le (λ h. clash (subst (λ (x : ℤ). lt_z m x ≡ true) e (greater-from i h b)) (lt_z-irrefl m))
 
   -- A key with that first figure that stands before another key before the place: the other has it too, and a greater second figure.
   between : (i j : ℕ) → i < j → j < place → (get_or keys i last).major ≡ m → ((get_or keys j last).major ≡ m) × (lt_z (get_or keys i last).minor (get_or keys j last).minor ≡ true)
@@ -80,7 +80,7 @@ module _ (keys : List Key) (rises : rising (λ e. e) keys ≡ true) (m top : ℤ
   greatest-place : (g : ℤ) → greatest (λ e. e) m keys ≡ some g → (i : ℕ) × (place ≡ suc i) × (get_or keys i last ≡ key_of m g)
   greatest-place g h =
       let x : (x : Key) × (find (λ e. e) (key_of m g) keys ≡ some x) = greatest-found (λ e. e) m g keys h in
-      let w : (i : ℕ) × (rowFrom 0 (key_of m g) (map (λ e. e) keys) ≡ some i) × (i < length keys) × ((other : Key) → get_or keys i other ≡ x.0)
+      let w : (i : ℕ) × (row_from 0 (key_of m g) (map (λ e. e) keys) ≡ some i) × (i < length keys) × ((other : Key) → get_or keys i other ≡ x.0)
       = find-found (λ e. e) (key_of m g) keys x.0 x.1 in
       let e : get_or keys w.0 last ≡ key_of m g = w.3 last ∙ find-key (λ e. e) (key_of m g) keys x.0 x.1 in
       let past : w.0 < place = of-figure w.0 w.2 (ap (λ (k : Key). k.major) e) in
@@ -90,7 +90,7 @@ module _ (keys : List Key) (rises : rising (λ e. e) keys ≡ true) (m top : ℤ
       let n : ((get_or keys (suc w.0) last).major ≡ m) × (lt_z (get_or keys w.0 last).minor (get_or keys (suc w.0) last).minor ≡ true)
       = between w.0 (suc w.0) (omega arith) l (ap (λ (k : Key). k.major) e) in
       clash (ap (λ (k : Key). lt_z k.minor (get_or keys (suc w.0) last).minor) (sym e) ∙ n.1)
-      (not-ltZ-of-leZ (get_or keys (suc w.0) last).minor g
+      (not-lt_z-of-le_z (get_or keys (suc w.0) last).minor g
       (greatest-bounds (λ e. e) m (get_or keys (suc w.0) last).minor g keys (get_or keys (suc w.0) last) h (find-figure (suc w.0) b n.0))) in
       (w.0, omega (arith, past, lt_of_not-le none_after), e)
 

@@ -22,8 +22,8 @@ abbrev pub FindsAll : Search → (rows : ℕ) → Type 0
 FindsAll s rows = (place : ℕ) → place ≤ rows → answered s place ≡ place
 
 -- The search by halving in the rows left from `low` on, stopped after so many steps. It looks where `lookup::place_of` does.
-unfoldable pub byHalving : (steps low left : ℕ) → Search
-byHalving zero low left = answer low
-byHalving (suc steps) low left =
+unfoldable pub by_halving : (steps low left : ℕ) → Search
+by_halving zero low left = answer low
+by_halving (suc steps) low left =
     let past : ℕ = low + (left - left / 2) in
-    look (past - 1) (byHalving steps low (left / 2)) (byHalving steps past (left / 2))
+    look (past - 1) (by_halving steps low (left / 2)) (by_halving steps past (left / 2))

@@ -4,7 +4,7 @@ use Rattle.std.proofs.Math.Option.{none, some}
 use Rattle.rules.specs.Keyed.{Key, find, greatest}
 use Rattle.rules.specs.Rows.{key_of}
 use Rattle.rules.specs.Layout.{Layout, row_at, rows_of}
-use Rattle.lookup.specs.Lookup.{greatestFound, foundIn, place_in}
+use Rattle.lookup.specs.Lookup.{greatest_found, found_in, place_in}
 use Rattle.lookup.specs.declared.Found.TheVariants as Found
 use Rattle.lookup.specs.declared.Greatest.{Greatest}
 
@@ -14,7 +14,7 @@ module _ {A : Type 0} (l : Layout A) (key : A → Key) (cells : List ℤ) (k : K
     pub row_within : row < length (rows_of l cells)
     pub found : find key k (rows_of l cells) ≡ some (row_at l cells row)
     pub key-is : key (row_at l cells row) ≡ k
-    pub found-is : foundIn l k cells ≡ Found.Row row
+    pub found-is : found_in l k cells ≡ Found.Row row
     pub greatest-is : greatest key k.major (rows_of l cells) ≡ some g
     pub next-is : next ≡ place_in l (key_of k.major (g +ℤ pos 1)) cells
 
@@ -22,4 +22,4 @@ module _ {A : Type 0} (l : Layout A) (key : A → Key) (cells : List ℤ) (k : K
   pub record AbsentAt (place : ℕ) (g : Greatest) : Type 0 where
     pub absent : find key k (rows_of l cells) ≡ none
     pub place_is : place ≡ place_in l k cells
-    pub greatest-is : greatestFound (greatest key k.major (rows_of l cells)) ≡ g
+    pub greatest-is : greatest_found (greatest key k.major (rows_of l cells)) ≡ g

@@ -13,10 +13,10 @@ use Rattle.std.specs.Prelude.{ℕ, zero, suc, ◌/◌}
 
 -- "shall halve its range": how often so many rows are halved, rounded down, until none is left. Each turn of the loop is one such halving, whatever the keys. It takes a row away at least, so there are no more
 -- halvings than rows, which the first figure says.
-unfoldable pub halvingsUpTo : (most rows : ℕ) → ℕ
-halvingsUpTo zero rows = 0
-halvingsUpTo (suc most) zero = 0
-halvingsUpTo (suc most) (suc rows) = suc (halvingsUpTo most (suc rows / 2))
+unfoldable pub halvings_up_to : (most rows : ℕ) → ℕ
+halvings_up_to zero rows = 0
+halvings_up_to (suc most) zero = 0
+halvings_up_to (suc most) (suc rows) = suc (halvings_up_to most (suc rows / 2))
 
 unfoldable pub halvings : (rows : ℕ) → ℕ
-halvings rows = halvingsUpTo rows rows
+halvings rows = halvings_up_to rows rows

@@ -3,7 +3,7 @@
 ghost use Rattle.std.specs.Prelude.{◌≡◌, ◌+◌, ◌<◌, length};
 ghost use Rattle.rules.specs.Rows.{key_of};
 ghost use Rattle.rules.specs.Keyed.{below, same};
-ghost use Rattle.lookup.specs.Lookup.{Searchable, key_at, rowFound, rowPlace, rowSought};
+ghost use Rattle.lookup.specs.Lookup.{Searchable, key_at, row_found, row_place, row_sought};
 
 // "each search in at most 13 steps" (document 02, K6).
 const MOST_STEPS: usize = 13;
@@ -89,7 +89,7 @@ pub fn place_of(
     minor: i64,
 ) -> usize
     requires { Searchable header width count cells.now }
-    ensures { result ≡ rowPlace header width (key_of major minor) count cells.now }
+    ensures { result ≡ row_place header width (key_of major minor) count cells.now }
 {
     let few = count <= 16;
     let mut low = 0;
@@ -117,7 +117,7 @@ pub fn find_row(
     minor: i64,
 ) -> Found
     requires { Searchable header width count cells.now }
-    ensures { result ≡ rowFound header width (key_of major minor) count cells.now }
+    ensures { result ≡ row_found header width (key_of major minor) count cells.now }
 {
     let place = place_of(cells, header, width, count, major, minor);
     if place == 0 {
@@ -161,7 +161,7 @@ pub fn find_by_distance(
     minor: i64,
 ) -> Found
     requires { Searchable header width end cells.now × (0 < end) }
-    ensures { result ≡ rowFound header width (key_of major minor) end cells.now }
+    ensures { result ≡ row_found header width (key_of major minor) end cells.now }
 {
     let row = row_by_distance(end, greatest, minor);
     let at = header + row * width;
@@ -181,7 +181,7 @@ pub fn look_up(
     minor: i64,
 ) -> Sought
     requires { Searchable header width count cells.now }
-    ensures { result ≡ rowSought header width (key_of major minor) count cells.now }
+    ensures { result ≡ row_sought header width (key_of major minor) count cells.now }
 {
     let end = place_of(
         cells,

@@ -7,25 +7,25 @@ use native.Mathlib.Omega.{arith}
 use lib.IntN.{ℤ, neg_ℤ, ◌+ℤ◌, ◌*ℤ◌}
 use Rattle.integers.proofs.AverageLaws.{average-negℤ, residual-negℤ}
 use Rattle.integers.proofs.Ring.{diff, zdiff}
-use Rattle.rules.specs.Figures.{isBuy}
-use Rattle.rules.specs.Rows.{newRecord}
-use Rattle.rules.specs.Merge.{first_of, sumOfQuantities, sumOfValues, mergedRecord, mergeResidual}
+use Rattle.rules.specs.Figures.{is_buy}
+use Rattle.rules.specs.Rows.{new_record}
+use Rattle.rules.specs.Merge.{first_of, sum_of_quantities, sum_of_values, merged_record, merge_residual}
 use Rattle.rules.specs.declared.Record.{Record}
 use Rattle.margin.specs.Mirrored.{mirrored}
 
-quantities-stay : (rs : List Record) → sumOfQuantities (map mirrored rs) ≡ sumOfQuantities rs
-unfolding sumOfQuantities mirrored
+quantities-stay : (rs : List Record) → sum_of_quantities (map mirrored rs) ≡ sum_of_quantities rs
+unfolding sum_of_quantities mirrored
 quantities-stay [] = refl
 quantities-stay (r ∷ rest) = ap (λ (z : ℤ). r.quantity +ℤ z) (quantities-stay rest)
 
 one_more : (q p v : ℤ) → q *ℤ neg_ℤ p +ℤ neg_ℤ v ≡ neg_ℤ (q *ℤ p +ℤ v)
 one_more q p v = rw (diff q, diff p, diff v) (simp zdiff (omega arith))
 
-value-negated : (rs : List Record) → sumOfValues (map mirrored rs) ≡ neg_ℤ (sumOfValues rs)
-unfolding sumOfValues mirrored
+value-negated : (rs : List Record) → sum_of_values (map mirrored rs) ≡ neg_ℤ (sum_of_values rs)
+unfolding sum_of_values mirrored
 value-negated [] = refl
 value-negated (r ∷ rest) =
-    ap (λ (z : ℤ). r.quantity *ℤ neg_ℤ r.price +ℤ z) (value-negated rest) ∙ one_more r.quantity r.price (sumOfValues rest)
+    ap (λ (z : ℤ). r.quantity *ℤ neg_ℤ r.price +ℤ z) (value-negated rest) ∙ one_more r.quantity r.price (sum_of_values rest)
 
 -- ---- account, series and side of the first source stay
 
@@ -46,12 +46,12 @@ first-side (r ∷ rest) = refl
 
 -- ---- the merge
 
-pub merged-mirrored : (today id : ℤ) (rs : List Record) → mergedRecord today id (map mirrored rs) ≡ mirrored (mergedRecord today id rs)
-unfolding mergedRecord newRecord mirrored
+pub merged-mirrored : (today id : ℤ) (rs : List Record) → merged_record today id (map mirrored rs) ≡ mirrored (merged_record today id rs)
+unfolding merged_record new_record mirrored
 merged-mirrored today id rs =
-    rw (first-account rs, first-series rs, first-side rs, value-negated rs, quantities-stay rs, average-negℤ (sumOfValues rs) (sumOfQuantities rs)) refl
+    rw (first-account rs, first-series rs, first-side rs, value-negated rs, quantities-stay rs, average-negℤ (sum_of_values rs) (sum_of_quantities rs)) refl
 
-pub residual-mirrored : (rs : List Record) → mergeResidual (map mirrored rs) ≡ neg_ℤ (mergeResidual rs)
-unfolding mergeResidual
+pub residual-mirrored : (rs : List Record) → merge_residual (map mirrored rs) ≡ neg_ℤ (merge_residual rs)
+unfolding merge_residual
 residual-mirrored rs =
-    rw (first-side rs, value-negated rs, quantities-stay rs) (residual-negℤ (isBuy (first_of rs).side) (sumOfValues rs) (sumOfQuantities rs))
+    rw (first-side rs, value-negated rs, quantities-stay rs) (residual-negℤ (is_buy (first_of rs).side) (sum_of_values rs) (sum_of_quantities rs))

@@ -7,13 +7,13 @@ use native.Mathlib.Omega.{arith}
 use borrow.Author.Tests.{not-false}
 use lib.IntN.{ℤ, pos, neg_ℤ, ◌+ℤ◌, ◌-ℤ◌, ◌*ℤ◌, zero-*ℤ}
 use Rattle.integers.proofs.Ring.{diff, zdiff}
-use Rattle.rules.specs.Figures.{isBuy, signed}
+use Rattle.rules.specs.Figures.{is_buy, signed}
 use Rattle.rules.specs.Refusal.{any_of}
-use Rattle.rules.specs.Merge.{sideDiffers, sumOfQuantities, sumOfValues}
-use Rattle.rules.specs.Totals.{signedQuantity}
+use Rattle.rules.specs.Merge.{side_differs, sum_of_quantities, sum_of_values}
+use Rattle.rules.specs.Totals.{signed_quantity}
 use Rattle.rules.specs.declared.Record.{Record}
-use Rattle.soundness.proofs.Accepted.{anyOf-head, anyOf-tail}
-use Rattle.margin.specs.Margin.{marginOf, marginOfAll}
+use Rattle.soundness.proofs.Accepted.{any_of-head, any_of-tail}
+use Rattle.margin.specs.Margin.{margin_of, margin_of_all}
 
 beq-true : (a b : Bool) → beq a b ≡ true → a ≡ b
 beq-true true true h = refl
@@ -22,16 +22,16 @@ beq-true false true h = h
 beq-true false false h = refl
 
 -- Test 10 does not apply: the record's side is the first one's.
-one_side : (first r : Record) → sideDiffers first r ≡ false → isBuy r.side ≡ isBuy first.side
-unfolding sideDiffers
-one_side first r h = beq-true (isBuy r.side) (isBuy first.side) (not-false (beq (isBuy r.side) (isBuy first.side)) h)
+one_side : (first r : Record) → side_differs first r ≡ false → is_buy r.side ≡ is_buy first.side
+unfolding side_differs
+one_side first r h = beq-true (is_buy r.side) (is_buy first.side) (not-false (beq (is_buy r.side) (is_buy first.side)) h)
 
-pub margin-of-buy : (s : ℤ) (r : Record) → isBuy r.side ≡ true → marginOf s r ≡ r.quantity *ℤ (s -ℤ r.price)
-unfolding marginOf signedQuantity signed
+pub margin-of-buy : (s : ℤ) (r : Record) → is_buy r.side ≡ true → margin_of s r ≡ r.quantity *ℤ (s -ℤ r.price)
+unfolding margin_of signed_quantity signed
 margin-of-buy s r e = ap (λ (t : Bool). cond t r.quantity (neg_ℤ r.quantity) *ℤ (s -ℤ r.price)) e
 
-pub margin-of-sell : (s : ℤ) (r : Record) → isBuy r.side ≡ false → marginOf s r ≡ neg_ℤ r.quantity *ℤ (s -ℤ r.price)
-unfolding marginOf signedQuantity signed
+pub margin-of-sell : (s : ℤ) (r : Record) → is_buy r.side ≡ false → margin_of s r ≡ neg_ℤ r.quantity *ℤ (s -ℤ r.price)
+unfolding margin_of signed_quantity signed
 margin-of-sell s r e = ap (λ (t : Bool). cond t r.quantity (neg_ℤ r.quantity) *ℤ (s -ℤ r.price)) e
 
 pub one_more : (q s p qs vs : ℤ) → q *ℤ (s -ℤ p) +ℤ (qs *ℤ s -ℤ vs) ≡ (q +ℤ qs) *ℤ s -ℤ (q *ℤ p +ℤ vs)
@@ -40,20 +40,20 @@ one_more q s p qs vs = rw (diff q, diff s, diff p, diff qs, diff vs) (simp zdiff
 one-more-sell : (q s p qs vs : ℤ) → neg_ℤ q *ℤ (s -ℤ p) +ℤ neg_ℤ (qs *ℤ s -ℤ vs) ≡ neg_ℤ ((q +ℤ qs) *ℤ s -ℤ (q *ℤ p +ℤ vs))
 one-more-sell q s p qs vs = rw (diff q, diff s, diff p, diff qs, diff vs) (simp zdiff (omega arith))
 
-pub margin-of-buys : (s : ℤ) (first : Record) (rs : List Record) → isBuy first.side ≡ true → any_of (map (sideDiffers first) rs) ≡ false →
-    marginOfAll s rs ≡ sumOfQuantities rs *ℤ s -ℤ sumOfValues rs
-unfolding marginOfAll sumOfQuantities sumOfValues
+pub margin-of-buys : (s : ℤ) (first : Record) (rs : List Record) → is_buy first.side ≡ true → any_of (map (side_differs first) rs) ≡ false →
+    margin_of_all s rs ≡ sum_of_quantities rs *ℤ s -ℤ sum_of_values rs
+unfolding margin_of_all sum_of_quantities sum_of_values
 margin-of-buys s first [] e h = sym (ap (λ (z : ℤ). z -ℤ pos 0) (zero-*ℤ s))
 margin-of-buys s first (r ∷ rest) e h =
-    ap (λ (z : ℤ). z +ℤ marginOfAll s rest) (margin-of-buy s r (one_side first r (anyOf-head (sideDiffers first r) (map (sideDiffers first) rest) h) ∙ e))
-    ∙ ap (λ (z : ℤ). r.quantity *ℤ (s -ℤ r.price) +ℤ z) (margin-of-buys s first rest e (anyOf-tail (sideDiffers first r) (map (sideDiffers first) rest) h))
-    ∙ one_more r.quantity s r.price (sumOfQuantities rest) (sumOfValues rest)
+    ap (λ (z : ℤ). z +ℤ margin_of_all s rest) (margin-of-buy s r (one_side first r (any_of-head (side_differs first r) (map (side_differs first) rest) h) ∙ e))
+    ∙ ap (λ (z : ℤ). r.quantity *ℤ (s -ℤ r.price) +ℤ z) (margin-of-buys s first rest e (any_of-tail (side_differs first r) (map (side_differs first) rest) h))
+    ∙ one_more r.quantity s r.price (sum_of_quantities rest) (sum_of_values rest)
 
-pub margin-of-sells : (s : ℤ) (first : Record) (rs : List Record) → isBuy first.side ≡ false → any_of (map (sideDiffers first) rs) ≡ false →
-    marginOfAll s rs ≡ neg_ℤ (sumOfQuantities rs *ℤ s -ℤ sumOfValues rs)
-unfolding marginOfAll sumOfQuantities sumOfValues
+pub margin-of-sells : (s : ℤ) (first : Record) (rs : List Record) → is_buy first.side ≡ false → any_of (map (side_differs first) rs) ≡ false →
+    margin_of_all s rs ≡ neg_ℤ (sum_of_quantities rs *ℤ s -ℤ sum_of_values rs)
+unfolding margin_of_all sum_of_quantities sum_of_values
 margin-of-sells s first [] e h = sym (ap (λ (z : ℤ). neg_ℤ (z -ℤ pos 0)) (zero-*ℤ s))
 margin-of-sells s first (r ∷ rest) e h =
-    ap (λ (z : ℤ). z +ℤ marginOfAll s rest) (margin-of-sell s r (one_side first r (anyOf-head (sideDiffers first r) (map (sideDiffers first) rest) h) ∙ e))
-    ∙ ap (λ (z : ℤ). neg_ℤ r.quantity *ℤ (s -ℤ r.price) +ℤ z) (margin-of-sells s first rest e (anyOf-tail (sideDiffers first r) (map (sideDiffers first) rest) h))
-    ∙ one-more-sell r.quantity s r.price (sumOfQuantities rest) (sumOfValues rest)
+    ap (λ (z : ℤ). z +ℤ margin_of_all s rest) (margin-of-sell s r (one_side first r (any_of-head (side_differs first r) (map (side_differs first) rest) h) ∙ e))
+    ∙ ap (λ (z : ℤ). neg_ℤ r.quantity *ℤ (s -ℤ r.price) +ℤ z) (margin-of-sells s first rest e (any_of-tail (side_differs first r) (map (side_differs first) rest) h))
+    ∙ one-more-sell r.quantity s r.price (sum_of_quantities rest) (sum_of_values rest)

@@ -1,22 +1,22 @@
 // The changes of an accepted merge.
 ghost use Rattle.std.specs.Prelude.{◌≡◌, true, false, [], map, ◌+◌, ◌≤◌, ◌<◌, pos, length};
 ghost use Rattle.std.proofs.Math.Option.{none};
-ghost use Rattle.rules.specs.Keyed.{is_some, find, upsert, upsertAll};
-ghost use Rattle.rules.specs.Figures.{mergeKind};
-ghost use Rattle.rules.specs.Rows.{key_of, recordKey, soundRecord, adjustedRecord, newRecord};
-ghost use Rattle.rules.specs.NamedRecord.{isNotAdjustable};
+ghost use Rattle.rules.specs.Keyed.{is_some, find, upsert, upsert_all};
+ghost use Rattle.rules.specs.Figures.{merge_kind};
+ghost use Rattle.rules.specs.Rows.{key_of, record_key, sound_record, adjusted_record, new_record};
+ghost use Rattle.rules.specs.NamedRecord.{is_not_adjustable};
 ghost use Rattle.rules.specs.Refusal.{any_of, all_of};
 ghost use Rattle.rules.specs.Request as Request;
-ghost use Rattle.rules.specs.Layout.{roomOf, rows_of, write};
-ghost use Rattle.rules.specs.Tables.{recordsLayout, soundRecordRows, soundRecords, soundPositions};
-ghost use Rattle.rules.specs.Merge.{mergeInverses, pairsOf};
+ghost use Rattle.rules.specs.Layout.{room_of, rows_of, write};
+ghost use Rattle.rules.specs.Tables.{records_layout, sound_record_rows, sound_records, sound_positions};
+ghost use Rattle.rules.specs.Merge.{merge_inverses, pairs_of};
 ghost use Rattle.rules.specs.Handle.{answered};
 ghost use Rattle.requests.specs.KnownPosition.{KnownPosition};
-ghost use Rattle.verdict.specs.Verdict.{verdictOn, acceptedOn};
+ghost use Rattle.verdict.specs.Verdict.{verdict_on, accepted_on};
 ghost use Rattle.verdict.specs.declared.Verdict.TheVariants.{Accepted};
-ghost use Rattle.merge_sources.specs.Sources.{sourcesIn, allFound, sourceRecords, inverseNamed};
-ghost use Rattle.merge_sources.specs.Pairs.{repeatsFrom};
-ghost use Rattle.merge_sources.specs.Located.{rowsKnown};
+ghost use Rattle.merge_sources.specs.Sources.{sources_in, all_found, source_records, inverse_named};
+ghost use Rattle.merge_sources.specs.Pairs.{repeats_from};
+ghost use Rattle.merge_sources.specs.Located.{RowsKnown};
 
 use super::sources;
 use lookup::Sought;
@@ -27,8 +27,8 @@ use tables::{positions, records};
 
 // Each source becomes status 1, in the row that was kept.
 fn adjust_sources(records: &mut [i64], pairs: &[i64], rows: &[u16])
-    requires { (soundRecordRows records.old ≡ true) × (allFound records.old pairs.now ≡ true) × (any_of (map isNotAdjustable (sourceRecords records.old pairs.now)) ≡ false) × (any_of (repeatsFrom [] (pairsOf pairs.now)) ≡ false) × rowsKnown records.old pairs.now rows.now }
-    ensures { (records.new ≡ write recordsLayout records.old (upsertAll recordKey (map adjustedRecord (sourceRecords records.old pairs.now)) (rows_of recordsLayout records.old))) × (soundRecordRows records.new ≡ true) }
+    requires { (sound_record_rows records.old ≡ true) × (all_found records.old pairs.now ≡ true) × (any_of (map is_not_adjustable (source_records records.old pairs.now)) ≡ false) × (any_of (repeats_from [] (pairs_of pairs.now)) ≡ false) × RowsKnown records.old pairs.now rows.now }
+    ensures { (records.new ≡ write records_layout records.old (upsert_all record_key (map adjusted_record (source_records records.old pairs.now)) (rows_of records_layout records.old))) × (sound_record_rows records.new ≡ true) }
 {
     let count = pairs.len() / 2;
     let mut i = 0;
@@ -41,8 +41,8 @@ fn adjust_sources(records: &mut [i64], pairs: &[i64], rows: &[u16])
 
 // A source gets its inverse row, with its id's next suffix. The inverses before it have moved rows, so it is looked up anew: its row, the suffix and the place are one answer.
 fn insert_inverse(records: &mut [i64], today: i64, id: i64, suffix: i64, into: i64)
-    requires { (soundRecordRows records.old ≡ true) × (is_some (find recordKey (key_of id suffix) (rows_of recordsLayout records.old)) ≡ true) × (soundRecord (inverseNamed today records.old (key_of id suffix) into) ≡ true) × (length (rows_of recordsLayout records.old) < roomOf recordsLayout records.old) }
-    ensures { (records.new ≡ write recordsLayout records.old (upsert recordKey (inverseNamed today records.old (key_of id suffix) into) (rows_of recordsLayout records.old))) × (soundRecordRows records.new ≡ true) }
+    requires { (sound_record_rows records.old ≡ true) × (is_some (find record_key (key_of id suffix) (rows_of records_layout records.old)) ≡ true) × (sound_record (inverse_named today records.old (key_of id suffix) into) ≡ true) × (length (rows_of records_layout records.old) < room_of records_layout records.old) }
+    ensures { (records.new ≡ write records_layout records.old (upsert record_key (inverse_named today records.old (key_of id suffix) into) (rows_of records_layout records.old))) × (sound_record_rows records.new ≡ true) }
 {
     let Sought::Present(row, greatest, place) = records::look_up(records, id, suffix) else {
         // Never reached: the source has its record, by the second premise.
@@ -55,8 +55,8 @@ fn insert_inverse(records: &mut [i64], today: i64, id: i64, suffix: i64, into: i
 
 // Each source gets its inverse row, in list order.
 fn insert_inverses(records: &mut [i64], today: i64, pairs: &[i64], into: i64)
-    requires { (soundRecordRows records.old ≡ true) × (allFound records.old pairs.now ≡ true) × (all_of (map soundRecord (mergeInverses today into [] (sourcesIn records.old pairs.now))) ≡ true) × (length (rows_of recordsLayout records.old) + length (pairsOf pairs.now) ≤ roomOf recordsLayout records.old) }
-    ensures { (records.new ≡ write recordsLayout records.old (upsertAll recordKey (mergeInverses today into [] (sourcesIn records.old pairs.now)) (rows_of recordsLayout records.old))) × (soundRecordRows records.new ≡ true) }
+    requires { (sound_record_rows records.old ≡ true) × (all_found records.old pairs.now ≡ true) × (all_of (map sound_record (merge_inverses today into [] (sources_in records.old pairs.now))) ≡ true) × (length (rows_of records_layout records.old) + length (pairs_of pairs.now) ≤ room_of records_layout records.old) }
+    ensures { (records.new ≡ write records_layout records.old (upsert_all record_key (merge_inverses today into [] (sources_in records.old pairs.now)) (rows_of records_layout records.old))) × (sound_record_rows records.new ≡ true) }
 {
     let sources = pairs.len() / 2;
     let mut i = 0;
@@ -68,7 +68,7 @@ fn insert_inverses(records: &mut [i64], today: i64, pairs: &[i64], into: i64)
 
 // The merged row: its account, series and side code are the first source's.
 fn merged_row(today: i64, first: Record, id: i64, quantity: i64, price: i64) -> Record
-    ensures { result ≡ newRecord today id mergeKind first.account first.series first.side quantity price (pos 0) (pos 0) }
+    ensures { result ≡ new_record today id merge_kind first.account first.series first.side quantity price (pos 0) (pos 0) }
 {
     requests::new_record(
         today,
@@ -86,8 +86,8 @@ fn merged_row(today: i64, first: Record, id: i64, quantity: i64, price: i64) -> 
 
 // The merged row, where its key belongs now that the inverses are in.
 fn insert_merged(records: &mut [i64], merged: Record)
-    requires { (soundRecordRows records.old ≡ true) × (soundRecord merged ≡ true) × (find recordKey (recordKey merged) (rows_of recordsLayout records.old) ≡ none) × (length (rows_of recordsLayout records.old) < roomOf recordsLayout records.old) }
-    ensures { (records.new ≡ write recordsLayout records.old (upsert recordKey merged (rows_of recordsLayout records.old))) × (soundRecordRows records.new ≡ true) }
+    requires { (sound_record_rows records.old ≡ true) × (sound_record merged ≡ true) × (find record_key (record_key merged) (rows_of records_layout records.old) ≡ none) × (length (rows_of records_layout records.old) < room_of records_layout records.old) }
+    ensures { (records.new ≡ write records_layout records.old (upsert record_key merged (rows_of records_layout records.old))) × (sound_record_rows records.new ≡ true) }
 {
     let id = merged.id;
     let suffix = merged.suffix;
@@ -108,8 +108,8 @@ pub fn book(
     pairs: &[i64],
     rows: &[u16],
 ) -> Reply
-    requires { (soundRecords records.old ≡ true) × (soundPositions positions.old ≡ true) × (verdictOn records.old positions.old (Request.merge id account series pairs.now) ≡ Accepted) × rowsKnown records.old pairs.now rows.now × KnownPosition positions.old account series held }
-    ensures { answered result records.new positions.new ≡ acceptedOn records.old positions.old (Request.merge id account series pairs.now) }
+    requires { (sound_records records.old ≡ true) × (sound_positions positions.old ≡ true) × (verdict_on records.old positions.old (Request.merge id account series pairs.now) ≡ Accepted) × RowsKnown records.old pairs.now rows.now × KnownPosition positions.old account series held }
+    ensures { answered result records.new positions.new ≡ accepted_on records.old positions.old (Request.merge id account series pairs.now) }
 {
     let today = records::today(records);
     let first = sources::source_record(records, pairs, rows, 0);

@@ -1,23 +1,23 @@
 // The verdict on a merge, and the call that joins it with the booking.
 ghost use Rattle.std.specs.Prelude.{◌≡◌, true, false, [], map, ◌<◌, ◌≤◌, pos, length};
 ghost use Rattle.std.proofs.Math.Option.{none};
-ghost use Rattle.rules.specs.Figures.{isBuy};
+ghost use Rattle.rules.specs.Figures.{is_buy};
 ghost use Rattle.rules.specs.Keyed.{greatest};
-ghost use Rattle.rules.specs.Rows.{recordKey};
-ghost use Rattle.rules.specs.NamedRecord.{isElsewhere, isNotAdjustable};
+ghost use Rattle.rules.specs.Rows.{record_key};
+ghost use Rattle.rules.specs.NamedRecord.{is_elsewhere, is_not_adjustable};
 ghost use Rattle.rules.specs.Refusal.{any_of};
 ghost use Rattle.rules.specs.Request as Request;
 ghost use Rattle.rules.specs.Layout.{rows_of};
-ghost use Rattle.rules.specs.Tables.{recordsLayout, soundRecordRows, soundRecords, soundPositions};
+ghost use Rattle.rules.specs.Tables.{records_layout, sound_record_rows, sound_records, sound_positions};
 ghost use Rattle.rules.specs.Handle.{answered};
-ghost use Rattle.rules.specs.Merge.{mergeFigures, pairsOf, closes, sideDiffers, first_of};
+ghost use Rattle.rules.specs.Merge.{merge_figures, pairs_of, closes, side_differs, first_of};
 ghost use Rattle.requests.specs.KnownPosition.{KnownPosition};
-ghost use Rattle.verdict.specs.Verdict.{verdictOn};
+ghost use Rattle.verdict.specs.Verdict.{verdict_on};
 ghost use Rattle.verdict.specs.HandledSoundly.{HandledSoundly};
 ghost use Rattle.verdict.specs.declared.Verdict.TheVariants.{Refused, Accepted};
-ghost use Rattle.merge_sources.specs.Sources.{allFound, sourceRecords};
-ghost use Rattle.merge_sources.specs.Pairs.{repeatsFrom};
-ghost use Rattle.merge_sources.specs.Located.{rowsKnown, suffixesKnown};
+ghost use Rattle.merge_sources.specs.Sources.{all_found, source_records};
+ghost use Rattle.merge_sources.specs.Pairs.{repeats_from};
+ghost use Rattle.merge_sources.specs.Located.{RowsKnown, SuffixesKnown};
 
 use super::{booking, sources};
 use lookup::{Greatest, Sought};
@@ -47,8 +47,8 @@ pub fn verdict(
     rows: &mut [u16],
     suffixes: &mut [u16],
 ) -> Verdict
-    requires { (soundRecordRows records.now ≡ true) × (soundPositions positions.now ≡ true) × KnownPosition positions.now account series held × (1000 ≤ length rows.old) × (1000 ≤ length suffixes.old) }
-    ensures { (result ≡ verdictOn records.now positions.now (Request.merge id account series pairs.now)) × (result ≡ Accepted → rowsKnown records.now pairs.now rows.new) }
+    requires { (sound_record_rows records.now ≡ true) × (sound_positions positions.now ≡ true) × KnownPosition positions.now account series held × (1000 ≤ length rows.old) × (1000 ≤ length suffixes.old) }
+    ensures { (result ≡ verdict_on records.now positions.now (Request.merge id account series pairs.now)) × (result ≡ Accepted → RowsKnown records.now pairs.now rows.new) }
 {
     if !pairs::figures_valid(id, account, series, pairs) {
         return Verdict::Refused(3, 0);
@@ -79,9 +79,9 @@ fn verdict_on_sources(
     rows: &[u16],
     suffixes: &[u16],
 ) -> Verdict
-    requires records_value { (soundRecordRows records.now ≡ true) × (soundPositions positions.now ≡ true) × KnownPosition positions.now account series held × rowsKnown records.now pairs.now rows.now × suffixesKnown records.now pairs.now suffixes.now }
-    requires pairs_value { (mergeFigures id account series pairs.now ≡ true) × (greatest recordKey id (rows_of recordsLayout records.now) ≡ none) × (allFound records.now pairs.now ≡ true) }
-    ensures { result ≡ verdictOn records.now positions.now (Request.merge id account series pairs.now) }
+    requires records_value { (sound_record_rows records.now ≡ true) × (sound_positions positions.now ≡ true) × KnownPosition positions.now account series held × RowsKnown records.now pairs.now rows.now × SuffixesKnown records.now pairs.now suffixes.now }
+    requires pairs_value { (merge_figures id account series pairs.now ≡ true) × (greatest record_key id (rows_of records_layout records.now) ≡ none) × (all_found records.now pairs.now ≡ true) }
+    ensures { result ≡ verdict_on records.now positions.now (Request.merge id account series pairs.now) }
 {
     if let Place::At(i) = sources::first_failing(records, pairs, rows, 6, account, series, true) {
         return refused_at(6, i);
@@ -135,11 +135,11 @@ fn verdict_on_sums(
     suffixes: &[u16],
     buy: bool,
 ) -> Verdict
-    requires records_value { (soundRecordRows records.now ≡ true) × (soundPositions positions.now ≡ true) × KnownPosition positions.now account series held × rowsKnown records.now pairs.now rows.now × suffixesKnown records.now pairs.now suffixes.now }
-    requires pairs_value { (mergeFigures id account series pairs.now ≡ true) × (greatest recordKey id (rows_of recordsLayout records.now) ≡ none) × (allFound records.now pairs.now ≡ true) }
-    requires pairs_value_2 { (any_of (map (isElsewhere account series) (sourceRecords records.now pairs.now)) ≡ false) × (any_of (map isNotAdjustable (sourceRecords records.now pairs.now)) ≡ false) × (any_of (map closes (sourceRecords records.now pairs.now)) ≡ false) }
-    requires pairs_value_3 { (any_of (repeatsFrom [] (pairsOf pairs.now)) ≡ false) × (any_of (map (sideDiffers (first_of (sourceRecords records.now pairs.now))) (sourceRecords records.now pairs.now)) ≡ false) × (buy ≡ isBuy (first_of (sourceRecords records.now pairs.now)).side) }
-    ensures { result ≡ verdictOn records.now positions.now (Request.merge id account series pairs.now) }
+    requires records_value { (sound_record_rows records.now ≡ true) × (sound_positions positions.now ≡ true) × KnownPosition positions.now account series held × RowsKnown records.now pairs.now rows.now × SuffixesKnown records.now pairs.now suffixes.now }
+    requires pairs_value { (merge_figures id account series pairs.now ≡ true) × (greatest record_key id (rows_of records_layout records.now) ≡ none) × (all_found records.now pairs.now ≡ true) }
+    requires pairs_value_2 { (any_of (map (is_elsewhere account series) (source_records records.now pairs.now)) ≡ false) × (any_of (map is_not_adjustable (source_records records.now pairs.now)) ≡ false) × (any_of (map closes (source_records records.now pairs.now)) ≡ false) }
+    requires pairs_value_3 { (any_of (repeats_from [] (pairs_of pairs.now)) ≡ false) × (any_of (map (side_differs (first_of (source_records records.now pairs.now))) (source_records records.now pairs.now)) ≡ false) × (buy ≡ is_buy (first_of (source_records records.now pairs.now)).side) }
+    ensures { result ≡ verdict_on records.now positions.now (Request.merge id account series pairs.now) }
 {
     let quantity = sources::sum_of_quantities(records, pairs, rows);
     if MOST_QUANTITY < quantity {
@@ -173,7 +173,7 @@ pub fn on_sound(
     series: i64,
     pairs: &[i64],
 ) -> Reply
-    requires { (soundRecords records.old ≡ true) × (soundPositions positions.old ≡ true) }
+    requires { (sound_records records.old ≡ true) × (sound_positions positions.old ≡ true) }
     ensures { HandledSoundly records.old positions.old (Request.merge id account series pairs.now) (answered result records.new positions.new) }
 {
     let held = requests::position_held(positions, account, series);

@@ -1,18 +1,18 @@
 // The sources of a merge in the records table, which is sound.
 ghost use Rattle.std.specs.Prelude.{◌≡◌, true, false, [], map, ◌+◌, ◌*◌, ◌≤◌, ◌<◌, pos, length, ◌≤ℤ◌};
 ghost use Rattle.std.proofs.Math.Option.{some};
-ghost use Rattle.rules.specs.Figures.{mostQuantity};
+ghost use Rattle.rules.specs.Figures.{most_quantity};
 ghost use Rattle.rules.specs.Keyed.{find};
-ghost use Rattle.rules.specs.Rows.{recordKey};
-ghost use Rattle.rules.specs.NamedRecord.{isNotAdjustable};
+ghost use Rattle.rules.specs.Rows.{record_key};
+ghost use Rattle.rules.specs.NamedRecord.{is_not_adjustable};
 ghost use Rattle.rules.specs.Refusal.{any_of};
-ghost use Rattle.rules.specs.Plan.{suffixIsAbove};
+ghost use Rattle.rules.specs.Plan.{suffix_is_above};
 ghost use Rattle.rules.specs.Layout.{rows_of};
-ghost use Rattle.rules.specs.Tables.{recordsLayout, soundRecordRows};
-ghost use Rattle.rules.specs.Merge.{isMissing, sumOfQuantities, sumOfValues, mergeInverses};
-ghost use Rattle.merge_sources.specs.Sources.{sourcesIn, place_of, failsTest, allFound, sourceRecords};
+ghost use Rattle.rules.specs.Tables.{records_layout, sound_record_rows};
+ghost use Rattle.rules.specs.Merge.{is_missing, sum_of_quantities, sum_of_values, merge_inverses};
+ghost use Rattle.merge_sources.specs.Sources.{sources_in, place_of, fails_test, all_found, source_records};
 ghost use Rattle.merge_sources.specs.Pairs.{pair_at};
-ghost use Rattle.merge_sources.specs.Located.{rowsKnown, suffixesKnown};
+ghost use Rattle.merge_sources.specs.Located.{RowsKnown, SuffixesKnown};
 ghost use Rattle.merge_sources.specs.declared.Place.TheVariants.{Nowhere};
 
 use lookup::Sought;
@@ -23,8 +23,8 @@ use tables::records;
 
 // 5: the first source that has no record. Where there is none, the row of each is kept, and the greatest suffix of its id.
 pub fn locate(records: &[i64], pairs: &[i64], rows: &mut [u16], suffixes: &mut [u16]) -> Place
-    requires { (soundRecordRows records.now ≡ true) × (length pairs.now ≤ 2 * length rows.old) × (length pairs.now ≤ 2 * length suffixes.old) }
-    ensures { (result ≡ place_of (map isMissing (sourcesIn records.now pairs.now))) × (result ≡ Nowhere → rowsKnown records.now pairs.now rows.new × suffixesKnown records.now pairs.now suffixes.new) }
+    requires { (sound_record_rows records.now ≡ true) × (length pairs.now ≤ 2 * length rows.old) × (length pairs.now ≤ 2 * length suffixes.old) }
+    ensures { (result ≡ place_of (map is_missing (sources_in records.now pairs.now))) × (result ≡ Nowhere → RowsKnown records.now pairs.now rows.new × SuffixesKnown records.now pairs.now suffixes.new) }
 {
     let count = pairs.len() / 2;
     let mut i = 0;
@@ -45,15 +45,15 @@ pub fn locate(records: &[i64], pairs: &[i64], rows: &mut [u16], suffixes: &mut [
 
 // The record of the source at a place, by its row.
 pub fn source_record(records: &[i64], pairs: &[i64], rows: &[u16], place: usize) -> Record
-    requires { (soundRecordRows records.now ≡ true) × rowsKnown records.now pairs.now rows.now × (2 * place + 2 ≤ length pairs.now) }
-    ensures { find recordKey (pair_at pairs.now place) (rows_of recordsLayout records.now) ≡ some result }
+    requires { (sound_record_rows records.now ≡ true) × RowsKnown records.now pairs.now rows.now × (2 * place + 2 ≤ length pairs.now) }
+    ensures { find record_key (pair_at pairs.now place) (rows_of records_layout records.now) ≡ some result }
 {
     records::read_record(records, rows[place] as usize)
 }
 
 // Tests 6, 7, 8 and 10 of one source.
 fn source_fails(number: i64, account: i64, series: i64, buy: bool, r: Record) -> bool
-    ensures { result ≡ failsTest number account series buy r }
+    ensures { result ≡ fails_test number account series buy r }
 {
     if number == 6 {
         return requests::is_elsewhere(r, account, series);
@@ -80,8 +80,8 @@ pub fn first_failing(
     series: i64,
     buy: bool,
 ) -> Place
-    requires { (soundRecordRows records.now ≡ true) × rowsKnown records.now pairs.now rows.now }
-    ensures { result ≡ place_of (map (failsTest number account series buy) (sourceRecords records.now pairs.now)) }
+    requires { (sound_record_rows records.now ≡ true) × RowsKnown records.now pairs.now rows.now }
+    ensures { result ≡ place_of (map (fails_test number account series buy) (source_records records.now pairs.now)) }
 {
     let count = pairs.len() / 2;
     let mut i = 0;
@@ -102,8 +102,8 @@ pub fn first_failing(
 
 // Q.
 pub fn sum_of_quantities(records: &[i64], pairs: &[i64], rows: &[u16]) -> i64
-    requires { (soundRecordRows records.now ≡ true) × rowsKnown records.now pairs.now rows.now × (allFound records.now pairs.now ≡ true) × (length pairs.now ≤ 2000) }
-    ensures { result ≡ sumOfQuantities (sourceRecords records.now pairs.now) }
+    requires { (sound_record_rows records.now ≡ true) × RowsKnown records.now pairs.now rows.now × (all_found records.now pairs.now ≡ true) × (length pairs.now ≤ 2000) }
+    ensures { result ≡ sum_of_quantities (source_records records.now pairs.now) }
 {
     let count = pairs.len() / 2;
     let mut sum: i64 = 0;
@@ -118,8 +118,8 @@ pub fn sum_of_quantities(records: &[i64], pairs: &[i64], rows: &[u16]) -> i64
 
 // V, once Q is known to be at most 1,000,000 and every quantity to be positive.
 pub fn sum_of_values(records: &[i64], pairs: &[i64], rows: &[u16]) -> i64
-    requires { (soundRecordRows records.now ≡ true) × rowsKnown records.now pairs.now rows.now × (allFound records.now pairs.now ≡ true) × (length pairs.now ≤ 2000) × (any_of (map isNotAdjustable (sourceRecords records.now pairs.now)) ≡ false) × (sumOfQuantities (sourceRecords records.now pairs.now) ≤ℤ pos mostQuantity) }
-    ensures { result ≡ sumOfValues (sourceRecords records.now pairs.now) }
+    requires { (sound_record_rows records.now ≡ true) × RowsKnown records.now pairs.now rows.now × (all_found records.now pairs.now ≡ true) × (length pairs.now ≤ 2000) × (any_of (map is_not_adjustable (source_records records.now pairs.now)) ≡ false) × (sum_of_quantities (source_records records.now pairs.now) ≤ℤ pos most_quantity) }
+    ensures { result ≡ sum_of_values (source_records records.now pairs.now) }
 {
     let count = pairs.len() / 2;
     let mut sum: i64 = 0;
@@ -134,8 +134,8 @@ pub fn sum_of_values(records: &[i64], pairs: &[i64], rows: &[u16]) -> i64
 
 // 13: whether an inverse would need a suffix above 65,535.
 pub fn suffix_above(records: &[i64], pairs: &[i64], suffixes: &[u16]) -> bool
-    requires { (soundRecordRows records.now ≡ true) × (length pairs.now ≤ 2000) × suffixesKnown records.now pairs.now suffixes.now }
-    ensures { result ≡ any_of (map suffixIsAbove (mergeInverses (pos 0) (pos 0) [] (sourcesIn records.now pairs.now))) }
+    requires { (sound_record_rows records.now ≡ true) × (length pairs.now ≤ 2000) × SuffixesKnown records.now pairs.now suffixes.now }
+    ensures { result ≡ any_of (map suffix_is_above (merge_inverses (pos 0) (pos 0) [] (sources_in records.now pairs.now))) }
 {
     let count = pairs.len() / 2;
     let mut i = 0;

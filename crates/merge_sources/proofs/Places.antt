@@ -8,7 +8,7 @@ use mathlib.Core.Bool.{Bool, true, false}
 use mathlib.Core.List.{List, [], ◌∷◌}
 use lib.ListN.{length, get_or, take}
 use lib.Seq.{take_all}
-use Rattle.rules.specs.Refusal.{any_of, all_of, firstPlace}
+use Rattle.rules.specs.Refusal.{any_of, all_of, first_place}
 use Rattle.keys.proofs.Split.{clash}
 use Rattle.merge_sources.specs.Sources.{place_of}
 use Rattle.merge_sources.specs.declared.Place.TheVariants.{At, Nowhere}
@@ -48,8 +48,8 @@ none-holds (false ∷ rest) (suc i) h e = none-holds rest i (omega arith) e
 
 -- ---- the place of the first
 
-pub first-place : (fails : List Bool) (i : ℕ) → i < length fails → any_of (take i fails) ≡ false → get_or fails i false ≡ true → firstPlace fails ≡ i
-unfolding any_of firstPlace
+pub first-place : (fails : List Bool) (i : ℕ) → i < length fails → any_of (take i fails) ≡ false → get_or fails i false ≡ true → first_place fails ≡ i
+unfolding any_of first_place
 first-place [] i h none e = absurd (omega arith)
 first-place (b ∷ rest) zero h none e = rw e
 first-place (true ∷ rest) (suc i) h none e = clash refl none
@@ -59,7 +59,7 @@ pub place-nowhere : (fails : List Bool) → any_of fails ≡ false → place_of 
 unfolding place_of
 place-nowhere fails e = rw e
 
-pub place-somewhere : (fails : List Bool) → any_of fails ≡ true → place_of fails ≡ At (firstPlace fails)
+pub place-somewhere : (fails : List Bool) → any_of fails ≡ true → place_of fails ≡ At (first_place fails)
 unfolding place_of
 place-somewhere fails e = rw e
 
@@ -70,28 +70,28 @@ pub place-at-last : (fails : List Bool) (i : ℕ) → length fails ≤ i → any
 place-at-last fails i h none = place-nowhere fails (none-at-last fails i h none)
 
 -- What an answer says of the tests.
-pub place-tells : (fails : List Bool) (i : ℕ) → place_of fails ≡ At i → (any_of fails ≡ true) × (firstPlace fails ≡ i)
+pub place-tells : (fails : List Bool) (i : ℕ) → place_of fails ≡ At i → (any_of fails ≡ true) × (first_place fails ≡ i)
 unfolding place_of
 place-tells fails i e = go (any_of fails) refl
   where
-    go : (b : Bool) → any_of fails ≡ b → (any_of fails ≡ true) × (firstPlace fails ≡ i)
-    go true t = let f : At (firstPlace fails) ≡ At i = sym (place-somewhere fails t) ∙ e in (t, cc)
+    go : (b : Bool) → any_of fails ≡ b → (any_of fails ≡ true) × (first_place fails ≡ i)
+    go true t = let f : At (first_place fails) ≡ At i = sym (place-somewhere fails t) ∙ e in (t, cc)
     go false t = let f : Nowhere ≡ At i = sym (place-nowhere fails t) ∙ e in let z : ◌≡◌ {A = ℕ} 0 1 = cc in absurd (omega arith)
 
-first-within : (fails : List Bool) → any_of fails ≡ true → firstPlace fails < length fails
-unfolding any_of firstPlace
+first-within : (fails : List Bool) → any_of fails ≡ true → first_place fails < length fails
+unfolding any_of first_place
 first-within [] e = clash e refl
 first-within (true ∷ rest) e = omega arith
-first-within (false ∷ rest) e = let again : firstPlace rest < length rest = first-within rest e in omega arith
+first-within (false ∷ rest) e = let again : first_place rest < length rest = first-within rest e in omega arith
 
 pub place-within : (fails : List Bool) (i : ℕ) → place_of fails ≡ At i → i < length fails
-place-within fails i e = let t : (any_of fails ≡ true) × (firstPlace fails ≡ i) = place-tells fails i e in subst (λ (n : ℕ). n < length fails) t.1 (first-within fails t.0)
+place-within fails i e = let t : (any_of fails ≡ true) × (first_place fails ≡ i) = place-tells fails i e in subst (λ (n : ℕ). n < length fails) t.1 (first-within fails t.0)
 
 pub nowhere-tells : (fails : List Bool) → place_of fails ≡ Nowhere → any_of fails ≡ false
 nowhere-tells fails e = go (any_of fails) refl
   where
     go : (b : Bool) → any_of fails ≡ b → any_of fails ≡ false
-    go true t = let f : At (firstPlace fails) ≡ Nowhere = sym (place-somewhere fails t) ∙ e in let z : ◌≡◌ {A = ℕ} 0 1 = cc in absurd (omega arith)
+    go true t = let f : At (first_place fails) ≡ Nowhere = sym (place-somewhere fails t) ∙ e in let z : ◌≡◌ {A = ℕ} 0 1 = cc in absurd (omega arith)
     go false t = t
 
 -- ---- tests that must all hold

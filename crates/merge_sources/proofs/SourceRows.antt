@@ -11,16 +11,16 @@ use lib.IntN.{ℤ, pos}
 use lib.ListN.{length, get_or, set}
 use lib.Seq.{get_or-set_same, get_or-set_other}
 use Rattle.rules.specs.Keyed.{find, greatest}
-use Rattle.rules.specs.Rows.{recordKey}
+use Rattle.rules.specs.Rows.{record_key}
 use Rattle.rules.specs.Layout.{rows_of, row_at}
-use Rattle.rules.specs.Tables.{recordsLayout, soundRecordRows}
+use Rattle.rules.specs.Tables.{records_layout, sound_record_rows}
 use Rattle.cells.proofs.Count.{room_most}
 use Rattle.cells.proofs.SoundCells.{records-known}
-use Rattle.lookup.specs.Lookup.{foundIn}
+use Rattle.lookup.specs.Lookup.{found_in}
 use Rattle.lookup.specs.declared.Found.TheVariants.{Row}
 use Rattle.lookup.proofs.TableLookup.{records-first, table-found}
 use Rattle.merge_sources.specs.Pairs.{pair_at}
-use Rattle.merge_sources.specs.Located.{rowsKnown, suffixesKnown}
+use Rattle.merge_sources.specs.Located.{RowsKnown, SuffixesKnown}
 
 before : (i n : ℕ) → i < n → i ≡ n → ⊥
 before i n lt e = omega arith
@@ -42,37 +42,37 @@ module _ (Known : ℕ → ℕ → Type 0) where
 module _ (cells pairs : List ℤ) where
   -- The row of the pair at a place, and the greatest suffix of its id.
   abbrev pub RowOfPair : ℕ → ℕ → Type 0
-  RowOfPair i row = foundIn recordsLayout (pair_at pairs i) cells ≡ Row row
+  RowOfPair i row = found_in records_layout (pair_at pairs i) cells ≡ Row row
 
   abbrev pub SuffixOfPair : ℕ → ℕ → Type 0
-  SuffixOfPair i suffix = greatest recordKey (pair_at pairs i).major (rows_of recordsLayout cells) ≡ some (pos suffix)
+  SuffixOfPair i suffix = greatest record_key (pair_at pairs i).major (rows_of records_layout cells) ≡ some (pos suffix)
 
   module _ (kept : List ℕ) (n : ℕ) (room : length pairs ≤ 2 * length kept) (all : length pairs / 2 ≤ n) where
-    pub rows-known : KnownTo RowOfPair kept n → rowsKnown cells pairs kept
-    unfolding rowsKnown
+    pub rows-known : KnownTo RowOfPair kept n → RowsKnown cells pairs kept
+    unfolding RowsKnown
     rows-known known = (room, λ i h. known i (omega arith))
 
-    pub suffixes-known : KnownTo SuffixOfPair kept n → suffixesKnown cells pairs kept
-    unfolding suffixesKnown
+    pub suffixes-known : KnownTo SuffixOfPair kept n → SuffixesKnown cells pairs kept
+    unfolding SuffixesKnown
     suffixes-known known = (room, λ i h. known i (omega arith))
 
   -- A row that was found is a row of the table, with the record of its pair.
   module _ (place row : ℕ) (e : RowOfPair place row) where
-    pub row_within : row < length (rows_of recordsLayout cells)
-    row_within = (table-found recordsLayout recordKey records-first cells (pair_at pairs place) row e).0
+    pub row_within : row < length (rows_of records_layout cells)
+    row_within = (table-found records_layout record_key records-first cells (pair_at pairs place) row e).0
 
-    pub row-record : find recordKey (pair_at pairs place) (rows_of recordsLayout cells) ≡ some (row_at recordsLayout cells row)
-    row-record = (table-found recordsLayout recordKey records-first cells (pair_at pairs place) row e).1
+    pub row-record : find record_key (pair_at pairs place) (rows_of records_layout cells) ≡ some (row_at records_layout cells row)
+    row-record = (table-found records_layout record_key records-first cells (pair_at pairs place) row e).1
 
-    pub row_small : soundRecordRows cells ≡ true → row < 65536
-    row_small sound = omega (arith, row_within, (records-known cells sound).rows_fit, room_most recordsLayout cells)
+    pub row_small : sound_record_rows cells ≡ true → row < 65536
+    row_small sound = omega (arith, row_within, (records-known cells sound).rows_fit, room_most records_layout cells)
 
   -- Where the rows are known, and the suffixes.
   module _ (kept : List ℕ) (place : ℕ) (h : 2 * place + 2 ≤ length pairs) where
-    pub row_kept : rowsKnown cells pairs kept → (place < length kept) × RowOfPair place (get_or kept place 0)
-    unfolding rowsKnown
+    pub row_kept : RowsKnown cells pairs kept → (place < length kept) × RowOfPair place (get_or kept place 0)
+    unfolding RowsKnown
     row_kept known = (omega (arith, known.0), known.1 place h)
 
-    pub suffix-kept : suffixesKnown cells pairs kept → (place < length kept) × SuffixOfPair place (get_or kept place 0)
-    unfolding suffixesKnown
+    pub suffix-kept : SuffixesKnown cells pairs kept → (place < length kept) × SuffixOfPair place (get_or kept place 0)
+    unfolding SuffixesKnown
     suffix-kept known = (omega (arith, known.0), known.1 place h)

@@ -1,52 +1,52 @@
 -- The sources of a merge as the code sees them, and what it answers about a list of sources.
 use Rattle.std.specs.Prelude.{Bool, cond, not, List, [], ◌∷◌, map, ℤ, pos}
 use Rattle.std.specs.Bool.{beq}
-use Rattle.integers.specs.Order.{eqZ}
-use Rattle.rules.specs.Figures.{isBuy, mergeKind}
+use Rattle.integers.specs.Order.{eq_z}
+use Rattle.rules.specs.Figures.{is_buy, merge_kind}
 use Rattle.rules.specs.Keyed.{Key, find, greatest}
-use Rattle.rules.specs.Rows.{key_of, recordKey, inverseRecord}
-use Rattle.rules.specs.NamedRecord.{theRecord, nextSuffix, isElsewhere, isNotAdjustable}
-use Rattle.rules.specs.Refusal.{any_of, firstPlace}
+use Rattle.rules.specs.Rows.{key_of, record_key, inverse_record}
+use Rattle.rules.specs.NamedRecord.{the_record, next_suffix, is_elsewhere, is_not_adjustable}
+use Rattle.rules.specs.Refusal.{any_of, first_place}
 use Rattle.rules.specs.Layout.{rows_of}
-use Rattle.rules.specs.Tables.{recordsLayout}
-use Rattle.rules.specs.Merge.{Source, pairsOf, closes, isMissing, recordsOf}
+use Rattle.rules.specs.Tables.{records_layout}
+use Rattle.rules.specs.Merge.{Source, pairs_of, closes, is_missing, records_of}
 use Rattle.rules.specs.declared.Record.{Record}
 use Rattle.merge_sources.specs.declared.Place.{Place}
 use Rattle.merge_sources.specs.declared.Place.TheVariants.{At, Nowhere}
 
 -- The named pairs with what the records table has of them.
-unfoldable pub sourcesAt : List Record → List Key → List Source
-sourcesAt rows [] = []
-sourcesAt rows (k ∷ rest) =
-    record { pair = k; found = find recordKey (key_of k.major k.minor) rows; greatest = greatest recordKey k.major rows } ∷ sourcesAt rows rest
+unfoldable pub sources_at : List Record → List Key → List Source
+sources_at rows [] = []
+sources_at rows (k ∷ rest) =
+    record { pair = k; found = find record_key (key_of k.major k.minor) rows; greatest = greatest record_key k.major rows } ∷ sources_at rows rest
 
-unfoldable pub sourcesIn : List ℤ → List ℤ → List Source
-sourcesIn cells pairs = sourcesAt (rows_of recordsLayout cells) (pairsOf pairs)
+unfoldable pub sources_in : List ℤ → List ℤ → List Source
+sources_in cells pairs = sources_at (rows_of records_layout cells) (pairs_of pairs)
 
 -- The first place where a test fails, or nowhere.
 unfoldable pub place_of : List Bool → Place
-place_of fails = cond (any_of fails) (At (firstPlace fails)) Nowhere
+place_of fails = cond (any_of fails) (At (first_place fails)) Nowhere
 
 -- Tests 6, 7, 8 and 10 of one source; `buy` is the side of the first.
-unfoldable pub failsTest : ℤ → ℤ → ℤ → Bool → Record → Bool
-failsTest number account series buy r =
-    cond (eqZ number (pos 6)) (isElsewhere account series r)
-    (cond (eqZ number (pos 7)) (isNotAdjustable r)
-    (cond (eqZ number (pos 8)) (closes r)
-    (not (beq (isBuy r.side) buy))))
+unfoldable pub fails_test : ℤ → ℤ → ℤ → Bool → Record → Bool
+fails_test number account series buy r =
+    cond (eq_z number (pos 6)) (is_elsewhere account series r)
+    (cond (eq_z number (pos 7)) (is_not_adjustable r)
+    (cond (eq_z number (pos 8)) (closes r)
+    (not (beq (is_buy r.side) buy))))
 
 -- The record of a pair, and the inverse that it gets in a merge into a new id: "an inverse row of type 901 with its id's next suffix, parent the source, into = the
 -- new id".
-abbrev pub recordNamed : List ℤ → Key → Record
-recordNamed cells k = theRecord (find recordKey k (rows_of recordsLayout cells))
+abbrev pub record_named : List ℤ → Key → Record
+record_named cells k = the_record (find record_key k (rows_of records_layout cells))
 
-abbrev pub inverseNamed : (today : ℤ) → List ℤ → Key → ℤ → Record
-inverseNamed today cells k into =
-    inverseRecord today (recordNamed cells k) (nextSuffix (greatest recordKey k.major (rows_of recordsLayout cells))) mergeKind (pos 0) (pos 0) into
+abbrev pub inverse_named : (today : ℤ) → List ℤ → Key → ℤ → Record
+inverse_named today cells k into =
+    inverse_record today (record_named cells k) (next_suffix (greatest record_key k.major (rows_of records_layout cells))) merge_kind (pos 0) (pos 0) into
 
 -- No source is missing.
-abbrev pub allFound : List ℤ → List ℤ → Bool
-allFound cells pairs = not (any_of (map isMissing (sourcesIn cells pairs)))
+abbrev pub all_found : List ℤ → List ℤ → Bool
+all_found cells pairs = not (any_of (map is_missing (sources_in cells pairs)))
 
-abbrev pub sourceRecords : List ℤ → List ℤ → List Record
-sourceRecords cells pairs = recordsOf (sourcesIn cells pairs)
+abbrev pub source_records : List ℤ → List ℤ → List Record
+source_records cells pairs = records_of (sources_in cells pairs)

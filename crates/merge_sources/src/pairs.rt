@@ -1,14 +1,14 @@
 // The list of pairs, id and suffix in turn.
 ghost use Rattle.std.specs.Prelude.{◌≡◌, true, map, ◌+◌, ◌*◌, ◌≤◌, ◌<◌, ◌%◌, length};
 ghost use Rattle.rules.specs.Refusal.{all_of};
-ghost use Rattle.rules.specs.Merge.{pairsOf, validPair, mergeFigures};
-ghost use Rattle.merge_sources.specs.Pairs.{repeatedPlace, standsEarlier, timesEarlier};
+ghost use Rattle.rules.specs.Merge.{pairs_of, valid_pair, merge_figures};
+ghost use Rattle.merge_sources.specs.Pairs.{repeated_place, stands_earlier, times_earlier};
 
 use super::Place;
 
 // Every pair's id and suffix in range.
 fn pairs_valid(pairs: &[i64]) -> bool
-    ensures { result ≡ all_of (map validPair (pairsOf pairs.now)) }
+    ensures { result ≡ all_of (map valid_pair (pairs_of pairs.now)) }
 {
     let count = pairs.len() / 2;
     let mut i = 0;
@@ -26,7 +26,7 @@ fn pairs_valid(pairs: &[i64]) -> bool
 
 // 3: every figure in its range, an even list, 2 to 1,000 sources.
 pub fn figures_valid(id: i64, account: i64, series: i64, pairs: &[i64]) -> bool
-    ensures { result ≡ mergeFigures id account series pairs.now }
+    ensures { result ≡ merge_figures id account series pairs.now }
 {
     if !figures::valid_id(id) {
         return false;
@@ -52,7 +52,7 @@ pub fn figures_valid(id: i64, account: i64, series: i64, pairs: &[i64]) -> bool
 // Whether the pair at a place stands at an earlier one.
 fn stands_earlier(pairs: &[i64], place: usize) -> bool
     requires { 2 * place + 2 ≤ length pairs.now }
-    ensures { result ≡ standsEarlier pairs.now place }
+    ensures { result ≡ stands_earlier pairs.now place }
 {
     let id = pairs[2 * place];
     let suffix = pairs[2 * place + 1];
@@ -68,7 +68,7 @@ fn stands_earlier(pairs: &[i64], place: usize) -> bool
 
 // 9: the first pair that stood earlier in the list.
 pub fn first_repeated(pairs: &[i64]) -> Place
-    ensures { result ≡ repeatedPlace pairs.now }
+    ensures { result ≡ repeated_place pairs.now }
 {
     let count = pairs.len() / 2;
     let mut i = 0;
@@ -84,7 +84,7 @@ pub fn first_repeated(pairs: &[i64]) -> Place
 // How often the id at a place stands at earlier ones.
 pub fn times_earlier(pairs: &[i64], place: usize) -> i64
     requires { (2 * place + 2 ≤ length pairs.now) × (place < 1000) }
-    ensures { result ≡ timesEarlier pairs.now place }
+    ensures { result ≡ times_earlier pairs.now place }
 {
     let id = pairs[2 * place];
     let mut times: i64 = 0;

@@ -2,14 +2,14 @@
 ghost use Rattle.std.specs.Prelude.{◌≡◌, true, []};
 ghost use Rattle.rules.specs.Handle.{handle, answered};
 ghost use Rattle.rules.specs.Request as Request;
-ghost use Rattle.rules.specs.Tables.{tables_of, soundRecords};
+ghost use Rattle.rules.specs.Tables.{tables_of, sound_records};
 ghost use Rattle.new_day.specs.DayHandled.{DayHandled};
 
 use rules::Reply;
 use rules::layout::DAY_CELL;
 
 pub fn on_sound(records: &mut [i64], day: i64) -> Reply
-    requires { soundRecords records.old ≡ true }
+    requires { sound_records records.old ≡ true }
     ensures { DayHandled records.old day result records.new }
 {
     if !figures::valid_day(day) {
@@ -27,7 +27,7 @@ pub fn on_sound(records: &mut [i64], day: i64) -> Reply
 }
 
 pub fn day(records: &mut [i64], day: i64) -> Reply
-    ensures { answered result records.new [] ≡ handle (tables_of records.old []) (Request.newDay day) }
+    ensures { answered result records.new [] ≡ handle (tables_of records.old []) (Request.new_day day) }
 {
     if !scan::soundness::records_sound(records) {
         return Reply::Refused(1, 0);

@@ -5,94 +5,94 @@ use mathlib.Core.Bool.{true, false}
 use mathlib.Core.List.{List, [], ◌∷◌}
 use mathlib.Core.Option.{Option, none, some}
 use lib.IntN.{ℤ, pos}
-use Rattle.integers.specs.Order.{eqZ}
-use Rattle.rules.specs.Figures.{underGiveUp}
-use Rattle.rules.specs.Keyed.{is_some, upsert, upsertAll}
-use Rattle.rules.specs.Rows.{recordKey, withStatus}
-use Rattle.rules.specs.ProcessRows.{processKey, openedProcess}
-use Rattle.rules.specs.Refusal.{firstRefusal}
+use Rattle.integers.specs.Order.{eq_z}
+use Rattle.rules.specs.Figures.{under_give_up}
+use Rattle.rules.specs.Keyed.{is_some, upsert, upsert_all}
+use Rattle.rules.specs.Rows.{record_key, with_status}
+use Rattle.rules.specs.ProcessRows.{process_key, opened_process}
+use Rattle.rules.specs.Refusal.{first_refusal}
 use Rattle.rules.specs.Request.{Request}
-use Rattle.rules.specs.GiveUp.{giveUpFigures, is_at, isOutOfTurn, stepped, is_complete, stepStatusTest, recordAfter, finished, processBefore}
+use Rattle.rules.specs.GiveUp.{give_up_figures, is_at, is_out_of_turn, stepped, is_complete, step_status_test, record_after, finished, process_before}
 use Rattle.rules.specs.Layout.{rows_of, write}
-use Rattle.rules.specs.Tables.{allTables, recordsLayout, processesLayout}
-use Rattle.rules.specs.Handle.{answeredBy}
+use Rattle.rules.specs.Tables.{all_tables, records_layout, processes_layout}
+use Rattle.rules.specs.Handle.{answered_by}
 use Rattle.rules.specs.declared.Record.{Record}
 use Rattle.rules.specs.declared.ProcessRow.{ProcessRow}
 use Rattle.rules.specs.declared.Reply.TheVariants as Reply
 use Rattle.rules.specs.declared.Step.TheVariants.{Open}
-use Rattle.keys.proofs.Clauses.{isSome-none, isSome-some, upsertAll-nil, upsertAll-cons}
+use Rattle.keys.proofs.Clauses.{is_some-none, is_some-some, upsert_all-nil, upsert_all-cons}
 use Rattle.soundness.specs.SoundTables.{SoundTables}
-use Rattle.verdict.specs.Verdict.{verdictOf, verdictIn}
+use Rattle.verdict.specs.Verdict.{verdict_of, verdict_in}
 use Rattle.verdict.specs.declared.Verdict.TheVariants.{Accepted, Refused}
 use Rattle.give_up_steps.specs.HandledIn.{HandledIn}
-use Rattle.give_up_steps.specs.StepTests.{openingTests}
+use Rattle.give_up_steps.specs.StepTests.{opening_tests}
 use Rattle.give_up_steps.proofs.Answering.{refused-soundly, booked-soundly}
-use Rattle.give_up_steps.proofs.StepVerdict.{same-front, request, used, foundProcess, foundRecord, after, opened-waits, opened-room, past-found, refuses-figures, refuses-turn, refuses-missing, step-tail}
+use Rattle.give_up_steps.proofs.StepVerdict.{same-front, request, used, found_process, found_record, after, opened-waits, opened-room, past-found, refuses-figures, refuses-turn, refuses-missing, step-tail}
 use Rattle.give_up_steps.proofs.StepBooked.{step-booked}
 
-module _ (rs ps qs : List ℤ) (sound : SoundTables (allTables rs ps qs)) (process id suffix giving taking series : ℤ) where
+module _ (rs ps qs : List ℤ) (sound : SoundTables (all_tables rs ps qs)) (process id suffix giving taking series : ℤ) where
   abbrev pub opens : Request
   opens = request rs ps qs process id suffix giving taking series Open
 
   abbrev row : ProcessRow
-  row = openedProcess process id suffix giving taking series
+  row = opened_process process id suffix giving taking series
 
   row-finished : finished (after rs ps qs process id suffix giving taking series Open) ≡ row
-  unfolding stepped processBefore openedProcess finished is_complete is_at eqZ
+  unfolding stepped process_before opened_process finished is_complete is_at eq_z
   row-finished = refl
 
-  pub opening-figures : giveUpFigures process id suffix giving taking series ≡ false → HandledIn (allTables rs ps qs) opens (answeredBy (Reply.Refused (pos 3) (pos 0)) (allTables rs ps qs))
-  opening-figures h = refused-soundly (allTables rs ps qs) sound opens (pos 3) (pos 0) (refuses-figures rs ps qs process id suffix giving taking series Open h)
+  pub opening-figures : give_up_figures process id suffix giving taking series ≡ false → HandledIn (all_tables rs ps qs) opens (answered_by (Reply.Refused (pos 3) (pos 0)) (all_tables rs ps qs))
+  opening-figures h = refused-soundly (all_tables rs ps qs) sound opens (pos 3) (pos 0) (refuses-figures rs ps qs process id suffix giving taking series Open h)
 
-  module _ (figures : giveUpFigures process id suffix giving taking series ≡ true) where
+  module _ (figures : give_up_figures process id suffix giving taking series ≡ true) where
     pub opening-used : (o : ℤ) → used rs ps qs process id suffix giving taking series ≡ some o
-        → HandledIn (allTables rs ps qs) opens (answeredBy (Reply.Refused (pos 18) (pos 0)) (allTables rs ps qs))
-    unfolding isOutOfTurn
+        → HandledIn (all_tables rs ps qs) opens (answered_by (Reply.Refused (pos 18) (pos 0)) (all_tables rs ps qs))
+    unfolding is_out_of_turn
     opening-used o e =
-        refused-soundly (allTables rs ps qs) sound opens (pos 18) (pos 0)
-        (refuses-turn rs ps qs process id suffix giving taking series Open figures (ap (λ (x : Option ℤ). is_some x) e ∙ isSome-some o))
+        refused-soundly (all_tables rs ps qs) sound opens (pos 18) (pos 0)
+        (refuses-turn rs ps qs process id suffix giving taking series Open figures (ap (λ (x : Option ℤ). is_some x) e ∙ is_some-some o))
 
     module _ (unused : used rs ps qs process id suffix giving taking series ≡ none) where
-      turn : isOutOfTurn Open suffix giving taking series (used rs ps qs process id suffix giving taking series) (foundProcess rs ps qs process id suffix giving taking series) ≡ false
-      unfolding isOutOfTurn
-      turn = ap (λ (x : Option ℤ). is_some x) unused ∙ isSome-none ℤ
+      turn : is_out_of_turn Open suffix giving taking series (used rs ps qs process id suffix giving taking series) (found_process rs ps qs process id suffix giving taking series) ≡ false
+      unfolding is_out_of_turn
+      turn = ap (λ (x : Option ℤ). is_some x) unused ∙ is_some-none ℤ
 
-      pub opening-missing : foundRecord rs ps qs process id suffix giving taking series ≡ none
-          → HandledIn (allTables rs ps qs) opens (answeredBy (Reply.Refused (pos 5) (pos 0)) (allTables rs ps qs))
-      opening-missing e = refused-soundly (allTables rs ps qs) sound opens (pos 5) (pos 0) (refuses-missing rs ps qs process id suffix giving taking series Open figures turn e)
+      pub opening-missing : found_record rs ps qs process id suffix giving taking series ≡ none
+          → HandledIn (all_tables rs ps qs) opens (answered_by (Reply.Refused (pos 5) (pos 0)) (all_tables rs ps qs))
+      opening-missing e = refused-soundly (all_tables rs ps qs) sound opens (pos 5) (pos 0) (refuses-missing rs ps qs process id suffix giving taking series Open figures turn e)
 
-      pub opening-judged : (r : Record) → foundRecord rs ps qs process id suffix giving taking series ≡ some r
-          → verdictIn (allTables rs ps qs) opens ≡ verdictOf (firstRefusal (openingTests qs r giving series))
-      unfolding stepStatusTest
+      pub opening-judged : (r : Record) → found_record rs ps qs process id suffix giving taking series ≡ some r
+          → verdict_in (all_tables rs ps qs) opens ≡ verdict_of (first_refusal (opening_tests qs r giving series))
+      unfolding step_status_test
       opening-judged r e =
           (past-found rs ps qs process id suffix giving taking series Open figures turn r e).is
-          ∙ ap verdictOf
+          ∙ ap verdict_of
           (same-front (_ ∷ _ ∷ _ ∷ []) _ _
           (step-tail rs ps qs process id suffix giving taking series sound Open r (opened-waits rs ps qs process id suffix giving taking series)
           ∙ opened-room rs ps qs process id suffix giving taking series sound unused))
 
-      pub opening-refused : (r : Record) → foundRecord rs ps qs process id suffix giving taking series ≡ some r → (n p : ℤ)
-          → verdictOf (firstRefusal (openingTests qs r giving series)) ≡ Refused n p
-          → HandledIn (allTables rs ps qs) opens (answeredBy (Reply.Refused n p) (allTables rs ps qs))
-      opening-refused r e n p v = refused-soundly (allTables rs ps qs) sound opens n p (opening-judged r e ∙ v)
+      pub opening-refused : (r : Record) → found_record rs ps qs process id suffix giving taking series ≡ some r → (n p : ℤ)
+          → verdict_of (first_refusal (opening_tests qs r giving series)) ≡ Refused n p
+          → HandledIn (all_tables rs ps qs) opens (answered_by (Reply.Refused n p) (all_tables rs ps qs))
+      opening-refused r e n p v = refused-soundly (all_tables rs ps qs) sound opens n p (opening-judged r e ∙ v)
 
-      pub opening-booked : (r : Record) → foundRecord rs ps qs process id suffix giving taking series ≡ some r
-          → verdictOf (firstRefusal (openingTests qs r giving series)) ≡ Accepted → (rs₁ qs₁ : List ℤ)
-          → rs₁ ≡ write recordsLayout rs (upsert recordKey (withStatus underGiveUp r) (rows_of recordsLayout rs))
-          → qs₁ ≡ write processesLayout qs (upsert processKey row (rows_of processesLayout qs))
-          → HandledIn (allTables rs ps qs) opens (answeredBy (Reply.Booked (pos 0) (pos 0)) (allTables rs₁ ps qs₁))
-      unfolding recordAfter
+      pub opening-booked : (r : Record) → found_record rs ps qs process id suffix giving taking series ≡ some r
+          → verdict_of (first_refusal (opening_tests qs r giving series)) ≡ Accepted → (rs₁ qs₁ : List ℤ)
+          → rs₁ ≡ write records_layout rs (upsert record_key (with_status under_give_up r) (rows_of records_layout rs))
+          → qs₁ ≡ write processes_layout qs (upsert process_key row (rows_of processes_layout qs))
+          → HandledIn (all_tables rs ps qs) opens (answered_by (Reply.Booked (pos 0) (pos 0)) (all_tables rs₁ ps qs₁))
+      unfolding record_after
       opening-booked r e v rs₁ qs₁ f g =
-          booked-soundly (allTables rs ps qs) sound opens (opening-judged r e ∙ v) _
-          ((λ i. answeredBy (Reply.Booked (pos 0) (pos 0)) (allTables ((f ∙ one-put) i) ps ((g ∙ as-finished) i)))
+          booked-soundly (all_tables rs ps qs) sound opens (opening-judged r e ∙ v) _
+          ((λ i. answered_by (Reply.Booked (pos 0) (pos 0)) (all_tables ((f ∙ one-put) i) ps ((g ∙ as-finished) i)))
           ∙ sym (step-booked rs ps qs process id suffix giving taking series Open r e (opened-waits rs ps qs process id suffix giving taking series) sound.positions))
         where
-          one-put : write recordsLayout rs (upsert recordKey (withStatus underGiveUp r) (rows_of recordsLayout rs))
-              ≡ write recordsLayout rs (upsertAll recordKey (withStatus underGiveUp r ∷ []) (rows_of recordsLayout rs))
+          one-put : write records_layout rs (upsert record_key (with_status under_give_up r) (rows_of records_layout rs))
+              ≡ write records_layout rs (upsert_all record_key (with_status under_give_up r ∷ []) (rows_of records_layout rs))
           one-put =
-              ap (write recordsLayout rs)
-              (sym (upsertAll-cons recordKey (withStatus underGiveUp r) [] (rows_of recordsLayout rs) ∙ upsertAll-nil recordKey (upsert recordKey (withStatus underGiveUp r) (rows_of recordsLayout rs))))
+              ap (write records_layout rs)
+              (sym (upsert_all-cons record_key (with_status under_give_up r) [] (rows_of records_layout rs) ∙ upsert_all-nil record_key (upsert record_key (with_status under_give_up r) (rows_of records_layout rs))))
 
-          as-finished : write processesLayout qs (upsert processKey row (rows_of processesLayout qs))
-              ≡ write processesLayout qs (upsert processKey (finished (after rs ps qs process id suffix giving taking series Open)) (rows_of processesLayout qs))
-          as-finished = ap (λ (p : ProcessRow). write processesLayout qs (upsert processKey p (rows_of processesLayout qs))) (sym row-finished)
+          as-finished : write processes_layout qs (upsert process_key row (rows_of processes_layout qs))
+              ≡ write processes_layout qs (upsert process_key (finished (after rs ps qs process id suffix giving taking series Open)) (rows_of processes_layout qs))
+          as-finished = ap (λ (p : ProcessRow). write processes_layout qs (upsert process_key p (rows_of processes_layout qs))) (sym row-finished)

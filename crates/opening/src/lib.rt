@@ -1,19 +1,19 @@
 // Opening a give-up (document 02, K3), on sound tables: the process id must be unused, the record adjustable and to open; then the record has status 3 and the process table one row more, pending.
 ghost use Rattle.std.specs.Prelude.{◌≡◌, true};
-ghost use Rattle.rules.specs.Figures.{underGiveUp};
+ghost use Rattle.rules.specs.Figures.{under_give_up};
 ghost use Rattle.rules.specs.Keyed.{upsert};
-ghost use Rattle.rules.specs.Rows.{recordKey, withStatus};
-ghost use Rattle.rules.specs.ProcessRows.{processKey};
-ghost use Rattle.rules.specs.Refusal.{firstRefusal};
+ghost use Rattle.rules.specs.Rows.{record_key, with_status};
+ghost use Rattle.rules.specs.ProcessRows.{process_key};
+ghost use Rattle.rules.specs.Refusal.{first_refusal};
 ghost use Rattle.rules.specs.Layout.{row_at, rows_of, write};
-ghost use Rattle.rules.specs.Tables.{allTables, recordsLayout, processesLayout, soundProcesses};
-ghost use Rattle.rules.specs.Handle.{answeredBy};
+ghost use Rattle.rules.specs.Tables.{all_tables, records_layout, processes_layout, sound_processes};
+ghost use Rattle.rules.specs.Handle.{answered_by};
 ghost use Rattle.rules.specs.declared.Step.TheVariants.{Open};
 ghost use Rattle.soundness.specs.SoundTables.{SoundTables};
-ghost use Rattle.verdict.specs.Verdict.{verdictOf};
+ghost use Rattle.verdict.specs.Verdict.{verdict_of};
 ghost use Rattle.give_up_steps.specs.HandledIn.{HandledIn};
-ghost use Rattle.give_up_steps.specs.StepTests.{openingTests};
-ghost use Rattle.give_up_steps.specs.Terms.{step_of, openedRow};
+ghost use Rattle.give_up_steps.specs.StepTests.{opening_tests};
+ghost use Rattle.give_up_steps.specs.Terms.{step_of, opened_row};
 ghost use Rattle.opening.specs.OpeningReady.{OpeningReady};
 
 use give_up_steps::Terms;
@@ -25,8 +25,8 @@ use verdict::Verdict;
 
 // Tests 6 to 8, of the record that was found, and 23.
 fn verdict(processes: &[i64], r: Record, giving: i64, series: i64) -> Verdict
-    requires { soundProcesses processes.now ≡ true }
-    ensures { result ≡ verdictOf (firstRefusal (openingTests processes.now r giving series)) }
+    requires { sound_processes processes.now ≡ true }
+    ensures { result ≡ verdict_of (first_refusal (opening_tests processes.now r giving series)) }
 {
     let elsewhere = requests::is_elsewhere(r, giving, series);
     let status = r.status;
@@ -48,7 +48,7 @@ fn verdict(processes: &[i64], r: Record, giving: i64, series: i64) -> Verdict
 
 fn book(records: &mut [i64], processes: &mut [i64], row: usize, place: usize, g: Terms)
     requires { OpeningReady records.old processes.old row place g }
-    ensures { (records.new ≡ write recordsLayout records.old (upsert recordKey (withStatus underGiveUp (row_at recordsLayout records.old row)) (rows_of recordsLayout records.old))) × (processes.new ≡ write processesLayout processes.old (upsert processKey (openedRow g) (rows_of processesLayout processes.old))) }
+    ensures { (records.new ≡ write records_layout records.old (upsert record_key (with_status under_give_up (row_at records_layout records.old row)) (rows_of records_layout records.old))) × (processes.new ≡ write processes_layout processes.old (upsert process_key (opened_row g) (rows_of processes_layout processes.old))) }
 {
     let p = stages::opened(g.process, g.id, g.suffix, g.giving, g.taking, g.series);
     records::set_status(records, row, UNDER_GIVE_UP);
@@ -57,8 +57,8 @@ fn book(records: &mut [i64], processes: &mut [i64], row: usize, place: usize, g:
 
 // The positions are neither read nor changed.
 pub fn on_sound(records: &mut [i64], positions: &[i64], processes: &mut [i64], g: Terms) -> Reply
-    requires { SoundTables (allTables records.old positions.now processes.old) }
-    ensures { HandledIn (allTables records.old positions.now processes.old) (step_of Open g) (answeredBy result (allTables records.new positions.now processes.new)) }
+    requires { SoundTables (all_tables records.old positions.now processes.old) }
+    ensures { HandledIn (all_tables records.old positions.now processes.old) (step_of Open g) (answered_by result (all_tables records.new positions.now processes.new)) }
 {
     if !give_up_steps::figures_valid(g) {
         return Reply::Refused(3, 0);

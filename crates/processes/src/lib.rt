@@ -2,10 +2,10 @@
 ghost use Rattle.std.specs.Prelude.{◌≡◌, true, ◌<◌, length};
 ghost use Rattle.rules.specs.Keyed.{upsert};
 ghost use Rattle.rules.specs.Rows.{key_of};
-ghost use Rattle.rules.specs.ProcessRows.{processKey, stageNumber, validStage, rowOfProcess};
-ghost use Rattle.rules.specs.Layout.{row_at, roomOf, rows_of, write};
-ghost use Rattle.rules.specs.Tables.{processCells, processesLayout, soundProcesses};
-ghost use Rattle.lookup.specs.Lookup.{soughtIn};
+ghost use Rattle.rules.specs.ProcessRows.{process_key, stage_number, valid_stage, row_of_process};
+ghost use Rattle.rules.specs.Layout.{row_at, room_of, rows_of, write};
+ghost use Rattle.rules.specs.Tables.{process_cells, processes_layout, sound_processes};
+ghost use Rattle.lookup.specs.Lookup.{sought_in};
 ghost use Rattle.processes.specs.Ready.{InsertReady, ReplaceReady};
 
 use lookup::Sought;
@@ -15,7 +15,7 @@ use rules::{Process, ProcessRow, Stage};
 use scan::rows;
 
 pub fn stage_number(stage: Stage) -> i64
-    ensures { result ≡ stageNumber stage }
+    ensures { result ≡ stage_number stage }
 {
     match stage {
         Stage::Pending => PENDING,
@@ -27,8 +27,8 @@ pub fn stage_number(stage: Stage) -> i64
 }
 
 pub fn stage_of(number: i64) -> Stage
-    requires { validStage number ≡ true }
-    ensures { stageNumber result ≡ number }
+    requires { valid_stage number ≡ true }
+    ensures { stage_number result ≡ number }
 {
     if number == PENDING {
         return Stage::Pending;
@@ -47,7 +47,7 @@ pub fn stage_of(number: i64) -> Stage
 
 // The row of a process, and the process of a row.
 pub fn row_of(p: Process) -> ProcessRow
-    ensures { result ≡ rowOfProcess p }
+    ensures { result ≡ row_of_process p }
 {
     let stage = p.stage;
     ProcessRow {
@@ -64,8 +64,8 @@ pub fn row_of(p: Process) -> ProcessRow
 }
 
 pub fn process_of(r: ProcessRow) -> Process
-    requires { validStage r.stage ≡ true }
-    ensures { rowOfProcess result ≡ r }
+    requires { valid_stage r.stage ≡ true }
+    ensures { row_of_process result ≡ r }
 {
     let number = r.stage;
     let stage = stage_of(number);
@@ -83,29 +83,29 @@ pub fn process_of(r: ProcessRow) -> Process
 }
 
 pub fn process_cells(p: Process) -> [i64; PROCESS_WIDTH]
-    ensures { result ≡ processCells (rowOfProcess p) }
+    ensures { result ≡ process_cells (row_of_process p) }
 {
     rows::process_cells(row_of(p))
 }
 
 pub fn count(cells: &[i64]) -> usize
-    requires { soundProcesses cells.now ≡ true }
-    ensures { result ≡ length (rows_of processesLayout cells.now) }
+    requires { sound_processes cells.now ≡ true }
+    ensures { result ≡ length (rows_of processes_layout cells.now) }
 {
     cells[0] as usize
 }
 
 // How many rows there is room for.
 pub fn room(cells: &[i64]) -> usize
-    ensures { result ≡ roomOf processesLayout cells.now }
+    ensures { result ≡ room_of processes_layout cells.now }
 {
     scan::soundness::room_for(PROCESSES_HEADER, PROCESS_WIDTH, MOST_PROCESSES, cells.len())
 }
 
 // The lookup: what the table has of a process id and the transaction id that the process names.
 pub fn look_up(cells: &[i64], process: i64, id: i64) -> Sought
-    requires { soundProcesses cells.now ≡ true }
-    ensures { result ≡ soughtIn processesLayout (key_of process id) cells.now }
+    requires { sound_processes cells.now ≡ true }
+    ensures { result ≡ sought_in processes_layout (key_of process id) cells.now }
 {
     lookup::look_up(
         cells,
@@ -119,8 +119,8 @@ pub fn look_up(cells: &[i64], process: i64, id: i64) -> Sought
 
 // Row `row`, from 0.
 pub fn read_process(cells: &[i64], row: usize) -> Process
-    requires { (soundProcesses cells.now ≡ true) × (row < length (rows_of processesLayout cells.now)) }
-    ensures { rowOfProcess result ≡ row_at processesLayout cells.now row }
+    requires { (sound_processes cells.now ≡ true) × (row < length (rows_of processes_layout cells.now)) }
+    ensures { row_of_process result ≡ row_at processes_layout cells.now row }
 {
     process_of(rows::process_at(cells, PROCESSES_HEADER + row * PROCESS_WIDTH))
 }
@@ -128,7 +128,7 @@ pub fn read_process(cells: &[i64], row: usize) -> Process
 // A process whose id is not used, at the place where its key belongs.
 pub fn insert_process(cells: &mut [i64], place: usize, p: Process)
     requires { InsertReady cells.old place p }
-    ensures { (cells.new ≡ write processesLayout cells.old (upsert processKey (rowOfProcess p) (rows_of processesLayout cells.old))) × (soundProcesses cells.new ≡ true) }
+    ensures { (cells.new ≡ write processes_layout cells.old (upsert process_key (row_of_process p) (rows_of processes_layout cells.old))) × (sound_processes cells.new ≡ true) }
 {
     let n = count(cells);
     let row = process_cells(p);
@@ -138,7 +138,7 @@ pub fn insert_process(cells: &mut [i64], place: usize, p: Process)
 // Row `row` written anew, with the key that it has.
 pub fn replace_process(cells: &mut [i64], row: usize, p: Process)
     requires { ReplaceReady cells.old row p }
-    ensures { (cells.new ≡ write processesLayout cells.old (upsert processKey (rowOfProcess p) (rows_of processesLayout cells.old))) × (soundProcesses cells.new ≡ true) }
+    ensures { (cells.new ≡ write processes_layout cells.old (upsert process_key (row_of_process p) (rows_of processes_layout cells.old))) × (sound_processes cells.new ≡ true) }
 {
     let row_cells = process_cells(p);
     shifter::replace_row(cells, PROCESSES_HEADER, row, &row_cells);

@@ -12,7 +12,7 @@ use lib.ListN.{get_or, drop}
 use mir.Facts.{to_z-of_z, to_z_pos}
 use mir.Syntax.{w64}
 use mir.Val.{SFits, to_z, of_z}
-use Rattle.text.specs.Scan.{Taken, taken, first, isDigit, moreDigits, digitsAfter, takeMagnitude, notNegative, negative, belowZero, takeNumber, takeField}
+use Rattle.text.specs.Scan.{Taken, taken, first, is_digit, more_digits, digits_after, take_magnitude, not_negative, negative, below_zero, take_number, take_field}
 use Rattle.integers.proofs.Parts.{split}
 use Rattle.reader.proofs.Places.{first-there, begins}
 use Rattle.reader.proofs.MoreDigits.{digit-range, room-for-twelve, digits-small}
@@ -20,47 +20,47 @@ use Rattle.reader.proofs.MoreDigits.{digit-range, room-for-twelve, digits-small}
 -- ---- a number without a sign
 
 -- Its first digit is not 0: the other digits follow.
-digits-after : (d : ℕ) (text : List ℕ) → 0 < d → digitsAfter d text ≡ moreDigits 12 d text
-unfolding digitsAfter
+digits-after : (d : ℕ) (text : List ℕ) → 0 < d → digits_after d text ≡ more_digits 12 d text
+unfolding digits_after
 digits-after zero text above = absurd (omega arith)
 digits-after (suc d) text above = refl
 
-digits-after-small : (d : ℕ) (text : List ℕ) → d < 10 → (digitsAfter d text).value < 10 ^ 13
-unfolding digitsAfter
+digits-after-small : (d : ℕ) (text : List ℕ) → d < 10 → (digits_after d text).value < 10 ^ 13
+unfolding digits_after
 digits-after-small zero text h = omega arith
 digits-after-small (suc d) text h = digits-small 12 text (room-for-twelve h)
 
-magnitude-digit : (text : List ℕ) → isDigit (first text) ≡ true → takeMagnitude text ≡ some (digitsAfter (first text - 48) (drop 1 text))
-unfolding takeMagnitude
-magnitude-digit text h = ap (λ (t : Bool). cond t (some (digitsAfter (first text - 48) (drop 1 text))) none) h
+magnitude-digit : (text : List ℕ) → is_digit (first text) ≡ true → take_magnitude text ≡ some (digits_after (first text - 48) (drop 1 text))
+unfolding take_magnitude
+magnitude-digit text h = ap (λ (t : Bool). cond t (some (digits_after (first text - 48) (drop 1 text))) none) h
 
-magnitude-none : (text : List ℕ) → isDigit (first text) ≡ false → takeMagnitude text ≡ none
-unfolding takeMagnitude
-magnitude-none text h = ap (λ (t : Bool). cond t (some (digitsAfter (first text - 48) (drop 1 text))) none) h
+magnitude-none : (text : List ℕ) → is_digit (first text) ≡ false → take_magnitude text ≡ none
+unfolding take_magnitude
+magnitude-none text h = ap (λ (t : Bool). cond t (some (digits_after (first text - 48) (drop 1 text))) none) h
 
 -- It has at most 13 digits.
-pub magnitude-small : (text : List ℕ) {t : Taken ℕ} → some t ≡ takeMagnitude text → t.value < 10 ^ 13
+pub magnitude-small : (text : List ℕ) {t : Taken ℕ} → some t ≡ take_magnitude text → t.value < 10 ^ 13
 magnitude-small text {t} h =
     ⊎_elim
     (λ digit.
-    let e : t ≡ digitsAfter (first text - 48) (drop 1 text) = cc (magnitude-digit text digit) in
+    let e : t ≡ digits_after (first text - 48) (drop 1 text) = cc (magnitude-digit text digit) in
     rw e (digits-after-small (first text - 48) (drop 1 text) (omega (arith, (digit-range (first text) digit).1))))
     (λ other. let z : ◌≡◌ {A = ℕ} 0 1 = cc (magnitude-none text other) in absurd (omega arith))
-    (split (isDigit (first text)))
+    (split (is_digit (first text)))
 
 module _ (text : List ℕ) (at : ℕ) {b : ℕ} (read : b ≡ get_or text at 0) where
-  pub no-magnitude : isDigit b ≡ false → none ≡ takeMagnitude (drop at text)
+  pub no-magnitude : is_digit b ≡ false → none ≡ take_magnitude (drop at text)
   no-magnitude other = sym (magnitude-none (drop at text) (rw (first-there text at read) other))
 
-  pub magnitude-zero : b ≡ 48 → some (taken 0 (drop (at + 1) text)) ≡ takeMagnitude (drop at text)
-  unfolding isDigit takeMagnitude digitsAfter
-  magnitude-zero e = sym (ap takeMagnitude (begins text at read e (omega arith)))
+  pub magnitude-zero : b ≡ 48 → some (taken 0 (drop (at + 1) text)) ≡ take_magnitude (drop at text)
+  unfolding is_digit take_magnitude digits_after
+  magnitude-zero e = sym (ap take_magnitude (begins text at read e (omega arith)))
 
-  pub magnitude-more : isDigit b ≡ true → (b ≡ 48 → ⊥) → some (moreDigits 12 (b - 48) (drop (at + 1) text)) ≡ takeMagnitude (drop at text)
+  pub magnitude-more : is_digit b ≡ true → (b ≡ 48 → ⊥) → some (more_digits 12 (b - 48) (drop (at + 1) text)) ≡ take_magnitude (drop at text)
   magnitude-more digit other =
       let least : 48 ≤ b = (digit-range b digit).0 in
       let starts : drop at text ≡ b ∷ drop (at + 1) text = begins text at read refl (omega arith) in
-      sym (ap takeMagnitude starts ∙ magnitude-digit (b ∷ drop (at + 1) text) digit ∙ ap some (digits-after (b - 48) (drop (at + 1) text) (omega arith)))
+      sym (ap take_magnitude starts ∙ magnitude-digit (b ∷ drop (at + 1) text) digit ∙ ap some (digits-after (b - 48) (drop (at + 1) text) (omega arith)))
 
 -- ---- a number
 
@@ -70,23 +70,23 @@ unfolding negative
 below_none h = ap negative h
 
 pub below-zero : {m : Option (Taken ℕ)} {v : ℕ} {rest : List ℕ} → some (taken v rest) ≡ m → v ≡ 0 → none ≡ negative m
-unfolding negative belowZero
+unfolding negative below_zero
 below-zero {v = zero} h z = ap negative h
 below-zero {v = suc n} h z = absurd (omega arith)
 
 pub below-some : {m : Option (Taken ℕ)} {v : ℕ} {rest : List ℕ} → some (taken v rest) ≡ m → (v ≡ 0 → ⊥) → some (taken (neg_ℤ (pos v)) rest) ≡ negative m
-unfolding negative belowZero
+unfolding negative below_zero
 below-some {v = zero} h other = absurd (other refl)
 below-some {v = suc n} h other = ap negative h
 
 -- Where there is no minus.
-pub plain-none : {m : Option (Taken ℕ)} → none ≡ m → none ≡ notNegative m
-unfolding notNegative
-plain-none h = ap notNegative h
+pub plain-none : {m : Option (Taken ℕ)} → none ≡ m → none ≡ not_negative m
+unfolding not_negative
+plain-none h = ap not_negative h
 
-pub plain-some : {m : Option (Taken ℕ)} {v : ℕ} {rest : List ℕ} → some (taken v rest) ≡ m → some (taken (pos v) rest) ≡ notNegative m
-unfolding notNegative
-plain-some h = ap notNegative h
+pub plain-some : {m : Option (Taken ℕ)} {v : ℕ} {rest : List ℕ} → some (taken v rest) ≡ m → some (taken (pos v) rest) ≡ not_negative m
+unfolding not_negative
+plain-some h = ap not_negative h
 
 -- Its bits.
 module _ {v : ℕ} (small : v < 10 ^ 13) where
@@ -110,20 +110,20 @@ module _ {v : ℕ} (small : v < 10 ^ 13) where
   negated_back = to_z-of_z negated_fits ∙ from_zero
 
 module _ (text : List ℕ) (at : ℕ) {b : ℕ} (read : b ≡ get_or text at 0) where
-  pub number-below : b ≡ 45 → takeNumber (drop at text) ≡ negative (takeMagnitude (drop (at + 1) text))
-  unfolding takeNumber
-  number-below e = ap takeNumber (begins text at read e (omega arith))
+  pub number-below : b ≡ 45 → take_number (drop at text) ≡ negative (take_magnitude (drop (at + 1) text))
+  unfolding take_number
+  number-below e = ap take_number (begins text at read e (omega arith))
 
-  pub number-not-below : (b ≡ 45 → ⊥) → takeNumber (drop at text) ≡ notNegative (takeMagnitude (drop at text))
-  unfolding takeNumber
+  pub number-not-below : (b ≡ 45 → ⊥) → take_number (drop at text) ≡ not_negative (take_magnitude (drop at text))
+  unfolding take_number
   number-not-below other = rw (first-there text at read, ne_eqb b 45 other)
 
   -- ---- a field
 
-  pub field-there : b ≡ 9 → takeField (drop at text) ≡ takeNumber (drop (at + 1) text)
-  unfolding takeField
-  field-there e = ap takeField (begins text at read e (omega arith))
+  pub field-there : b ≡ 9 → take_field (drop at text) ≡ take_number (drop (at + 1) text)
+  unfolding take_field
+  field-there e = ap take_field (begins text at read e (omega arith))
 
-  pub no_field : (b ≡ 9 → ⊥) → none ≡ takeField (drop at text)
-  unfolding takeField
+  pub no_field : (b ≡ 9 → ⊥) → none ≡ take_field (drop at text)
+  unfolding take_field
   no_field other = rw (first-there text at read, ne_eqb b 9 other)

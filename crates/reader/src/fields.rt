@@ -1,7 +1,7 @@
 // Numbers and fields taken off a text, from a place on. No function asks where the place lies: past the end of the text there is no digit, no tab and no newline.
 ghost use Rattle.std.specs.Prelude.{◌<◌, ◌≤◌, ◌≡◌, length, get_or, drop};
-ghost use Rattle.text.specs.Scan.{isDigit, moreDigits, takeMagnitude, takeNumber, takeField, takeFields};
-ghost use Rattle.reader.specs.Read.{digitsAs, magnitudeAs, numberAs, fieldsAs};
+ghost use Rattle.text.specs.Scan.{is_digit, more_digits, take_magnitude, take_number, take_field, take_fields};
+ghost use Rattle.reader.specs.Read.{digits_as, magnitude_as, number_as, fields_as};
 
 use crate::{Digits, FieldsRead, Magnitude, Number};
 
@@ -13,7 +13,7 @@ pub fn byte_at(text: &[u8], at: usize) -> u8
 }
 
 fn is_digit(b: u8) -> bool
-    ensures { result ≡ isDigit b }
+    ensures { result ≡ is_digit b }
 {
     (48 <= b) & (b <= 57)
 }
@@ -21,7 +21,7 @@ fn is_digit(b: u8) -> bool
 // The digits after a first one.
 fn more_digits(text: &[u8], at: usize, first: u64) -> Digits
     requires { first < 10 }
-    ensures { digitsAs text.now result ≡ moreDigits 12 first (drop at text.now) }
+    ensures { digits_as text.now result ≡ more_digits 12 first (drop at text.now) }
 {
     let mut value = first;
     let mut next = at;
@@ -40,7 +40,7 @@ fn more_digits(text: &[u8], at: usize, first: u64) -> Digits
 
 // A number without a sign, of at most 13 digits.
 fn read_magnitude(text: &[u8], at: usize) -> Magnitude
-    ensures { magnitudeAs text.now result ≡ takeMagnitude (drop at text.now) }
+    ensures { magnitude_as text.now result ≡ take_magnitude (drop at text.now) }
 {
     let b = byte_at(text, at);
     if !is_digit(b) {
@@ -54,7 +54,7 @@ fn read_magnitude(text: &[u8], at: usize) -> Magnitude
 }
 
 pub fn read_number(text: &[u8], at: usize) -> Number
-    ensures { numberAs text.now result ≡ takeNumber (drop at text.now) }
+    ensures { number_as text.now result ≡ take_number (drop at text.now) }
 {
     if byte_at(text, at) == 45 {
         match read_magnitude(text, at + 1) {
@@ -77,7 +77,7 @@ pub fn read_number(text: &[u8], at: usize) -> Number
 
 // A tab and a number.
 pub fn read_field(text: &[u8], at: usize) -> Number
-    ensures { numberAs text.now result ≡ takeField (drop at text.now) }
+    ensures { number_as text.now result ≡ take_field (drop at text.now) }
 {
     if byte_at(text, at) != 9 {
         return Number::Nothing;
@@ -87,7 +87,7 @@ pub fn read_field(text: &[u8], at: usize) -> Number
 
 // Fields as long as there is one, at most as many as there are cells for them.
 pub fn read_fields(text: &[u8], at: usize, figures: &mut [i64]) -> FieldsRead
-    ensures { (fieldsAs text.now figures.new result ≡ takeFields (length figures.old) (drop at text.now)) × (result.count ≤ length figures.new) }
+    ensures { (fields_as text.now figures.new result ≡ take_fields (length figures.old) (drop at text.now)) × (result.count ≤ length figures.new) }
 {
     let mut count = 0;
     let mut next = at;

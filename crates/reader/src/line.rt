@@ -1,14 +1,14 @@
 // A line of a journal: its heading, its figures and the newline.
 ghost use Rattle.std.specs.Prelude.{◌≡◌, length, drop};
-ghost use Rattle.rules.specs.Reader.{takeStep, takeHeading};
-ghost use Rattle.reader.specs.Read.{headingAs, LineReadAs};
+ghost use Rattle.rules.specs.Reader.{take_step, take_heading};
+ghost use Rattle.reader.specs.Read.{heading_as, LineReadAs};
 
 use crate::{Headed, LineRead, fields};
 use rules::{Heading, Step};
 
 // After the letter G: a tab and the step's letter.
 fn read_step(text: &[u8], at: usize) -> Headed
-    ensures { headingAs text.now result ≡ takeStep (drop at text.now) }
+    ensures { heading_as text.now result ≡ take_step (drop at text.now) }
 {
     if fields::byte_at(text, at) != 9 {
         return Headed::Nothing;
@@ -36,7 +36,7 @@ fn read_step(text: &[u8], at: usize) -> Headed
 }
 
 fn read_heading(text: &[u8], at: usize) -> Headed
-    ensures { headingAs text.now result ≡ takeHeading (drop at text.now) }
+    ensures { heading_as text.now result ≡ take_heading (drop at text.now) }
 {
     let letter = fields::byte_at(text, at);
     if letter == 84 {

@@ -1,10 +1,10 @@
 // Every line of a text in turn, up to the first that is bad or refused.
 ghost use Rattle.std.specs.Prelude.{◌≡◌, true, length};
-ghost use Rattle.rules.specs.Handle.{answeredBy};
-ghost use Rattle.rules.specs.Replay.{handleReplay};
-ghost use Rattle.rules.specs.Tables.{allTables, soundRecords, soundPositions, soundProcesses};
+ghost use Rattle.rules.specs.Handle.{answered_by};
+ghost use Rattle.rules.specs.Replay.{handle_replay};
+ghost use Rattle.rules.specs.Tables.{all_tables, sound_records, sound_positions, sound_processes};
 ghost use Rattle.replaying.specs.LineReplayed.{LineReplayed};
-ghost use Rattle.replaying.specs.Unsound.{refusedAtOnce};
+ghost use Rattle.replaying.specs.Unsound.{refused_at_once};
 
 use crate::Became;
 use reader::LineRead;
@@ -23,8 +23,8 @@ fn replay_line(
     at: usize,
     figures: &mut [i64],
 ) -> Became
-    requires { (soundRecords records.old ≡ true) × (passes2 ≡ soundPositions positions.old) × (passes19 ≡ soundProcesses processes.old) × (length figures.old ≡ 2003) }
-    ensures { (LineReplayed (allTables records.old positions.old processes.old) text.now at result (allTables records.new positions.new processes.new)) × (length figures.new ≡ 2003) }
+    requires { (sound_records records.old ≡ true) × (passes2 ≡ sound_positions positions.old) × (passes19 ≡ sound_processes processes.old) × (length figures.old ≡ 2003) }
+    ensures { (LineReplayed (all_tables records.old positions.old processes.old) text.now at result (all_tables records.new positions.new processes.new)) × (length figures.new ≡ 2003) }
 {
     let LineRead::Read(heading, count, next) = journal_reading::request::read_request(
         text,
@@ -57,8 +57,8 @@ fn replay_lines(
     text: &[u8],
     figures: &mut [i64],
 ) -> Reply
-    requires { (soundRecords records.old ≡ true) × (passes2 ≡ soundPositions positions.old) × (passes19 ≡ soundProcesses processes.old) × (length figures.old ≡ 2003) }
-    ensures { answeredBy result (allTables records.new positions.new processes.new) ≡ handleReplay (allTables records.old positions.old processes.old) text.now }
+    requires { (sound_records records.old ≡ true) × (passes2 ≡ sound_positions positions.old) × (passes19 ≡ sound_processes processes.old) × (length figures.old ≡ 2003) }
+    ensures { answered_by result (all_tables records.new positions.new processes.new) ≡ handle_replay (all_tables records.old positions.old processes.old) text.now }
 {
     let mut at = 0;
     let mut line: usize = 0;
@@ -97,8 +97,8 @@ pub fn on_sound_records(
     passes19: bool,
     text: &[u8],
 ) -> Reply
-    requires { (soundRecords records.old ≡ true) × (passes2 ≡ soundPositions positions.old) × (passes19 ≡ soundProcesses processes.old) }
-    ensures { answeredBy result (allTables records.new positions.new processes.new) ≡ handleReplay (allTables records.old positions.old processes.old) text.now }
+    requires { (sound_records records.old ≡ true) × (passes2 ≡ sound_positions positions.old) × (passes19 ≡ sound_processes processes.old) }
+    ensures { answered_by result (all_tables records.new positions.new processes.new) ≡ handle_replay (all_tables records.old positions.old processes.old) text.now }
 {
     let mut figures = [0i64; MOST_FIGURES];
     replay_lines(
@@ -115,7 +115,7 @@ pub fn on_sound_records(
 // Where test 1 refuses every request: the first line decides.
 fn first_line_refused(text: &[u8], figures: &mut [i64]) -> Reply
     requires { length figures.old ≡ 2003 }
-    ensures { result ≡ refusedAtOnce text.now }
+    ensures { result ≡ refused_at_once text.now }
 {
     if text.len() == 0 {
         return Reply::Replayed(0);
@@ -127,7 +127,7 @@ fn first_line_refused(text: &[u8], figures: &mut [i64]) -> Reply
 }
 
 pub fn on_unsound_records(text: &[u8]) -> Reply
-    ensures { result ≡ refusedAtOnce text.now }
+    ensures { result ≡ refused_at_once text.now }
 {
     let mut figures = [0i64; MOST_FIGURES];
     first_line_refused(text, &mut figures)

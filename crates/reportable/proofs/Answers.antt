@@ -7,77 +7,77 @@ use mathlib.Core.List.{List, [], ◌∷◌, map}
 use lib.Dec.{ltb}
 use lib.IntN.{ℤ, pos}
 use lib.ListN.{length}
-use Rattle.rules.specs.Call.{reportable, handleCall}
+use Rattle.rules.specs.Call.{reportable, handle_call}
 use Rattle.rules.specs.Handle.{answer}
 use Rattle.rules.specs.Layout.{rows_of}
-use Rattle.rules.specs.Left.{left, leftBy, writtenTo}
-use Rattle.rules.specs.Refusal.{Test, test, any_of, firstRefusal}
-use Rattle.rules.specs.Reply.{refusedBy}
-use Rattle.rules.specs.Reportable.{lacksParent, reportableAmong, idsAndSuffixes, reportableTests, listedIn, handleReportable}
-use Rattle.rules.specs.Tables.{recordsLayout, tables_of, currentDay, soundRecords, booksOf}
+use Rattle.rules.specs.Left.{left, left_by, written_to}
+use Rattle.rules.specs.Refusal.{Test, test, any_of, first_refusal}
+use Rattle.rules.specs.Reply.{refused_by}
+use Rattle.rules.specs.Reportable.{lacks_parent, reportable_among, ids_and_suffixes, reportable_tests, listed_in, handle_reportable}
+use Rattle.rules.specs.Tables.{records_layout, tables_of, current_day, sound_records, books_of}
 use Rattle.rules.specs.declared.Record.{Record}
 use Rattle.rules.specs.declared.Reply.{Reply}
 use Rattle.rules.specs.declared.Reply.TheVariants.{Refused, Listed}
-use Rattle.reportable.specs.Listing.{countedOf}
+use Rattle.reportable.specs.Listing.{counted_of}
 use Rattle.reportable.specs.declared.Counted.TheVariants.{Pairs, NoParent}
 
 module _ (rs pairs : List ℤ) where
   abbrev rows : List Record
-  rows = rows_of recordsLayout rs
+  rows = rows_of records_layout rs
 
   abbrev listed : List Record
-  listed = reportableAmong (currentDay rs) rows rows
+  listed = reportable_among (current_day rs) rows rows
 
   -- A call of this reply that leaves these pairs.
   abbrev pub Answered : Reply → List ℤ → Type 0
-  Answered reply after = left reply after rs [] ≡ leftBy pairs (handleCall (tables_of rs []) (reportable (length pairs)))
+  Answered reply after = left reply after rs [] ≡ left_by pairs (handle_call (tables_of rs []) (reportable (length pairs)))
 
   abbrev tests : List Test
   tests =
-      test 1 (not (soundRecords rs)) ∷ test 5 (any_of (map (lacksParent (currentDay rs) rows) rows)) ∷ test 14 (ltb (length pairs) (2 * length listed)) ∷ []
+      test 1 (not (sound_records rs)) ∷ test 5 (any_of (map (lacks_parent (current_day rs) rows) rows)) ∷ test 14 (ltb (length pairs) (2 * length listed)) ∷ []
 
-  as-tests : handleCall (tables_of rs []) (reportable (length pairs))
-      ≡ answer (firstRefusal tests) (tables_of rs []) (record { reply = Listed (pos (length listed)); output = idsAndSuffixes listed; tables = tables_of rs [] })
-  unfolding handleCall handleReportable reportableTests listedIn booksOf
+  as-tests : handle_call (tables_of rs []) (reportable (length pairs))
+      ≡ answer (first_refusal tests) (tables_of rs []) (record { reply = Listed (pos (length listed)); output = ids_and_suffixes listed; tables = tables_of rs [] })
+  unfolding handle_call handle_reportable reportable_tests listed_in books_of
   as-tests = refl
 
-  pub refused-unsound : soundRecords rs ≡ false → Answered (Refused (pos 1) (pos 0)) pairs
-  unfolding firstRefusal test answer refusedBy writtenTo
-  refused-unsound h = sym (ap (leftBy pairs) as-tests ∙ rw h)
+  pub refused-unsound : sound_records rs ≡ false → Answered (Refused (pos 1) (pos 0)) pairs
+  unfolding first_refusal test answer refused_by written_to
+  refused-unsound h = sym (ap (left_by pairs) as-tests ∙ rw h)
 
-  module _ (sound : soundRecords rs ≡ true) where
+  module _ (sound : sound_records rs ≡ true) where
     -- ---- what the count says
 
-    counted_none : countedOf (currentDay rs) rows rows ≡ NoParent → any_of (map (lacksParent (currentDay rs) rows) rows) ≡ true
-    unfolding countedOf
-    counted_none h = go (any_of (map (lacksParent (currentDay rs) rows) rows)) _ h
+    counted_none : counted_of (current_day rs) rows rows ≡ NoParent → any_of (map (lacks_parent (current_day rs) rows) rows) ≡ true
+    unfolding counted_of
+    counted_none h = go (any_of (map (lacks_parent (current_day rs) rows) rows)) _ h
       where
         go : (b : Bool) (n : ℕ) → cond b NoParent (Pairs n) ≡ NoParent → b ≡ true
         go true n e = refl
         go false n e = let z : ◌≡◌ {A = ℕ} 0 1 = cc in absurd (omega arith)
 
-    pub counted-all : (n : ℕ) → countedOf (currentDay rs) rows rows ≡ Pairs n → (any_of (map (lacksParent (currentDay rs) rows) rows) ≡ false) × (length listed ≡ n)
-    unfolding countedOf
-    counted-all n h = go (any_of (map (lacksParent (currentDay rs) rows) rows)) _ h
+    pub counted-all : (n : ℕ) → counted_of (current_day rs) rows rows ≡ Pairs n → (any_of (map (lacks_parent (current_day rs) rows) rows) ≡ false) × (length listed ≡ n)
+    unfolding counted_of
+    counted-all n h = go (any_of (map (lacks_parent (current_day rs) rows) rows)) _ h
       where
         go : (b : Bool) (m : ℕ) → cond b NoParent (Pairs m) ≡ Pairs n → (b ≡ false) × (m ≡ n)
         go true m e = let z : ◌≡◌ {A = ℕ} 0 1 = cc in absurd (omega arith)
         go false m e = (refl, cc)
 
-    pub refused-missing : countedOf (currentDay rs) rows rows ≡ NoParent → Answered (Refused (pos 5) (pos 0)) pairs
-    unfolding firstRefusal test answer refusedBy writtenTo
-    refused-missing h = sym (ap (leftBy pairs) as-tests ∙ rw (sound, counted_none h))
+    pub refused-missing : counted_of (current_day rs) rows rows ≡ NoParent → Answered (Refused (pos 5) (pos 0)) pairs
+    unfolding first_refusal test answer refused_by written_to
+    refused-missing h = sym (ap (left_by pairs) as-tests ∙ rw (sound, counted_none h))
 
-    module _ (n : ℕ) (counted : countedOf (currentDay rs) rows rows ≡ Pairs n) where
+    module _ (n : ℕ) (counted : counted_of (current_day rs) rows rows ≡ Pairs n) where
       pub refused-short : ltb (length pairs) (2 * n) ≡ true → Answered (Refused (pos 14) (pos 0)) pairs
-      unfolding firstRefusal test answer refusedBy writtenTo
+      unfolding first_refusal test answer refused_by written_to
       refused-short h =
-          let c : (any_of (map (lacksParent (currentDay rs) rows) rows) ≡ false) × (length listed ≡ n) = counted-all n counted in
-          sym (ap (leftBy pairs) as-tests ∙ rw (sound, c.0, c.1, h))
+          let c : (any_of (map (lacks_parent (current_day rs) rows) rows) ≡ false) × (length listed ≡ n) = counted-all n counted in
+          sym (ap (left_by pairs) as-tests ∙ rw (sound, c.0, c.1, h))
 
-      pub listed-all : ltb (length pairs) (2 * n) ≡ false → (after : List ℤ) → after ≡ writtenTo pairs (idsAndSuffixes listed) → Answered (Listed (pos n)) after
-      unfolding firstRefusal test answer
+      pub listed-all : ltb (length pairs) (2 * n) ≡ false → (after : List ℤ) → after ≡ written_to pairs (ids_and_suffixes listed) → Answered (Listed (pos n)) after
+      unfolding first_refusal test answer
       listed-all h after e =
-          let c : (any_of (map (lacksParent (currentDay rs) rows) rows) ≡ false) × (length listed ≡ n) = counted-all n counted in
+          let c : (any_of (map (lacks_parent (current_day rs) rows) rows) ≡ false) × (length listed ≡ n) = counted-all n counted in
           ap (λ (l : List ℤ). left (Listed (pos n)) l rs []) e
-          ∙ sym (ap (leftBy pairs) as-tests ∙ rw (sound, c.0, c.1, h))
+          ∙ sym (ap (left_by pairs) as-tests ∙ rw (sound, c.0, c.1, h))

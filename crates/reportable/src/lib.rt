@@ -3,13 +3,13 @@
 ghost use Rattle.std.specs.Prelude.{◌+◌, ◌≤◌, ◌<◌, ◌≡◌, true, false, [], ◌∷◌, map, length};
 ghost use Rattle.text.specs.Written.{written};
 ghost use Rattle.rules.specs.Call as Call;
-ghost use Rattle.rules.specs.Call.{handleCall};
+ghost use Rattle.rules.specs.Call.{handle_call};
 ghost use Rattle.rules.specs.Layout.{row_at, rows_of};
-ghost use Rattle.rules.specs.Left.{left, leftBy, writtenTo};
+ghost use Rattle.rules.specs.Left.{left, left_by, written_to};
 ghost use Rattle.rules.specs.Refusal.{any_of};
-ghost use Rattle.rules.specs.Reportable.{lacksParent, reportableAmong, reportableRecords, idsAndSuffixes};
-ghost use Rattle.rules.specs.Tables.{recordsLayout, tables_of, soundRecordRows};
-ghost use Rattle.reportable.specs.Listing.{pairsOfRow, countedOf};
+ghost use Rattle.rules.specs.Reportable.{lacks_parent, reportable_among, reportable_records, ids_and_suffixes};
+ghost use Rattle.rules.specs.Tables.{records_layout, tables_of, sound_record_rows};
+ghost use Rattle.reportable.specs.Listing.{pairs_of_row, counted_of};
 
 use lookup::Found;
 use rules::Reply;
@@ -28,8 +28,8 @@ const NO_PARENT: usize = 2;
 
 // The pairs that a row gives to the list: one or none.
 fn pairs_of(records: &[i64], today: i64, row: usize) -> usize
-    requires { (soundRecordRows records.now ≡ true) × (row < length (rows_of recordsLayout records.now)) }
-    ensures { result ≡ pairsOfRow today (rows_of recordsLayout records.now) (row_at recordsLayout records.now row) }
+    requires { (sound_record_rows records.now ≡ true) × (row < length (rows_of records_layout records.now)) }
+    ensures { result ≡ pairs_of_row today (rows_of records_layout records.now) (row_at records_layout records.now row) }
 {
     let r = records::read_record(records, row);
     if r.day != today {
@@ -53,8 +53,8 @@ fn pairs_of(records: &[i64], today: i64, row: usize) -> usize
 
 // Test 5, and the number of pairs.
 fn count_pairs(records: &[i64], today: i64) -> Counted
-    requires { soundRecordRows records.now ≡ true }
-    ensures { result ≡ countedOf today (rows_of recordsLayout records.now) (rows_of recordsLayout records.now) }
+    requires { sound_record_rows records.now ≡ true }
+    ensures { result ≡ counted_of today (rows_of records_layout records.now) (rows_of records_layout records.now) }
 {
     let rows = records::count(records);
     let mut row = 0;
@@ -72,8 +72,8 @@ fn count_pairs(records: &[i64], today: i64) -> Counted
 
 // The pair of a row, if it gives one, from a cell on; the place after it.
 fn write_row(records: &[i64], today: i64, row: usize, pairs: &mut [i64], at: usize) -> usize
-    requires { (soundRecordRows records.now ≡ true) × (row < length (rows_of recordsLayout records.now)) × (lacksParent today (rows_of recordsLayout records.now) (row_at recordsLayout records.now row) ≡ false) × (at + length (idsAndSuffixes (reportableAmong today (rows_of recordsLayout records.now) (row_at recordsLayout records.now row ∷ []))) ≤ length pairs.old) }
-    ensures { (result ≡ at + length (idsAndSuffixes (reportableAmong today (rows_of recordsLayout records.now) (row_at recordsLayout records.now row ∷ [])))) × (pairs.new ≡ written (idsAndSuffixes (reportableAmong today (rows_of recordsLayout records.now) (row_at recordsLayout records.now row ∷ []))) at pairs.old) }
+    requires { (sound_record_rows records.now ≡ true) × (row < length (rows_of records_layout records.now)) × (lacks_parent today (rows_of records_layout records.now) (row_at records_layout records.now row) ≡ false) × (at + length (ids_and_suffixes (reportable_among today (rows_of records_layout records.now) (row_at records_layout records.now row ∷ []))) ≤ length pairs.old) }
+    ensures { (result ≡ at + length (ids_and_suffixes (reportable_among today (rows_of records_layout records.now) (row_at records_layout records.now row ∷ [])))) × (pairs.new ≡ written (ids_and_suffixes (reportable_among today (rows_of records_layout records.now) (row_at records_layout records.now row ∷ []))) at pairs.old) }
 {
     if pairs_of(records, today, row) != 1 {
         return at;
@@ -88,8 +88,8 @@ fn write_row(records: &[i64], today: i64, row: usize, pairs: &mut [i64], at: usi
 
 // The pairs, in table order.
 fn write_pairs(records: &[i64], today: i64, pairs: &mut [i64])
-    requires { (soundRecordRows records.now ≡ true) × (any_of (map (lacksParent today (rows_of recordsLayout records.now)) (rows_of recordsLayout records.now)) ≡ false) × (length (idsAndSuffixes (reportableRecords today (rows_of recordsLayout records.now))) ≤ length pairs.old) }
-    ensures { pairs.new ≡ writtenTo pairs.old (idsAndSuffixes (reportableRecords today (rows_of recordsLayout records.now))) }
+    requires { (sound_record_rows records.now ≡ true) × (any_of (map (lacks_parent today (rows_of records_layout records.now)) (rows_of records_layout records.now)) ≡ false) × (length (ids_and_suffixes (reportable_records today (rows_of records_layout records.now))) ≤ length pairs.old) }
+    ensures { pairs.new ≡ written_to pairs.old (ids_and_suffixes (reportable_records today (rows_of records_layout records.now))) }
 {
     let rows = records::count(records);
     let mut row = 0;
@@ -101,7 +101,7 @@ fn write_pairs(records: &[i64], today: i64, pairs: &mut [i64])
 }
 
 pub fn reportable(records: &[i64], pairs: &mut [i64]) -> Reply
-    ensures { left result pairs.new records.now [] ≡ leftBy pairs.old (handleCall (tables_of records.now []) (Call.reportable (length pairs.old))) }
+    ensures { left result pairs.new records.now [] ≡ left_by pairs.old (handle_call (tables_of records.now []) (Call.reportable (length pairs.old))) }
 {
     if !scan::soundness::records_sound(records) {
         return Reply::Refused(1, 0);

@@ -11,9 +11,9 @@ use Rattle.rules.specs.Keyed.{Key, below, same, rising, find}
 use Rattle.rules.specs.Refusal.{any_of}
 use Rattle.keys.proofs.Split.{split, clash, or-false, none-some, some_inj}
 use Rattle.keys.proofs.KeyOrder.{same_refl, below_irrefl, below-not-same, below-trans, Way, lower, level, upper, way}
-use Rattle.keys.proofs.Clauses.{belowAll, find-nil, find-here, find-there}
-use Rattle.keys.proofs.Rising.{belowAll-head, belowAll-tail, rising-head, rising-tail}
-use Rattle.soundness.proofs.Accepted.{anyOf-head, anyOf-tail}
+use Rattle.keys.proofs.Clauses.{below_all, find-nil, find-here, find-there}
+use Rattle.keys.proofs.Rising.{below_all-head, below_all-tail, rising-head, rising-tail}
+use Rattle.soundness.proofs.Accepted.{any_of-head, any_of-tail}
 use Rattle.reporting.specs.Reported.{Stands}
 
 module _ {Item : Type 0} where
@@ -55,12 +55,12 @@ module _ {A B : Type 0} (f : A → B) where
 -- ---- rows with a key
 
 module _ {Row : Type 0} (key : Row → Key) where
-  pub below-standing : (k : Key) (rows : List Row) (r : Row) → belowAll key k rows ≡ true → Stands rows r → below k (key r) ≡ true
+  pub below-standing : (k : Key) (rows : List Row) (r : Row) → below_all key k rows ≡ true → Stands rows r → below k (key r) ≡ true
   below-standing k [] r h s = none-stands r s
-  below-standing k (x ∷ rest) r h s = go (below-standing k rest r (belowAll-tail key k x rest h)) (first-or-later x r rest s)
+  below-standing k (x ∷ rest) r h s = go (below-standing k rest r (below_all-tail key k x rest h)) (first-or-later x r rest s)
     where
       go : (Stands rest r → below k (key r) ≡ true) → (x ≡ r) ⊎ (Stands rest r) → below k (key r) ≡ true
-      go again (inl e) = subst (λ (y : Row). below k (key y) ≡ true) e (belowAll-head key k x rest h)
+      go again (inl e) = subst (λ (y : Row). below k (key y) ≡ true) e (below_all-head key k x rest h)
       go again (inr l) = again l
 
   pub found-stands : (k : Key) (rows : List Row) (r : Row) → find key k rows ≡ some r → Stands rows r
@@ -134,10 +134,10 @@ told-by-items (x ∷ xs) (y ∷ ys) h k there back =
 
 pub any-passes : {Item : Type 0} (p : Item → Bool) (items : List Item) (x : Item) → any_of (map p items) ≡ false → Stands items x → p x ≡ false
 any-passes p [] x h s = none-stands x s
-any-passes p (y ∷ rest) x h s = go (any-passes p rest x (anyOf-tail (p y) (map p rest) h)) (first-or-later y x rest s)
+any-passes p (y ∷ rest) x h s = go (any-passes p rest x (any_of-tail (p y) (map p rest) h)) (first-or-later y x rest s)
   where
     go : (Stands rest x → p x ≡ false) → (y ≡ x) ⊎ (Stands rest x) → p x ≡ false
-    go again (inl e) = ap p (sym e) ∙ anyOf-head (p y) (map p rest) h
+    go again (inl e) = ap p (sym e) ∙ any_of-head (p y) (map p rest) h
     go again (inr l) = again l
 
 pub passes-any : {Item : Type 0} (p : Item → Bool) (items : List Item) → ((x : Item) → Stands items x → p x ≡ false) → any_of (map p items) ≡ false

@@ -3,7 +3,7 @@
 use Rattle.std.specs.Prelude.{ℕ, ◌≡◌, List, ℤ, ◌<ℤ◌}
 use Rattle.std.proofs.Math.Option.{some}
 use Rattle.std.proofs.Math.ListN.{get_elem?}
-use Rattle.rules.specs.Figures.{adjustable, inverse, underGiveUp}
+use Rattle.rules.specs.Figures.{adjustable, inverse, under_give_up}
 use Rattle.rules.specs.declared.Record.{Record}
 
 -- It stands in the list, at some place.
@@ -21,9 +21,9 @@ pub data StatusReported (today : ℤ) (records : List Record) (r : Record) : Typ
   -- "its status at day end is adjustable"
   is-adjustable : r.status ≡ adjustable → StatusReported today records r
   -- "Status 3 counts as adjustable (house)."
-  is-under-give-up : r.status ≡ underGiveUp → StatusReported today records r
+  is-under-give-up : r.status ≡ under_give_up → StatusReported today records r
   -- "it is inverse and its parent was booked on an earlier day"
-  is_inverse : r.status ≡ inverse → (p : Record) → Parent records r p → p.day <ℤ today → StatusReported today records r
+  is-inverse : r.status ≡ inverse → (p : Record) → Parent records r p → p.day <ℤ today → StatusReported today records r
 
 pub record Reportable (today : ℤ) (records : List Record) (r : Record) : Type 0 where
   pub of-today : r.day ≡ today

@@ -4,33 +4,33 @@ use mathlib.Core.Bool.{true}
 use mathlib.Core.List.{List}
 use lib.IntN.{ℤ}
 use Rattle.rules.specs.Request.{Request}
-use Rattle.rules.specs.Tables.{soundRecords, soundPositions, tables_of}
+use Rattle.rules.specs.Tables.{sound_records, sound_positions, tables_of}
 use Rattle.rules.specs.Handle.{Answer, handle, answered}
 use Rattle.rules.specs.declared.Reply.TheVariants as Reply
 use Rattle.soundness.specs.SoundTables.{SoundTables}
 use Rattle.history.proofs.OnTables.{stays-sound}
-use Rattle.verdict.specs.Verdict.{verdictOn, acceptedOn}
+use Rattle.verdict.specs.Verdict.{verdict_on, accepted_on}
 use Rattle.verdict.specs.HandledSoundly.{HandledSoundly}
 use Rattle.verdict.specs.declared.Verdict.{Verdict}
 use Rattle.verdict.specs.declared.Verdict.TheVariants as Verdict
 use Rattle.verdict.proofs.Acceptance.{no-processes-sound}
 use Rattle.verdict.proofs.Handled.{handled-refused, handled-accepted}
 
-module _ (rs ps : List ℤ) (sound : (soundRecords rs ≡ true) × (soundPositions ps ≡ true)) (r : Request) where
+module _ (rs ps : List ℤ) (sound : (sound_records rs ≡ true) × (sound_positions ps ≡ true)) (r : Request) where
   -- Tables that a request on sound tables leaves are sound.
   pub handled-soundly : (a : Answer) → a ≡ handle (tables_of rs ps) r → HandledSoundly rs ps r a
   handled-soundly a e =
       let after : SoundTables (handle (tables_of rs ps) r).tables = stays-sound (tables_of rs ps) (record { records = sound.0; positions = sound.1; processes = no-processes-sound }) r in
       record {
         handled = e;
-        records-sound = ap (λ (b : Answer). soundRecords b.tables.records) e ∙ after.records;
-        positions-sound = ap (λ (b : Answer). soundPositions b.tables.positions) e ∙ after.positions;
+        records-sound = ap (λ (b : Answer). sound_records b.tables.records) e ∙ after.records;
+        positions-sound = ap (λ (b : Answer). sound_positions b.tables.positions) e ∙ after.positions;
       }
 
   -- By the code's verdict `v`.
-  module _ {v : Verdict} (judged : v ≡ verdictOn rs ps r) where
+  module _ {v : Verdict} (judged : v ≡ verdict_on rs ps r) where
     pub refused-soundly : (n p : ℤ) → v ≡ Verdict.Refused n p → HandledSoundly rs ps r (answered (Reply.Refused n p) rs ps)
     refused-soundly n p refused = handled-soundly _ (sym (handled-refused rs ps r sound.0 sound.1 n p (sym judged ∙ refused)))
 
-    pub booked-soundly : v ≡ Verdict.Accepted → (a : Answer) → a ≡ acceptedOn rs ps r → HandledSoundly rs ps r a
+    pub booked-soundly : v ≡ Verdict.Accepted → (a : Answer) → a ≡ accepted_on rs ps r → HandledSoundly rs ps r a
     booked-soundly accepted a e = handled-soundly a (e ∙ sym (handled-accepted rs ps r sound.0 sound.1 (sym judged ∙ accepted)))

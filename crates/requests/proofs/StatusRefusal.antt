@@ -4,8 +4,8 @@ use lib.IntN.{ℤ, pos}
 use mir.Facts.{to_z-of_z}
 use mir.Syntax.{w64}
 use mir.Val.{SFits, to_z, of_z}
-use Rattle.rules.specs.NamedRecord.{statusRefusal}
+use Rattle.rules.specs.NamedRecord.{status_refusal}
 
-pub status-number : {number status : ℤ} → SFits w64 number → SFits w64 status → number ≡ pos (statusRefusal (to_z w64 (of_z w64 status)))
-    → to_z w64 (of_z w64 number) ≡ pos (statusRefusal status)
-status-number n s e = to_z-of_z n ∙ e ∙ ap (λ (z : ℤ). pos (statusRefusal z)) (to_z-of_z s)
+pub status-number : {number status : ℤ} → SFits w64 number → SFits w64 status → number ≡ pos (status_refusal (to_z w64 (of_z w64 status)))
+    → to_z w64 (of_z w64 number) ≡ pos (status_refusal status)
+status-number n s e = to_z-of_z n ∙ e ∙ ap (λ (z : ℤ). pos (status_refusal z)) (to_z-of_z s)

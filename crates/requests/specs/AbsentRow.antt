@@ -3,6 +3,6 @@ use Rattle.std.specs.Prelude.{ℕ}
 use Rattle.lookup.specs.declared.Found.{Found}
 use Rattle.lookup.specs.declared.Found.TheVariants.{Row, Absent}
 
-unfoldable pub absentRow : Found → ℕ
-absentRow (Row row) = 0
-absentRow (Absent place) = 1
+unfoldable pub absent_row : Found → ℕ
+absent_row (Row row) = 0
+absent_row (Absent place) = 1

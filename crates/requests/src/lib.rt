@@ -1,17 +1,17 @@
 // What several requests share: what was looked up of a record and of a position, the room tests, a position's change, a new row, and the rows that come out of a record.
 ghost use Rattle.std.specs.Prelude.{◌≡◌, true, ◌∷◌, ◌+◌, ◌≤◌, ltb, pos, length};
-ghost use Rattle.rules.specs.Figures.{magnitudeAtMost, validPrice};
-ghost use Rattle.rules.specs.NamedRecord.{isElsewhere, statusRefusal};
-ghost use Rattle.rules.specs.Keyed.{upsertAll};
+ghost use Rattle.rules.specs.Figures.{magnitude_at_most, valid_price};
+ghost use Rattle.rules.specs.NamedRecord.{is_elsewhere, status_refusal};
+ghost use Rattle.rules.specs.Keyed.{upsert_all};
 ghost use Rattle.rules.specs.Rows as Rows;
-ghost use Rattle.rules.specs.Rows.{recordKey};
-ghost use Rattle.rules.specs.Layout.{roomOf, rows_of, write};
-ghost use Rattle.rules.specs.Tables.{recordsLayout, positionsLayout, soundRecordRows, soundPositions};
-ghost use Rattle.lookup.specs.Lookup.{recordSought};
+ghost use Rattle.rules.specs.Rows.{record_key};
+ghost use Rattle.rules.specs.Layout.{room_of, rows_of, write};
+ghost use Rattle.rules.specs.Tables.{records_layout, positions_layout, sound_record_rows, sound_positions};
+ghost use Rattle.lookup.specs.Lookup.{record_sought};
 ghost use Rattle.lookup.specs.declared.Sought.TheVariants.{Present};
-ghost use Rattle.tables.specs.NewRows.{newRows};
+ghost use Rattle.tables.specs.NewRows.{new_rows};
 ghost use Rattle.verdict.specs.MovedReady.{MovedReady};
-ghost use Rattle.requests.specs.AbsentRow.{absentRow};
+ghost use Rattle.requests.specs.AbsentRow.{absent_row};
 ghost use Rattle.requests.specs.AdjustReady.{AdjustReady};
 ghost use Rattle.requests.specs.KnownPosition.{KnownPosition};
 ghost use Rattle.requests.specs.KnownRecord.{KnownRecord};
@@ -38,7 +38,7 @@ pub struct Named {
 }
 
 pub fn position_held(cells: &[i64], account: i64, series: i64) -> Held
-    requires { soundPositions cells.now ≡ true }
+    requires { sound_positions cells.now ≡ true }
     ensures { KnownPosition cells.now account series result }
 {
     let found = positions::find_position(cells, account, series);
@@ -55,7 +55,7 @@ pub fn record_named(
     greatest: i64,
     place: usize,
 ) -> Named
-    requires { (soundRecordRows cells.now ≡ true) × (recordSought cells.now id suffix ≡ Present row greatest place) }
+    requires { (sound_record_rows cells.now ≡ true) × (record_sought cells.now id suffix ≡ Present row greatest place) }
     ensures { KnownRecord cells.now id suffix result }
 {
     let record = records::read_record(cells, row);
@@ -70,23 +70,23 @@ pub fn record_named(
 
 // 14: row count plus new rows exceeds the records room.
 pub fn lacks_records_room(cells: &[i64], added: usize) -> bool
-    requires { (soundRecordRows cells.now ≡ true) × (added ≤ 1001) }
-    ensures { result ≡ ltb (roomOf recordsLayout cells.now) (length (rows_of recordsLayout cells.now) + added) }
+    requires { (sound_record_rows cells.now ≡ true) × (added ≤ 1001) }
+    ensures { result ≡ ltb (room_of records_layout cells.now) (length (rows_of records_layout cells.now) + added) }
 {
     records::room(cells) < records::count(cells) + added
 }
 
 // 15: row count plus needed absent rows exceeds the positions room.
 pub fn lacks_positions_room(cells: &[i64], added: usize) -> bool
-    requires { (soundPositions cells.now ≡ true) × (added ≤ 2) }
-    ensures { result ≡ ltb (roomOf positionsLayout cells.now) (length (rows_of positionsLayout cells.now) + added) }
+    requires { (sound_positions cells.now ≡ true) × (added ≤ 2) }
+    ensures { result ≡ ltb (room_of positions_layout cells.now) (length (rows_of positions_layout cells.now) + added) }
 {
     positions::room(cells) < positions::count(cells) + added
 }
 
 // 1 where the lookup found no row, else 0.
 pub fn absent_row(found: Found) -> usize
-    ensures { result ≡ absentRow found }
+    ensures { result ≡ absent_row found }
 {
     match found {
         Found::Row(_) => 0,
@@ -112,8 +112,8 @@ pub fn moved(p: Position, m: Movement) -> Position
 
 // A quantity that comes to a position on this side at this price, or leaves it where the amount is negative, with what is booked to long and short.
 pub fn in_booked(side: i64, amount: i64, price: i64, long: i64, short: i64) -> Movement
-    requires { (magnitudeAtMost 1000000 amount ≡ true) × (validPrice price ≡ true) }
-    ensures { result ≡ Rows.inBooked side amount price long short }
+    requires { (magnitude_at_most 1000000 amount ≡ true) × (valid_price price ≡ true) }
+    ensures { result ≡ Rows.in_booked side amount price long short }
 {
     let quantity = figures::signed(side, amount);
     let value = quantity * price;
@@ -128,7 +128,7 @@ pub fn in_booked(side: i64, amount: i64, price: i64, long: i64, short: i64) -> M
 
 // A merge's residual, in cash and in the value.
 pub fn by_residual(residual: i64) -> Movement
-    ensures { result ≡ Rows.byResidual residual }
+    ensures { result ≡ Rows.by_residual residual }
 {
     Movement {
         long: 0,
@@ -150,7 +150,7 @@ pub fn adjust_named(
     quantities: &[i64],
 )
     requires { AdjustReady records.old id suffix named inverse first quantities.now }
-    ensures { records.new ≡ write recordsLayout records.old (upsertAll recordKey (Rows.adjustedRecord named.record ∷ newRows inverse first quantities.now) (rows_of recordsLayout records.old)) }
+    ensures { records.new ≡ write records_layout records.old (upsert_all record_key (Rows.adjusted_record named.record ∷ new_rows inverse first quantities.now) (rows_of records_layout records.old)) }
 {
     let row = named.row;
     let place = named.place;
@@ -160,7 +160,7 @@ pub fn adjust_named(
 
 // 6: its account or series isn't the one named.
 pub fn is_elsewhere(r: Record, account: i64, series: i64) -> bool
-    ensures { result ≡ isElsewhere account series r }
+    ensures { result ≡ is_elsewhere account series r }
 {
     if r.account != account {
         return true;
@@ -170,7 +170,7 @@ pub fn is_elsewhere(r: Record, account: i64, series: i64) -> bool
 
 // 7, or 17 while a give-up is under way: the refusal of a record of this status, which isn't 0.
 pub fn status_refusal(status: i64) -> i64
-    ensures { result ≡ pos (statusRefusal status) }
+    ensures { result ≡ pos (status_refusal status) }
 {
     if status == UNDER_GIVE_UP {
         return 17;
@@ -191,7 +191,7 @@ pub fn new_record(
     long: i64,
     short: i64,
 ) -> Record
-    ensures { result ≡ Rows.newRecord today id kind account series side quantity price long short }
+    ensures { result ≡ Rows.new_record today id kind account series side quantity price long short }
 {
     Record {
         id,
@@ -221,8 +221,8 @@ pub fn inverse_record(
     short: i64,
     into: i64,
 ) -> Record
-    requires { magnitudeAtMost 1000000 r.quantity ≡ true }
-    ensures { result ≡ Rows.inverseRecord today r suffix kind long short into }
+    requires { magnitude_at_most 1000000 r.quantity ≡ true }
+    ensures { result ≡ Rows.inverse_record today r suffix kind long short into }
 {
     Record {
         id: r.id,
@@ -253,7 +253,7 @@ pub fn adjustable_record(
     long: i64,
     short: i64,
 ) -> Record
-    ensures { result ≡ Rows.adjustableRecord today r suffix kind account quantity long short }
+    ensures { result ≡ Rows.adjustable_record today r suffix kind account quantity long short }
 {
     Record {
         id: r.id,

@@ -5,13 +5,13 @@ use Rattle.rules.specs.Tables.{Tables}
 use Rattle.rules.specs.Handle.{handle}
 use Rattle.rules.specs.declared.Reply.{Reply}
 use Rattle.rules.specs.declared.Reply.TheVariants.{Booked, ClosingError, Lineage, Refused, Stopped, Written, Replayed, BadLine, LineRefused, Listed}
-use Rattle.lines.specs.LineNumbers.{newlines, fromLine, LineIs, LineIsBad}
-use Rattle.history.specs.History.{isAccepted}
+use Rattle.lines.specs.LineNumbers.{newlines, from_line, LineIs, LineIsBad}
+use Rattle.history.specs.History.{is_accepted}
 
 -- Lines 1 to n of a text are booked, from these tables to those: each is the line of a request that is accepted on the tables that the lines before it left.
 pub data LinesBooked (t : Tables) (text : List ℕ) : ℕ → Tables → Type 0 where
   no_line : LinesBooked t text 0 t
-  one_more : {n : ℕ} {u : Tables} (r : Request) → LinesBooked t text n u → LineIs text (suc n) r → isAccepted u r ≡ true → LinesBooked t text (suc n) (handle u r).tables
+  one_more : {n : ℕ} {u : Tables} (r : Request) → LinesBooked t text n u → LineIs text (suc n) r → is_accepted u r ≡ true → LinesBooked t text (suc n) (handle u r).tables
 
 -- Line n is bad, and those before it are booked.
 pub record StopsAtBad (t : Tables) (text : List ℕ) (n : ℕ) (end : Tables) : Type 0 where
@@ -30,7 +30,7 @@ pub record StopsAtRefused (t : Tables) (text : List ℕ) (n : ℕ) (number place
 -- The text has n lines, the last byte is the newline of the last, and all are booked.
 pub record EveryLineBooked (t : Tables) (text : List ℕ) (n : ℕ) (end : Tables) : Type 0 where
   pub lines : newlines text ≡ n
-  pub nothing-after : fromLine (n + 1) text ≡ []
+  pub nothing-after : from_line (n + 1) text ≡ []
   pub booked : LinesBooked t text n end
 
 -- By the answer; a replay has no other. `end`: the tables that it leaves.

@@ -5,10 +5,10 @@ use mathlib.Core.Bool.{true, false}
 use mathlib.Core.List.{[], ◌∷◌, ◌++◌, map}
 use lib.IntN.{pos, neg_ℤ}
 use Rattle.rules.specs.Request.{trade, separate, transfer, merge}
-use Rattle.rules.specs.Handle.{answeredBy}
-use Rattle.rules.specs.Call.{one, trades, handleCall}
-use Rattle.rules.specs.Touching.{touch, callsTouch}
-use Rattle.rules.specs.SmallTables.{empty, buy, buyFigures, halfMerged, mergedAt, run_of, recordsAfter, positionsAfter}
+use Rattle.rules.specs.Handle.{answered_by}
+use Rattle.rules.specs.Call.{one, trades, handle_call}
+use Rattle.rules.specs.Touching.{touch, calls_touch}
+use Rattle.rules.specs.SmallTables.{empty, buy, buy_figures, half_merged, merged_at, run_of, records_after, positions_after}
 use Rattle.rules.specs.declared.Record.{Record}
 use Rattle.rules.specs.declared.Position.{Position}
 use Rattle.rules.specs.declared.Reply.TheVariants.{Booked, Refused, Stopped}
@@ -16,13 +16,13 @@ use Rattle.rules.proofs.Computed.{Computed}
 
 -- "Booking the separation's inverse against the position: long drops to 0 and never returns." Long stays, and no row of the separation books anything.
 pub separation-leaves-the-position :
-    positionsAfter (empty 57 7) (buy (pos 7) (pos 1) ∷ separate (pos 7) (pos 0) (pos 1) (pos 1) (pos 60 ∷ pos 40 ∷ []) ∷ [])
-    ≡ positionsAfter (empty 57 7) (buy (pos 7) (pos 1) ∷ [])
+    positions_after (empty 57 7) (buy (pos 7) (pos 1) ∷ separate (pos 7) (pos 0) (pos 1) (pos 1) (pos 60 ∷ pos 40 ∷ []) ∷ [])
+    ≡ positions_after (empty 57 7) (buy (pos 7) (pos 1) ∷ [])
 unfolding Computed
 separation-leaves-the-position = refl
 
 pub separation-books-nothing :
-    map (λ (r : Record). r.long) (recordsAfter (empty 57 7) (buy (pos 7) (pos 1) ∷ separate (pos 7) (pos 0) (pos 1) (pos 1) (pos 60 ∷ pos 40 ∷ []) ∷ []))
+    map (λ (r : Record). r.long) (records_after (empty 57 7) (buy (pos 7) (pos 1) ∷ separate (pos 7) (pos 0) (pos 1) (pos 1) (pos 60 ∷ pos 40 ∷ []) ∷ []))
     ≡ pos 100 ∷ pos 0 ∷ pos 0 ∷ pos 0 ∷ []
 unfolding Computed
 separation-books-nothing = refl
@@ -30,7 +30,7 @@ separation-books-nothing = refl
 -- "Numbering merge inverses from a count taken once, when two sources share an id." Each takes a suffix of its own.
 pub inverses-take-successive-suffixes :
     map (λ (r : Record). r.suffix)
-    (recordsAfter (empty 99 7)
+    (records_after (empty 99 7)
     (buy (pos 7) (pos 1)
     ∷ separate (pos 7) (pos 0) (pos 1) (pos 1) (pos 60 ∷ pos 40 ∷ [])
     ∷ merge (pos 8) (pos 1) (pos 1) (pos 7 ∷ pos 2 ∷ pos 7 ∷ pos 3 ∷ [])
@@ -94,7 +94,7 @@ refused-leaves-the-cells = refl
 -- The residual "is added to the position's cash": buys of 1 at 0 and 1 at 1 leave 1.
 pub residual-in-cash :
     map (λ (p : Position). p.cash)
-    (positionsAfter (empty 71 7)
+    (positions_after (empty 71 7)
     (trade (pos 7) (pos 1) (pos 1) (pos 1) (pos 1) (pos 0)
     ∷ trade (pos 8) (pos 1) (pos 1) (pos 1) (pos 1) (pos 1)
     ∷ merge (pos 9) (pos 1) (pos 1) (pos 7 ∷ pos 0 ∷ pos 8 ∷ pos 0 ∷ [])
@@ -105,8 +105,8 @@ residual-in-cash = refl
 
 -- "A half goes away from zero, so that negating every price negates the average" (02, K4), of buys and of sells: 1 at 1 and 1 at 0 come at 1, and 1 at -1 and 1 at 0 at -1.
 pub halves-away-from-zero :
-    halfMerged (pos 1) (pos 1) ∷ halfMerged (pos 1) (neg_ℤ (pos 1)) ∷ halfMerged (pos 2) (pos 1) ∷ halfMerged (pos 2) (neg_ℤ (pos 1)) ∷ []
-    ≡ mergedAt (pos 1) (pos 1) ∷ mergedAt (neg_ℤ (pos 1)) (neg_ℤ (pos 1)) ∷ mergedAt (pos 1) (neg_ℤ (pos 1)) ∷ mergedAt (neg_ℤ (pos 1)) (pos 1) ∷ []
+    half_merged (pos 1) (pos 1) ∷ half_merged (pos 1) (neg_ℤ (pos 1)) ∷ half_merged (pos 2) (pos 1) ∷ half_merged (pos 2) (neg_ℤ (pos 1)) ∷ []
+    ≡ merged_at (pos 1) (pos 1) ∷ merged_at (neg_ℤ (pos 1)) (neg_ℤ (pos 1)) ∷ merged_at (pos 1) (neg_ℤ (pos 1)) ∷ merged_at (neg_ℤ (pos 1)) (pos 1) ∷ []
 unfolding Computed
 halves-away-from-zero = refl
 
@@ -118,14 +118,14 @@ room-counts-new-rows = refl
 
 -- Document 02, K1: a batch whose second trade is refused 4 "keeps what came before" and does not go on to the third, which would be accepted.
 pub batch-stops :
-    handleCall (empty 43 14) (trades (buyFigures (pos 7) (pos 1) ++ buyFigures (pos 7) (pos 2) ++ buyFigures (pos 8) (pos 3)) 3)
+    handle_call (empty 43 14) (trades (buy_figures (pos 7) (pos 1) ++ buy_figures (pos 7) (pos 2) ++ buy_figures (pos 8) (pos 3)) 3)
     ≡ record { reply = Stopped (pos 1) (pos 4) (pos 0); output = pos 0 ∷ []; tables = (run_of (empty 43 14) (buy (pos 7) (pos 1) ∷ [])).tables }
 unfolding Computed
 batch-stops = refl
 
 -- "each booked trade's excess, 0 if none": a sell to close of 150 against 100.
 pub excess-each :
-    handleCall (empty 43 14) (trades (buyFigures (pos 7) (pos 1) ++ (pos 8 ∷ pos 1 ∷ pos 1 ∷ pos 4 ∷ pos 150 ∷ pos 5 ∷ [])) 3)
+    handle_call (empty 43 14) (trades (buy_figures (pos 7) (pos 1) ++ (pos 8 ∷ pos 1 ∷ pos 1 ∷ pos 4 ∷ pos 150 ∷ pos 5 ∷ [])) 3)
     ≡ record {
       reply = Booked (pos 2) (pos 0);
       output = pos 0 ∷ pos 50 ∷ [];
@@ -136,20 +136,20 @@ excess-each = refl
 
 -- "fewer cells than listed trades: 3", and "otherwise refusal 3, after 1 and 2, nothing booked".
 pub short-excess-refused :
-    handleCall (empty 43 14) (trades (buyFigures (pos 7) (pos 1) ++ buyFigures (pos 8) (pos 2)) 1) ≡ answeredBy (Refused (pos 3) (pos 0)) (empty 43 14)
+    handle_call (empty 43 14) (trades (buy_figures (pos 7) (pos 1) ++ buy_figures (pos 8) (pos 2)) 1) ≡ answered_by (Refused (pos 3) (pos 0)) (empty 43 14)
 unfolding Computed
 short-excess-refused = refl
 
 pub seventh-figure-refused :
-    handleCall (empty 43 14) (trades (buyFigures (pos 7) (pos 1) ++ (pos 8 ∷ [])) 9) ≡ answeredBy (Refused (pos 3) (pos 0)) (empty 43 14)
+    handle_call (empty 43 14) (trades (buy_figures (pos 7) (pos 1) ++ (pos 8 ∷ [])) 9) ≡ answered_by (Refused (pos 3) (pos 0)) (empty 43 14)
 unfolding Computed
 seventh-figure-refused = refl
 
 -- A batch "names all their ids and positions".
-pub batch-names-each-id : callsTouch (trades (buyFigures (pos 7) (pos 1) ++ buyFigures (pos 8) (pos 2)) 2) (one (buy (pos 8) (pos 3))) ≡ true
+pub batch-names-each-id : calls_touch (trades (buy_figures (pos 7) (pos 1) ++ buy_figures (pos 8) (pos 2)) 2) (one (buy (pos 8) (pos 3))) ≡ true
 unfolding Computed
 batch-names-each-id = refl
 
-pub batch-names-each-position : callsTouch (one (buy (pos 9) (pos 2))) (trades (buyFigures (pos 7) (pos 1) ++ buyFigures (pos 8) (pos 2)) 2) ≡ true
+pub batch-names-each-position : calls_touch (one (buy (pos 9) (pos 2))) (trades (buy_figures (pos 7) (pos 1) ++ buy_figures (pos 8) (pos 2)) 2) ≡ true
 unfolding Computed
 batch-names-each-position = refl

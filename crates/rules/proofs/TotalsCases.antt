@@ -3,11 +3,11 @@
 use mathlib.Core.Path.{◌≡◌, refl}
 use mathlib.Core.List.{List, [], ◌∷◌, map}
 use lib.IntN.{ℤ, pos, neg_ℤ}
-use Rattle.rules.specs.Request.{Request, trade, separate, transfer, merge, giveUp}
+use Rattle.rules.specs.Request.{Request, trade, separate, transfer, merge, give_up}
 use Rattle.rules.specs.Handle.{handle}
 use Rattle.rules.specs.Tables.{Tables, tables_of}
-use Rattle.rules.specs.Totals.{totalQuantity, totalValue}
-use Rattle.rules.specs.SmallTables.{emptyCells, emptyTables, recordsAfter, positionsAfter}
+use Rattle.rules.specs.Totals.{total_quantity, total_value}
+use Rattle.rules.specs.SmallTables.{empty_cells, empty_tables, records_after, positions_after}
 use Rattle.rules.specs.declared.Record.{Record}
 use Rattle.rules.specs.declared.Position.{Position}
 use Rattle.rules.specs.declared.Step.{Step}
@@ -18,16 +18,16 @@ use Rattle.rules.proofs.Computed.{Computed}
 
 -- The totals that two accounts' rows of series 1 keep after some requests, and the sums over the records.
 abbrev kept : Tables → List Request → List (List ℤ)
-kept t requests = map (λ (p : Position). p.account ∷ p.quantity ∷ p.value ∷ []) (positionsAfter t requests)
+kept t requests = map (λ (p : Position). p.account ∷ p.quantity ∷ p.value ∷ []) (positions_after t requests)
 
 abbrev summed : Tables → List Request → List ℤ → List (List ℤ)
 summed t requests accounts =
-    let rows : List Record = recordsAfter t requests in
-    map (λ (account : ℤ). account ∷ (totalQuantity account (pos 1) rows) ∷ (totalValue account (pos 1) rows) ∷ []) accounts
+    let rows : List Record = records_after t requests in
+    map (λ (account : ℤ). account ∷ (total_quantity account (pos 1) rows) ∷ (total_value account (pos 1) rows) ∷ []) accounts
 
 -- Room for eight records, two positions and one process.
 abbrev small : Tables
-small = emptyTables 113 14 9
+small = empty_tables 113 14 9
 
 -- Trade 7 buys 100 and trade 8 sells 40 at prices 5 and 6, account 1.
 abbrev bought : Request
@@ -91,7 +91,7 @@ merge-summed = refl
 
 -- "of status 0 or 3": a record under give-up still counts for the old account; the step that completes it moves the totals.
 abbrev given : List Step → List Request
-given steps = bought ∷ map (λ (step : Step). giveUp step (pos 9) (pos 7) (pos 0) (pos 1) (pos 2) (pos 1)) steps
+given steps = bought ∷ map (λ (step : Step). give_up step (pos 9) (pos 7) (pos 0) (pos 1) (pos 2) (pos 1)) steps
 
 pub give-up-counts : summed small (given (Open ∷ Claim ∷ [])) (pos 1 ∷ []) ≡ (pos 1 ∷ pos 100 ∷ pos 500 ∷ []) ∷ []
 unfolding Computed
@@ -108,9 +108,9 @@ give-up-completed = refl
 -- ---- refusal 16
 
 -- A table with one position, of account 1 and series 1, and room for no other; and the reply to a trade of 1 on it.
-abbrev onPosition : (long short cash quantity value : ℤ) → Request → Reply
-onPosition long short cash quantity value r =
-    (handle (tables_of (emptyCells 29) (pos 1 ∷ pos 1 ∷ pos 1 ∷ long ∷ short ∷ cash ∷ quantity ∷ value ∷ [])) r).reply
+abbrev on_position : (long short cash quantity value : ℤ) → Request → Reply
+on_position long short cash quantity value r =
+    (handle (tables_of (empty_cells 29) (pos 1 ∷ pos 1 ∷ pos 1 ∷ long ∷ short ∷ cash ∷ quantity ∷ value ∷ [])) r).reply
 
 abbrev one_at : (side price : ℤ) → Request
 one_at side price = trade (pos 7) (pos 1) (pos 1) side (pos 1) price
@@ -120,30 +120,30 @@ most = pos 4000000000000000000
 
 -- "Each magnitude stays within 4,000,000,000,000,000,000, tested after the whole request ...; beyond is 16": a figure at the end of its range may come back and may not go on.
 pub quantity-at-its-most :
-    onPosition (pos 1) (pos 0) (pos 0) most (pos 0) (one_at (pos 1) (pos 0)) ∷ onPosition (pos 1) (pos 0) (pos 0) most (pos 0) (one_at (pos 2) (pos 0)) ∷ []
+    on_position (pos 1) (pos 0) (pos 0) most (pos 0) (one_at (pos 1) (pos 0)) ∷ on_position (pos 1) (pos 0) (pos 0) most (pos 0) (one_at (pos 2) (pos 0)) ∷ []
     ≡ Refused (pos 16) (pos 0) ∷ Booked (pos 1) (pos 0) ∷ []
 unfolding Computed
 quantity-at-its-most = refl
 
 pub quantity-at-its-least :
-    onPosition (pos 1) (pos 0) (pos 0) (neg_ℤ most) (pos 0) (one_at (pos 2) (pos 0)) ∷ onPosition (pos 1) (pos 0) (pos 0) (neg_ℤ most) (pos 0) (one_at (pos 1) (pos 0)) ∷ []
+    on_position (pos 1) (pos 0) (pos 0) (neg_ℤ most) (pos 0) (one_at (pos 2) (pos 0)) ∷ on_position (pos 1) (pos 0) (pos 0) (neg_ℤ most) (pos 0) (one_at (pos 1) (pos 0)) ∷ []
     ≡ Refused (pos 16) (pos 0) ∷ Booked (pos 1) (pos 0) ∷ []
 unfolding Computed
 quantity-at-its-least = refl
 
 pub value-at-its-most :
-    onPosition (pos 1) (pos 0) (pos 0) (pos 0) most (one_at (pos 1) (pos 1)) ∷ onPosition (pos 1) (pos 0) (pos 0) (pos 0) most (one_at (pos 2) (pos 1)) ∷ []
+    on_position (pos 1) (pos 0) (pos 0) (pos 0) most (one_at (pos 1) (pos 1)) ∷ on_position (pos 1) (pos 0) (pos 0) (pos 0) most (one_at (pos 2) (pos 1)) ∷ []
     ≡ Refused (pos 16) (pos 0) ∷ Booked (pos 1) (pos 0) ∷ []
 unfolding Computed
 value-at-its-most = refl
 
 pub value-at-its-least :
-    onPosition (pos 1) (pos 0) (pos 0) (pos 0) (neg_ℤ most) (one_at (pos 2) (pos 1)) ∷ onPosition (pos 1) (pos 0) (pos 0) (pos 0) (neg_ℤ most) (one_at (pos 1) (pos 1)) ∷ []
+    on_position (pos 1) (pos 0) (pos 0) (pos 0) (neg_ℤ most) (one_at (pos 2) (pos 1)) ∷ on_position (pos 1) (pos 0) (pos 0) (pos 0) (neg_ℤ most) (one_at (pos 1) (pos 1)) ∷ []
     ≡ Refused (pos 16) (pos 0) ∷ Booked (pos 1) (pos 0) ∷ []
 unfolding Computed
 value-at-its-least = refl
 
 -- "Soundness asks only that range": a total beyond it makes the table unsound (2), one that no record accounts for does not.
-pub beyond-is-unsound : onPosition (pos 1) (pos 0) (pos 0) (pos 4000000000000000001) (pos 0) (one_at (pos 2) (pos 0)) ≡ Refused (pos 2) (pos 0)
+pub beyond-is-unsound : on_position (pos 1) (pos 0) (pos 0) (pos 4000000000000000001) (pos 0) (one_at (pos 2) (pos 0)) ≡ Refused (pos 2) (pos 0)
 unfolding Computed
 beyond-is-unsound = refl

@@ -3,7 +3,7 @@
 use Rattle.std.specs.Prelude.{ℕ, ◌+◌, Bool, true, false, cond, ◌&&◌, ◌||◌, List, [], ◌∷◌, ℤ}
 use Rattle.std.proofs.Math.Option.{Option, none, some}
 use Rattle.std.specs.Int.Signed.{lt_z, le_z}
-use Rattle.integers.specs.Order.{eqZ}
+use Rattle.integers.specs.Order.{eq_z}
 
 pub record Key : Type 0 where
   pub major : ℤ
@@ -11,10 +11,10 @@ pub record Key : Type 0 where
 
 -- "by id and then suffix", "by account and then series": the first key comes before the second.
 unfoldable pub below : Key → Key → Bool
-below a b = lt_z a.major b.major || (eqZ a.major b.major && lt_z a.minor b.minor)
+below a b = lt_z a.major b.major || (eq_z a.major b.major && lt_z a.minor b.minor)
 
 unfoldable pub same : Key → Key → Bool
-same a b = eqZ a.major b.major && eqZ a.minor b.minor
+same a b = eq_z a.major b.major && eq_z a.minor b.minor
 
 unfoldable pub is_some : {A : Type 0} → Option A → Bool
 is_some none = false
@@ -40,7 +40,7 @@ module _ {Row : Type 0} (key : Row → Key) where
   -- The greatest second figure among the keys with that first figure: the greatest suffix of an id.
   unfoldable pub greatest : ℤ → List Row → Option ℤ
   greatest m [] = none
-  greatest m (r ∷ rest) = cond (eqZ (key r).major m) (some (at_least (key r).minor (greatest m rest))) (greatest m rest)
+  greatest m (r ∷ rest) = cond (eq_z (key r).major m) (some (at_least (key r).minor (greatest m rest))) (greatest m rest)
 
   -- "A new row goes where its key belongs; the rows above that place move up by one." A row whose key is there is replaced.
   unfoldable pub upsert : Row → List Row → List Row
@@ -48,11 +48,11 @@ module _ {Row : Type 0} (key : Row → Key) where
   upsert new (r ∷ rest) = cond (below (key new) (key r)) (new ∷ r ∷ rest) (cond (same (key new) (key r)) (new ∷ rest) (r ∷ upsert new rest))
 
   -- Rows put one after the other.
-  unfoldable pub upsertAll : List Row → List Row → List Row
-  upsertAll [] table = table
-  upsertAll (new ∷ more) table = upsertAll more (upsert new table)
+  unfoldable pub upsert_all : List Row → List Row → List Row
+  upsert_all [] table = table
+  upsert_all (new ∷ more) table = upsert_all more (upsert new table)
 
   -- How many of these rows have a key that the table lacks.
-  unfoldable pub absentFrom : List Row → List Row → ℕ
-  absentFrom table [] = 0
-  absentFrom table (r ∷ rest) = cond (is_some (find (key r) table)) 0 1 + absentFrom table rest
+  unfoldable pub absent_from : List Row → List Row → ℕ
+  absent_from table [] = 0
+  absent_from table (r ∷ rest) = cond (is_some (find (key r) table)) 0 1 + absent_from table rest

@@ -15,12 +15,12 @@ abbrev pub count_of : List ℤ → ℤ
 count_of cells = get_or cells 0 (pos 0)
 
 -- The cells of a header after the count.
-abbrev pub afterCount : ℕ → List ℤ → List ℤ
-afterCount header cells = take (header - 1) (drop 1 cells)
+abbrev pub after_count : ℕ → List ℤ → List ℤ
+after_count header cells = take (header - 1) (drop 1 cells)
 
 -- "Room is the whole rows that fit after cell 0, at most" the greatest: of so many cells.
-unfoldable pub roomFor : (header width most cells : ℕ) → ℕ
-roomFor header width most cells = min most ((cells - header) / width)
+unfoldable pub room_for : (header width most cells : ℕ) → ℕ
+room_for header width most cells = min most ((cells - header) / width)
 
 module _ {Row : Type 0} where
   -- So many rows, the first at this cell.
@@ -39,17 +39,17 @@ module _ {Row : Type 0} where
   abbrev pub row_at : Layout Row → List ℤ → ℕ → Row
   row_at l cells row = l.get cells (start_of l row)
 
-  unfoldable pub roomOf : Layout Row → List ℤ → ℕ
-  roomOf l cells = roomFor l.header l.width l.most (length cells)
+  unfoldable pub room_of : Layout Row → List ℤ → ℕ
+  room_of l cells = room_for l.header l.width l.most (length cells)
 
   -- The rows that the count names.
   unfoldable pub rows_of : Layout Row → List ℤ → List Row
   rows_of l cells = decode l.get l.width (nat_abs (count_of cells)) l.header cells
 
   -- "the slice has a cell 0, the count lies between 0 and the room"
-  unfoldable pub countIsSound : Layout Row → List ℤ → Bool
-  countIsSound l cells = leb l.header (length cells) && in_range (pos 0) (pos (roomOf l cells)) (count_of cells)
+  unfoldable pub count_is_sound : Layout Row → List ℤ → Bool
+  count_is_sound l cells = leb l.header (length cells) && in_range (pos 0) (pos (room_of l cells)) (count_of cells)
 
   -- The table with these rows: the count, the rows' cells, and all other cells as they were, those of the header and those past the last row.
   unfoldable pub write : Layout Row → List ℤ → List Row → List ℤ
-  write l cells rows = pos (length rows) ∷ (afterCount l.header cells ++ (encode l.put rows ++ drop (start_of l (length rows)) cells))
+  write l cells rows = pos (length rows) ∷ (after_count l.header cells ++ (encode l.put rows ++ drop (start_of l (length rows)) cells))

@@ -13,8 +13,8 @@ abbrev pub left : Reply → (output records positions : List ℤ) → Left
 left reply output records positions = record { reply = reply; output = output; tables = tables_of records positions }
 
 -- What is written stands from the first cell on, and the cells past it stay as they were.
-unfoldable pub writtenTo : List ℤ → List ℤ → List ℤ
-writtenTo cells written = written ++ drop (length written) cells
+unfoldable pub written_to : List ℤ → List ℤ → List ℤ
+written_to cells written = written ++ drop (length written) cells
 
-abbrev pub leftBy : List ℤ → Answer → Left
-leftBy cells a = record { reply = a.reply; output = writtenTo cells a.output; tables = a.tables }
+abbrev pub left_by : List ℤ → Answer → Left
+left_by cells a = record { reply = a.reply; output = written_to cells a.output; tables = a.tables }

@@ -20,15 +20,15 @@ all_of [] = true
 all_of (b ∷ rest) = b && all_of rest
 
 -- "the list position, from 0, of the first source that fails"
-unfoldable pub firstPlace : List Bool → ℕ
-firstPlace [] = 0
-firstPlace (b ∷ rest) = cond b 0 (suc (firstPlace rest))
+unfoldable pub first_place : List Bool → ℕ
+first_place [] = 0
+first_place (b ∷ rest) = cond b 0 (suc (first_place rest))
 
 -- "Each test runs over the whole list before the next number is tried": one row for a whole list of sources.
-unfoldable pub testEach : ℕ → List Bool → Test
-testEach number fails = record { number = number; applies = any_of fails; place = firstPlace fails }
+unfoldable pub test_each : ℕ → List Bool → Test
+test_each number fails = record { number = number; applies = any_of fails; place = first_place fails }
 
 -- "Given exactly when, and no lower number applies": the first row that applies.
-unfoldable pub firstRefusal : List Test → Option Test
-firstRefusal [] = none
-firstRefusal (t ∷ rest) = cond t.applies (some t) (firstRefusal rest)
+unfoldable pub first_refusal : List Test → Option Test
+first_refusal [] = none
+first_refusal (t ∷ rest) = cond t.applies (some t) (first_refusal rest)

@@ -24,5 +24,5 @@ code_of (LineRefused line number place) = record { kind = pos 8; first = line; s
 code_of (Listed records) = record { kind = pos 9; first = records; second = pos 0; third = pos 0 }
 
 -- "refused, with number and place"
-unfoldable pub refusedBy : Test → Reply
-refusedBy t = Refused (pos t.number) (pos t.place)
+unfoldable pub refused_by : Test → Reply
+refused_by t = Refused (pos t.number) (pos t.place)

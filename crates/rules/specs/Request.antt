@@ -9,15 +9,15 @@ pub data Request : Type 0 where
   transfer : (id suffix from to series : ℤ) → Request
   merge : (id account series : ℤ) (pairs : List ℤ) → Request
   lineage : (id suffix : ℤ) → Request
-  giveUp : Step → (process id suffix giving taking series : ℤ) → Request
-  newDay : (day : ℤ) → Request
+  give_up : Step → (process id suffix giving taking series : ℤ) → Request
+  new_day : (day : ℤ) → Request
 
 -- A step of a give-up; the others are not lent the process table.
-unfoldable pub isStep : Request → Bool
-isStep (trade id account series side quantity price) = false
-isStep (separate id suffix account series parts) = false
-isStep (transfer id suffix from to series) = false
-isStep (merge id account series pairs) = false
-isStep (lineage id suffix) = false
-isStep (giveUp step process id suffix giving taking series) = true
-isStep (newDay day) = false
+unfoldable pub is_step : Request → Bool
+is_step (trade id account series side quantity price) = false
+is_step (separate id suffix account series parts) = false
+is_step (transfer id suffix from to series) = false
+is_step (merge id account series pairs) = false
+is_step (lineage id suffix) = false
+is_step (give_up step process id suffix giving taking series) = true
+is_step (new_day day) = false

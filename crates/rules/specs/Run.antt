@@ -2,7 +2,7 @@
 use Rattle.std.specs.Prelude.{List, [], ◌∷◌}
 use Rattle.rules.specs.Tables.{Tables}
 use Rattle.rules.specs.Handle.{Answer}
-use Rattle.rules.specs.Call.{Call, handleCall}
+use Rattle.rules.specs.Call.{Call, handle_call}
 use Rattle.rules.specs.declared.Reply.{Reply}
 
 -- Every reply in turn, and the tables at the end.
@@ -10,11 +10,11 @@ pub record Run : Type 0 where
   pub replies : List Reply
   pub tables : Tables
 
-unfoldable pub afterReply : Reply → Run → Run
-afterReply reply later = record { replies = reply ∷ later.replies; tables = later.tables }
+unfoldable pub after_reply : Reply → Run → Run
+after_reply reply later = record { replies = reply ∷ later.replies; tables = later.tables }
 
 unfoldable pub run : Tables → List Call → Run
 run t [] = record { replies = []; tables = t }
 run t (c ∷ rest) =
-    let a : Answer = handleCall t c in
-    afterReply a.reply (run a.tables rest)
+    let a : Answer = handle_call t c in
+    after_reply a.reply (run a.tables rest)

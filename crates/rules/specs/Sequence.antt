@@ -4,7 +4,7 @@ use Rattle.std.proofs.Math.Option.{Option, none, some}
 use Rattle.rules.specs.Refusal.{Test}
 use Rattle.rules.specs.Request.{Request}
 use Rattle.rules.specs.Tables.{Tables}
-use Rattle.rules.specs.Handle.{refusalOf, handle}
+use Rattle.rules.specs.Handle.{refusal_of, handle}
 use Rattle.rules.specs.declared.Reply.{Reply}
 
 -- An accepted request with its reply.
@@ -19,10 +19,10 @@ pub record Sequence : Type 0 where
   pub tables : Tables
 
 -- "it stops at the first refusal, keeps what came before"
-unfoldable pub goesOn : Tables → Request → Option Test → Sequence → Sequence
-goesOn t r none later = record { done = record { request = r; reply = (handle t r).reply } ∷ later.done; stop = later.stop; tables = later.tables }
-goesOn t r (some refusal) later = record { done = []; stop = some refusal; tables = t }
+unfoldable pub goes_on : Tables → Request → Option Test → Sequence → Sequence
+goes_on t r none later = record { done = record { request = r; reply = (handle t r).reply } ∷ later.done; stop = later.stop; tables = later.tables }
+goes_on t r (some refusal) later = record { done = []; stop = some refusal; tables = t }
 
-unfoldable pub untilRefused : Tables → List Request → Sequence
-untilRefused t [] = record { done = []; stop = none; tables = t }
-untilRefused t (r ∷ rest) = goesOn t r (refusalOf t r) (untilRefused (handle t r).tables rest)
+unfoldable pub until_refused : Tables → List Request → Sequence
+until_refused t [] = record { done = []; stop = none; tables = t }
+until_refused t (r ∷ rest) = goes_on t r (refusal_of t r) (until_refused (handle t r).tables rest)

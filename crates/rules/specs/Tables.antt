@@ -1,21 +1,21 @@
 -- The lent tables as cells: their layouts, when they are sound, and their rows.
 use Rattle.std.specs.Prelude.{ℕ, ◌+◌, Bool, ◌&&◌, List, [], ◌∷◌, ◌++◌, map, ℤ, pos, get_or, take, drop}
 use Rattle.integers.specs.Order.{in_range}
-use Rattle.rules.specs.Figures.{lastDay}
+use Rattle.rules.specs.Figures.{last_day}
 use Rattle.rules.specs.Keyed.{Key, rising}
-use Rattle.rules.specs.Rows.{recordKey, positionKey, soundRecord, soundPosition}
-use Rattle.rules.specs.ProcessRows.{processNumber, soundProcess}
+use Rattle.rules.specs.Rows.{record_key, position_key, sound_record, sound_position}
+use Rattle.rules.specs.ProcessRows.{process_number, sound_process}
 use Rattle.rules.specs.Refusal.{all_of}
 use Rattle.rules.specs.Books.{Books}
-use Rattle.rules.specs.Layout.{Layout, roomOf, rows_of, countIsSound, write}
+use Rattle.rules.specs.Layout.{Layout, room_of, rows_of, count_is_sound, write}
 use Rattle.rules.specs.declared.Record.{Record}
 use Rattle.rules.specs.declared.Position.{Position}
 use Rattle.rules.specs.declared.ProcessRow.{ProcessRow}
 
 -- "each row has 13 cells: id, suffix, parent, type, status, account, series, side code, quantity, price, long booked, short booked, into"; document 02, K8: "Records gain a last cell, the day of
 -- booking"
-abbrev pub recordAt : List ℤ → ℕ → Record
-recordAt cells at = record {
+abbrev pub record_at : List ℤ → ℕ → Record
+record_at cells at = record {
   id = get_or cells at (pos 0);
   suffix = get_or cells (at + 1) (pos 0);
   parent = get_or cells (at + 2) (pos 0);
@@ -32,18 +32,18 @@ recordAt cells at = record {
   day = get_or cells (at + 13) (pos 0);
 }
 
-unfoldable pub recordCells : Record → List ℤ
-recordCells r =
+unfoldable pub record_cells : Record → List ℤ
+record_cells r =
     r.id ∷ r.suffix ∷ r.parent ∷ r.kind ∷ r.status ∷ r.account ∷ r.series
     ∷ r.side ∷ r.quantity ∷ r.price ∷ r.long ∷ r.short ∷ r.into ∷ r.day ∷ []
 
 -- The cell of a row that has the status.
-abbrev pub statusCell : ℕ
-statusCell = 4
+abbrev pub status_cell : ℕ
+status_cell = 4
 
 -- "each row has 5 cells: account, series, long, short, cash"; document 02, K7: "Give each position row two cells more: the signed quantity and signed quantity times price"
-abbrev pub positionAt : List ℤ → ℕ → Position
-positionAt cells at = record {
+abbrev pub position_at : List ℤ → ℕ → Position
+position_at cells at = record {
   account = get_or cells at (pos 0);
   series = get_or cells (at + 1) (pos 0);
   long = get_or cells (at + 2) (pos 0);
@@ -53,12 +53,12 @@ positionAt cells at = record {
   value = get_or cells (at + 6) (pos 0);
 }
 
-unfoldable pub positionCells : Position → List ℤ
-positionCells p = p.account ∷ p.series ∷ p.long ∷ p.short ∷ p.cash ∷ p.quantity ∷ p.value ∷ []
+unfoldable pub position_cells : Position → List ℤ
+position_cells p = p.account ∷ p.series ∷ p.long ∷ p.short ∷ p.cash ∷ p.quantity ∷ p.value ∷ []
 
 -- Document 02, K3: "A row's nine cells: process id, id, suffix, giving and taking account, series, the two clearing approvals, and a stage"; "the giver's approval is the seventh cell"
-abbrev pub processAt : List ℤ → ℕ → ProcessRow
-processAt cells at = record {
+abbrev pub process_at : List ℤ → ℕ → ProcessRow
+process_at cells at = record {
   process = get_or cells at (pos 0);
   id = get_or cells (at + 1) (pos 0);
   suffix = get_or cells (at + 2) (pos 0);
@@ -70,50 +70,50 @@ processAt cells at = record {
   stage = get_or cells (at + 8) (pos 0);
 }
 
-unfoldable pub processCells : ProcessRow → List ℤ
-processCells p =
+unfoldable pub process_cells : ProcessRow → List ℤ
+process_cells p =
     p.process ∷ p.id ∷ p.suffix ∷ p.giving ∷ p.taking ∷ p.series ∷ p.giver ∷ p.taker ∷ p.stage ∷ []
 
 -- "Room ... at most 4,096"; for positions "Room likewise, at most 1,024". Document 02, K8: "the records table's header gains the current day as cell 1, the rows following it"
-abbrev pub recordsLayout : Layout Record
-recordsLayout = record { header = 2; width = 14; most = 4096; get = recordAt; put = recordCells }
+abbrev pub records_layout : Layout Record
+records_layout = record { header = 2; width = 14; most = 4096; get = record_at; put = record_cells }
 
-abbrev pub positionsLayout : Layout Position
-positionsLayout = record { header = 1; width = 7; most = 1024; get = positionAt; put = positionCells }
+abbrev pub positions_layout : Layout Position
+positions_layout = record { header = 1; width = 7; most = 1024; get = position_at; put = position_cells }
 
 -- "cell 0 the count, room at most 1,024"
-abbrev pub processesLayout : Layout ProcessRow
-processesLayout = record { header = 1; width = 9; most = 1024; get = processAt; put = processCells }
+abbrev pub processes_layout : Layout ProcessRow
+processes_layout = record { header = 1; width = 9; most = 1024; get = process_at; put = process_cells }
 
 -- "the slice has a cell 0, the count lies between 0 and the room, rows strictly rise", each row sound
-unfoldable pub soundTable : {Row : Type 0} → Layout Row → (Row → Key) → (Row → Bool) → List ℤ → Bool
-soundTable l key soundRow cells =
-    countIsSound l cells && rising key (rows_of l cells) && all_of (map soundRow (rows_of l cells))
+unfoldable pub sound_table : {Row : Type 0} → Layout Row → (Row → Key) → (Row → Bool) → List ℤ → Bool
+sound_table l key sound_row cells =
+    count_is_sound l cells && rising key (rows_of l cells) && all_of (map sound_row (rows_of l cells))
 
 -- Document 01's sentence, of the records: "rows strictly rise by id and then suffix, all figures are in range"
-unfoldable pub soundRecordRows : List ℤ → Bool
-soundRecordRows cells = soundTable recordsLayout recordKey soundRecord cells
+unfoldable pub sound_record_rows : List ℤ → Bool
+sound_record_rows cells = sound_table records_layout record_key sound_record cells
 
 -- "the current day as cell 1"
-abbrev pub currentDay : List ℤ → ℤ
-currentDay cells = get_or cells 1 (pos 0)
+abbrev pub current_day : List ℤ → ℤ
+current_day cells = get_or cells 1 (pos 0)
 
 -- Document 02, K8: "sound tables have a header day from 0 to 99,999 and row days from 0 to it"
-unfoldable pub dayWithin : (today : ℤ) → Record → Bool
-dayWithin today r = in_range (pos 0) today r.day
+unfoldable pub day_within : (today : ℤ) → Record → Bool
+day_within today r = in_range (pos 0) today r.day
 
-unfoldable pub soundDays : (today : ℤ) → List Record → Bool
-soundDays today rows = in_range (pos 0) (pos lastDay) today && all_of (map (dayWithin today) rows)
+unfoldable pub sound_days : (today : ℤ) → List Record → Bool
+sound_days today rows = in_range (pos 0) (pos last_day) today && all_of (map (day_within today) rows)
 
-unfoldable pub soundRecords : List ℤ → Bool
-soundRecords cells = soundRecordRows cells && soundDays (currentDay cells) (rows_of recordsLayout cells)
+unfoldable pub sound_records : List ℤ → Bool
+sound_records cells = sound_record_rows cells && sound_days (current_day cells) (rows_of records_layout cells)
 
-unfoldable pub soundPositions : List ℤ → Bool
-soundPositions cells = soundTable positionsLayout positionKey soundPosition cells
+unfoldable pub sound_positions : List ℤ → Bool
+sound_positions cells = sound_table positions_layout position_key sound_position cells
 
 -- "process ids ... strictly rising, figures in range, approvals 0 or 1, a stage below"
-unfoldable pub soundProcesses : List ℤ → Bool
-soundProcesses cells = soundTable processesLayout processNumber soundProcess cells
+unfoldable pub sound_processes : List ℤ → Bool
+sound_processes cells = sound_table processes_layout process_number sound_process cells
 
 -- The lent tables.
 pub record Tables : Type 0 where
@@ -121,45 +121,45 @@ pub record Tables : Type 0 where
   pub positions : List ℤ
   pub processes : List ℤ
 
-abbrev pub allTables : (records positions processes : List ℤ) → Tables
-allTables records positions processes = record { records = records; positions = positions; processes = processes }
+abbrev pub all_tables : (records positions processes : List ℤ) → Tables
+all_tables records positions processes = record { records = records; positions = positions; processes = processes }
 
 -- A process table without rows. It stands for the table where none is lent: requests other than the steps of a give-up neither read nor change it.
-abbrev pub noProcesses : List ℤ
-noProcesses = pos 0 ∷ []
+abbrev pub no_processes : List ℤ
+no_processes = pos 0 ∷ []
 
 -- The two tables that such a request is lent. Its call promises the answer beside a process table without rows; that this is the answer beside any is `apart-promised` (history/proofs/ProcessesApart), of a batch
 -- `batch-promised` (BatchApart).
 abbrev pub tables_of : (records positions : List ℤ) → Tables
-tables_of records positions = allTables records positions noProcesses
+tables_of records positions = all_tables records positions no_processes
 
 -- Tables with another process table.
-abbrev pub withProcesses : List ℤ → Tables → Tables
-withProcesses processes t = allTables t.records t.positions processes
+abbrev pub with_processes : List ℤ → Tables → Tables
+with_processes processes t = all_tables t.records t.positions processes
 
 -- Tables with another current day: cell 1 of the records, and no other cell changed.
-unfoldable pub dayWritten : ℤ → List ℤ → List ℤ
-dayWritten day cells = take 1 cells ++ (day ∷ drop 2 cells)
+unfoldable pub day_written : ℤ → List ℤ → List ℤ
+day_written day cells = take 1 cells ++ (day ∷ drop 2 cells)
 
-abbrev pub withCurrentDay : ℤ → Tables → Tables
-withCurrentDay day t = allTables (dayWritten day t.records) t.positions t.processes
+abbrev pub with_current_day : ℤ → Tables → Tables
+with_current_day day t = all_tables (day_written day t.records) t.positions t.processes
 
 -- Their rows and rooms, and the current day.
-unfoldable pub booksOf : Tables → Books
-booksOf t = record {
-  records = rows_of recordsLayout t.records;
-  positions = rows_of positionsLayout t.positions;
-  processes = rows_of processesLayout t.processes;
-  recordsRoom = roomOf recordsLayout t.records;
-  positionsRoom = roomOf positionsLayout t.positions;
-  processesRoom = roomOf processesLayout t.processes;
-  day = currentDay t.records;
+unfoldable pub books_of : Tables → Books
+books_of t = record {
+  records = rows_of records_layout t.records;
+  positions = rows_of positions_layout t.positions;
+  processes = rows_of processes_layout t.processes;
+  records_room = room_of records_layout t.records;
+  positions_room = room_of positions_layout t.positions;
+  processes_room = room_of processes_layout t.processes;
+  day = current_day t.records;
 }
 
--- The rows written; the day is written by a new day alone (`withCurrentDay`).
-unfoldable pub writeBooks : Tables → Books → Tables
-writeBooks t b = record {
-  records = write recordsLayout t.records b.records;
-  positions = write positionsLayout t.positions b.positions;
-  processes = write processesLayout t.processes b.processes;
+-- The rows written; the day is written by a new day alone (`with_current_day`).
+unfoldable pub write_books : Tables → Books → Tables
+write_books t b = record {
+  records = write records_layout t.records b.records;
+  positions = write positions_layout t.positions b.positions;
+  processes = write processes_layout t.processes b.processes;
 }

@@ -1,4 +1,4 @@
-// How rows lie in the lent tables: the numbers of `recordsLayout`, `positionsLayout` and `processesLayout` in specs/Tables.antt. Promises speak by those, so that a number here which differs is refused.
+// How rows lie in the lent tables: the numbers of `records_layout`, `positions_layout` and `processes_layout` in specs/Tables.antt. Promises speak by those, so that a number here which differs is refused.
 
 // Cells before the first row, cells a row, and the greatest room.
 pub const RECORDS_HEADER: usize = 2;
@@ -25,5 +25,5 @@ pub const STATUS_CELL: usize = 4;
 // The cell of the records header that has the current day.
 pub const DAY_CELL: usize = 1;
 
-// The figures of a line of a journal: a merge names an id, an account, a series and 1,000 pairs (`mostFigures` in specs/Reader.antt).
+// The figures of a line of a journal: a merge names an id, an account, a series and 1,000 pairs (`most_figures` in specs/Reader.antt).
 pub const MOST_FIGURES: usize = 2003;

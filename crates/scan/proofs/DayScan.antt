@@ -8,14 +8,14 @@ use lib.Signed.{mag}
 use mir.Syntax.{w64}
 use mir.Val.{to_z, of_z}
 use Rattle.integers.specs.Order.{in_range}
-use Rattle.rules.specs.Figures.{lastDay}
+use Rattle.rules.specs.Figures.{last_day}
 use Rattle.rules.specs.Keyed.{rising}
 use Rattle.rules.specs.Refusal.{all_of}
-use Rattle.rules.specs.Rows.{recordKey, soundRecord}
-use Rattle.rules.specs.Layout.{count_of, rows_of, countIsSound}
-use Rattle.rules.specs.Tables.{recordsLayout, soundTable, soundRecordRows, currentDay, dayWithin, soundDays, soundRecords}
+use Rattle.rules.specs.Rows.{record_key, sound_record}
+use Rattle.rules.specs.Layout.{count_of, rows_of, count_is_sound}
+use Rattle.rules.specs.Tables.{records_layout, sound_table, sound_record_rows, current_day, day_within, sound_days, sound_records}
 use Rattle.rules.specs.declared.Record.{Record}
-use Rattle.scan.specs.Scan.{rowsRiseSound, soundRecordOn}
+use Rattle.scan.specs.Scan.{rows_rise_sound, sound_record_on}
 use Rattle.scan.proofs.TableScan.{rows-decide}
 
 and-pairs : (x y p q : Bool) → ((x && y) && (p && q)) ≡ ((x && p) && (y && q))
@@ -40,27 +40,27 @@ parts_join false rises days sound = refl
 
 module _ (cells : List ℤ) where
   -- With a day in range, both parts of test 1 are the one table's, each row asked with its day.
-  as-one-table : in_range (pos 0) (pos lastDay) (currentDay cells) ≡ true → soundTable recordsLayout recordKey (soundRecordOn (currentDay cells)) cells ≡ soundRecords cells
-  unfolding soundTable soundRecordRows soundDays soundRecords soundRecordOn
+  as-one-table : in_range (pos 0) (pos last_day) (current_day cells) ≡ true → sound_table records_layout record_key (sound_record_on (current_day cells)) cells ≡ sound_records cells
+  unfolding sound_table sound_record_rows sound_days sound_records sound_record_on
   as-one-table day =
-      let rows : List Record = rows_of recordsLayout cells in
-      let start : Bool = countIsSound recordsLayout cells && rising recordKey rows in
-      ap (λ (b : Bool). start && b) (all_both (dayWithin (currentDay cells)) soundRecord rows)
-      ∙ parts_join (countIsSound recordsLayout cells) (rising recordKey rows) (all_of (map (dayWithin (currentDay cells)) rows)) (all_of (map soundRecord rows))
-      ∙ ap (λ (b : Bool). (start && all_of (map soundRecord rows)) && (b && all_of (map (dayWithin (currentDay cells)) rows))) (sym day)
+      let rows : List Record = rows_of records_layout cells in
+      let start : Bool = count_is_sound records_layout cells && rising record_key rows in
+      ap (λ (b : Bool). start && b) (all_both (day_within (current_day cells)) sound_record rows)
+      ∙ parts_join (count_is_sound records_layout cells) (rising record_key rows) (all_of (map (day_within (current_day cells)) rows)) (all_of (map sound_record rows))
+      ∙ ap (λ (b : Bool). (start && all_of (map sound_record rows)) && (b && all_of (map (day_within (current_day cells)) rows))) (sym day)
 
-  pub unsound-rows : false ≡ soundTable recordsLayout recordKey soundRecord cells → false ≡ soundRecords cells
-  unfolding soundRecords soundRecordRows
-  unsound-rows e = ap (λ (b : Bool). b && soundDays (currentDay cells) (rows_of recordsLayout cells)) e
+  pub unsound-rows : false ≡ sound_table records_layout record_key sound_record cells → false ≡ sound_records cells
+  unfolding sound_records sound_record_rows
+  unsound-rows e = ap (λ (b : Bool). b && sound_days (current_day cells) (rows_of records_layout cells)) e
 
-  pub day-out-of-range : in_range (pos 0) (pos lastDay) (currentDay cells) ≡ false → false ≡ soundRecords cells
-  unfolding soundRecords soundDays
-  day-out-of-range e = sym (ap (λ (b : Bool). soundRecordRows cells && (b && all_of (map (dayWithin (currentDay cells)) (rows_of recordsLayout cells)))) e ∙ false-last (soundRecordRows cells))
+  pub day-out-of-range : in_range (pos 0) (pos last_day) (current_day cells) ≡ false → false ≡ sound_records cells
+  unfolding sound_records sound_days
+  day-out-of-range e = sym (ap (λ (b : Bool). sound_record_rows cells && (b && all_of (map (day_within (current_day cells)) (rows_of records_layout cells)))) e ∙ false-last (sound_record_rows cells))
     where
       false-last : (a : Bool) → (a && false) ≡ false
       false-last true = refl
       false-last false = refl
 
-  pub rows-decide-days : {r : Bool} → countIsSound recordsLayout cells ≡ true → in_range (pos 0) (pos lastDay) (currentDay cells) ≡ true → mag (count_of cells) < 2 ^ 63
-      → r ≡ rowsRiseSound recordsLayout recordKey (soundRecordOn (currentDay cells)) (nat_abs (to_z w64 (of_z w64 (count_of cells)))) cells → r ≡ soundRecords cells
-  rows-decide-days count day h e = rows-decide recordsLayout recordKey (soundRecordOn (currentDay cells)) cells count h e ∙ as-one-table day
+  pub rows-decide-days : {r : Bool} → count_is_sound records_layout cells ≡ true → in_range (pos 0) (pos last_day) (current_day cells) ≡ true → mag (count_of cells) < 2 ^ 63
+      → r ≡ rows_rise_sound records_layout record_key (sound_record_on (current_day cells)) (nat_abs (to_z w64 (of_z w64 (count_of cells)))) cells → r ≡ sound_records cells
+  rows-decide-days count day h e = rows-decide records_layout record_key (sound_record_on (current_day cells)) cells count h e ∙ as-one-table day

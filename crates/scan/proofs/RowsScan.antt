@@ -17,56 +17,56 @@ use Rattle.rules.specs.Refusal.{all_of}
 use Rattle.rules.specs.Rows.{key_of}
 use Rattle.rules.specs.Layout.{Layout, decode, start_of}
 use Rattle.cells.proofs.Decode.{decode-step}
-use Rattle.scan.specs.Scan.{rowsRiseSound}
+use Rattle.scan.specs.Scan.{rows_rise_sound}
 use Rattle.scan.proofs.ReadBack.{read_back}
 
 false-last : (a : Bool) → (a && false) ≡ false
 false-last true = refl
 false-last false = refl
 
-module _ {Row : Type 0} (key : Row → Key) (soundRow : Row → Bool) where
+module _ {Row : Type 0} (key : Row → Key) (sound_row : Row → Bool) where
   -- these rows rise, and each is sound
-  abbrev riseSound : List Row → Bool
-  riseSound rows = rising key rows && all_of (map soundRow rows)
+  abbrev rise_sound : List Row → Bool
+  rise_sound rows = rising key rows && all_of (map sound_row rows)
 
-  rows-unsound : (r : Row) (rest : List Row) → soundRow r ≡ false → riseSound (r ∷ rest) ≡ false
+  rows-unsound : (r : Row) (rest : List Row) → sound_row r ≡ false → rise_sound (r ∷ rest) ≡ false
   unfolding all_of
   rows-unsound r rest e = rw e (false-last (rising key (r ∷ rest)))
 
-  rows-not-rising : (r s : Row) (rest : List Row) → below (key r) (key s) ≡ false → riseSound (r ∷ s ∷ rest) ≡ false
+  rows-not-rising : (r s : Row) (rest : List Row) → below (key r) (key s) ≡ false → rise_sound (r ∷ s ∷ rest) ≡ false
   unfolding rising
   rows-not-rising r s rest e = rw e
 
-  one-row : (r : Row) → soundRow r ≡ true → riseSound (r ∷ []) ≡ riseSound []
+  one-row : (r : Row) → sound_row r ≡ true → rise_sound (r ∷ []) ≡ rise_sound []
   unfolding rising all_of
   one-row r e = rw e
 
-  first-row : (r s : Row) (rest : List Row) → soundRow r ≡ true → below (key r) (key s) ≡ true → riseSound (r ∷ s ∷ rest) ≡ riseSound (s ∷ rest)
+  first-row : (r s : Row) (rest : List Row) → sound_row r ≡ true → below (key r) (key s) ≡ true → rise_sound (r ∷ s ∷ rest) ≡ rise_sound (s ∷ rest)
   unfolding rising all_of
   first-row r s rest e b = rw (e, b)
 
   -- ---- read from cells: `left` rows, the first at cell `at`
 
   module _ (get : List ℤ → ℕ → Row) (width : ℕ) where
-    abbrev rowsSound : ℕ → ℕ → List ℤ → Bool
-    rowsSound left at cells = riseSound (decode get width left at cells)
+    abbrev rows_sound : ℕ → ℕ → List ℤ → Bool
+    rows_sound left at cells = rise_sound (decode get width left at cells)
 
-    no_row : (left at : ℕ) (cells : List ℤ) → left ≤ 0 → true ≡ rowsSound left at cells
+    no_row : (left at : ℕ) (cells : List ℤ) → left ≤ 0 → true ≡ rows_sound left at cells
     unfolding rising all_of
     no_row left at cells h =
         let e : left ≡ 0 = omega arith in
         rw e
 
-    unsound-row : (left at : ℕ) (cells : List ℤ) → 0 < left → soundRow (get cells at) ≡ false → rowsSound left at cells ≡ false
+    unsound-row : (left at : ℕ) (cells : List ℤ) → 0 < left → sound_row (get cells at) ≡ false → rows_sound left at cells ≡ false
     unsound-row left at cells h e = rw (decode-step get width left at cells h) (rows-unsound _ _ e)
 
-    not-rising-row : (left at : ℕ) (cells : List ℤ) → 1 < left → below (key (get cells at)) (key (get cells (at + width))) ≡ false → rowsSound left at cells ≡ false
+    not-rising-row : (left at : ℕ) (cells : List ℤ) → 1 < left → below (key (get cells at)) (key (get cells (at + width))) ≡ false → rows_sound left at cells ≡ false
     not-rising-row left at cells h e =
         rw (decode-step get width left at cells (omega arith)) (rw (decode-step get width (left - 1) (at + width) cells (omega arith)) (rows-not-rising _ _ _ e))
 
-    next_row : (left at : ℕ) (cells : List ℤ) → 0 < left → soundRow (get cells at) ≡ true
+    next_row : (left at : ℕ) (cells : List ℤ) → 0 < left → sound_row (get cells at) ≡ true
         → (1 < left → below (key (get cells at)) (key (get cells (at + width))) ≡ true)
-        → rowsSound left at cells ≡ rowsSound (left - 1) (at + width) cells
+        → rows_sound left at cells ≡ rows_sound (left - 1) (at + width) cells
     next_row zero at cells h e b = absurd (omega arith)
     next_row (suc zero) at cells h e b = one-row _ e
     next_row (suc (suc n)) at cells h e b =
@@ -106,38 +106,38 @@ pub first-neighbours : (cells : List ℤ) (at width : ℕ) {r : Bool}
 first-neighbours cells at width f g e = rw (read_back (get_or cells at (pos 0)) f, read_back (get_or cells (at + width) (pos 0)) g) at e
 
 -- The answer on the rows that are left is the answer on all of them, and they lie within the cells.
-pub record RowsLeft {Row : Type 0} (l : Layout Row) (key : Row → Key) (soundRow : Row → Bool) (cells : List ℤ) (count left at : ℕ) : Type 0 where
-  pub answer : rowsSound key soundRow l.get l.width left at cells ≡ rowsRiseSound l key soundRow count cells
+pub record RowsLeft {Row : Type 0} (l : Layout Row) (key : Row → Key) (sound_row : Row → Bool) (cells : List ℤ) (count left at : ℕ) : Type 0 where
+  pub answer : rows_sound key sound_row l.get l.width left at cells ≡ rows_rise_sound l key sound_row count cells
   pub within : at + left * l.width ≤ length cells
 
-module _ {Row : Type 0} {l : Layout Row} {key : Row → Key} {soundRow : Row → Bool} {cells : List ℤ} {count : ℕ} where
-  pub all_left : start_of l count ≤ length cells → RowsLeft l key soundRow cells count count l.header
+module _ {Row : Type 0} {l : Layout Row} {key : Row → Key} {sound_row : Row → Bool} {cells : List ℤ} {count : ℕ} where
+  pub all_left : start_of l count ≤ length cells → RowsLeft l key sound_row cells count count l.header
   all_left h = record { answer = refl; within = h }
 
-  module _ {left at : ℕ} (rows : RowsLeft l key soundRow cells count left at) where
-    pub none_left : left ≤ 0 → true ≡ rowsRiseSound l key soundRow count cells
-    none_left h = no_row key soundRow l.get l.width left at cells h ∙ rows.answer
+  module _ {left at : ℕ} (rows : RowsLeft l key sound_row cells count left at) where
+    pub none_left : left ≤ 0 → true ≡ rows_rise_sound l key sound_row count cells
+    none_left h = no_row key sound_row l.get l.width left at cells h ∙ rows.answer
 
     -- the first row is not sound
-    pub row-fails : 0 < left → soundRow (l.get cells at) ≡ false → false ≡ rowsRiseSound l key soundRow count cells
-    row-fails some e = sym (unsound-row key soundRow l.get l.width left at cells some e) ∙ rows.answer
+    pub row-fails : 0 < left → sound_row (l.get cells at) ≡ false → false ≡ rows_rise_sound l key sound_row count cells
+    row-fails some e = sym (unsound-row key sound_row l.get l.width left at cells some e) ∙ rows.answer
 
     -- it does not come before the next one
-    pub not-rising : 1 < left → below (key (l.get cells at)) (key (l.get cells (at + l.width))) ≡ false → false ≡ rowsRiseSound l key soundRow count cells
-    not-rising more e = sym (not-rising-row key soundRow l.get l.width left at cells more e) ∙ rows.answer
+    pub not-rising : 1 < left → below (key (l.get cells at)) (key (l.get cells (at + l.width))) ≡ false → false ≡ rows_rise_sound l key sound_row count cells
+    not-rising more e = sym (not-rising-row key sound_row l.get l.width left at cells more e) ∙ rows.answer
 
-    module _ (some : 0 < left) (sound : soundRow (l.get cells at) ≡ true) where
-      rest-left : (1 < left → below (key (l.get cells at)) (key (l.get cells (at + l.width))) ≡ true) → RowsLeft l key soundRow cells count (left - 1) (at + l.width)
+    module _ (some : 0 < left) (sound : sound_row (l.get cells at) ≡ true) where
+      rest-left : (1 < left → below (key (l.get cells at)) (key (l.get cells (at + l.width))) ≡ true) → RowsLeft l key sound_row cells count (left - 1) (at + l.width)
       rest-left b =
           let e : left ≡ suc (left - 1) = omega arith in
           record {
-            answer = sym (next_row key soundRow l.get l.width left at cells some sound b) ∙ rows.answer;
+            answer = sym (next_row key sound_row l.get l.width left at cells some sound b) ∙ rows.answer;
             within = omega (arith, ap (λ n. n * l.width) e, suc-mul (left - 1) l.width);
           }
 
       -- it is sound, and comes before the next one or is the last
-      pub row-passes : below (key (l.get cells at)) (key (l.get cells (at + l.width))) ≡ true → RowsLeft l key soundRow cells count (left - 1) (at + l.width)
+      pub row-passes : below (key (l.get cells at)) (key (l.get cells (at + l.width))) ≡ true → RowsLeft l key sound_row cells count (left - 1) (at + l.width)
       row-passes b = rest-left (λ more. b)
 
-      pub last-passes : left ≤ 1 → RowsLeft l key soundRow cells count (left - 1) (at + l.width)
+      pub last-passes : left ≤ 1 → RowsLeft l key sound_row cells count (left - 1) (at + l.width)
       last-passes one = rest-left (λ more. absurd (omega arith))

@@ -1,13 +1,13 @@
 // A row read into its struct, and a row's cells.
 ghost use Rattle.std.specs.Prelude.{◌≡◌, ◌+◌, ◌≤◌, length};
-ghost use Rattle.rules.specs.Tables.{recordAt, recordCells, positionAt, positionCells, processAt, processCells, recordsLayout, positionsLayout, processesLayout};
+ghost use Rattle.rules.specs.Tables.{record_at, record_cells, position_at, position_cells, process_at, process_cells, records_layout, positions_layout, processes_layout};
 
 use rules::layout::{POSITION_WIDTH, PROCESS_WIDTH, RECORD_WIDTH};
 use rules::{Position, ProcessRow, Record};
 
 pub fn record_at(cells: &[i64], at: usize) -> Record
-    requires { at + recordsLayout.width ≤ length cells.now }
-    ensures { result ≡ recordAt cells.now at }
+    requires { at + records_layout.width ≤ length cells.now }
+    ensures { result ≡ record_at cells.now at }
 {
     Record {
         id: cells[at],
@@ -28,8 +28,8 @@ pub fn record_at(cells: &[i64], at: usize) -> Record
 }
 
 pub fn position_at(cells: &[i64], at: usize) -> Position
-    requires { at + positionsLayout.width ≤ length cells.now }
-    ensures { result ≡ positionAt cells.now at }
+    requires { at + positions_layout.width ≤ length cells.now }
+    ensures { result ≡ position_at cells.now at }
 {
     Position {
         account: cells[at],
@@ -43,8 +43,8 @@ pub fn position_at(cells: &[i64], at: usize) -> Position
 }
 
 pub fn process_at(cells: &[i64], at: usize) -> ProcessRow
-    requires { at + processesLayout.width ≤ length cells.now }
-    ensures { result ≡ processAt cells.now at }
+    requires { at + processes_layout.width ≤ length cells.now }
+    ensures { result ≡ process_at cells.now at }
 {
     ProcessRow {
         process: cells[at],
@@ -60,7 +60,7 @@ pub fn process_at(cells: &[i64], at: usize) -> ProcessRow
 }
 
 pub fn record_cells(r: Record) -> [i64; RECORD_WIDTH]
-    ensures { result ≡ recordCells r }
+    ensures { result ≡ record_cells r }
 {
     [
         r.id, r.suffix, r.parent, r.kind, r.status, r.account, r.series, r.side, r.quantity,
@@ -69,7 +69,7 @@ pub fn record_cells(r: Record) -> [i64; RECORD_WIDTH]
 }
 
 pub fn position_cells(p: Position) -> [i64; POSITION_WIDTH]
-    ensures { result ≡ positionCells p }
+    ensures { result ≡ position_cells p }
 {
     [
         p.account, p.series, p.long, p.short, p.cash, p.quantity, p.value,
@@ -77,7 +77,7 @@ pub fn position_cells(p: Position) -> [i64; POSITION_WIDTH]
 }
 
 pub fn process_cells(r: ProcessRow) -> [i64; PROCESS_WIDTH]
-    ensures { result ≡ processCells r }
+    ensures { result ≡ process_cells r }
 {
     [
         r.process, r.id, r.suffix, r.giving, r.taking, r.series, r.giver, r.taker, r.stage,

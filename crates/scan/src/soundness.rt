@@ -1,10 +1,10 @@
 // Tests 1, 2 and 19: any slice, of any length and content. One pass over the rows that the count names, and no read past them.
 ghost use Rattle.std.specs.Prelude.{◌≡◌, ◌≤◌, ◌<◌, length};
-ghost use Rattle.rules.specs.Rows.{recordKey, positionKey, soundRecord, soundPosition};
-ghost use Rattle.rules.specs.ProcessRows.{processNumber, soundProcess};
-ghost use Rattle.rules.specs.Layout.{roomFor, start_of};
-ghost use Rattle.rules.specs.Tables.{recordsLayout, positionsLayout, processesLayout, soundRecords, soundPositions, soundProcesses};
-ghost use Rattle.scan.specs.Scan.{countSound, rowsRiseSound, soundRecordOn};
+ghost use Rattle.rules.specs.Rows.{record_key, position_key, sound_record, sound_position};
+ghost use Rattle.rules.specs.ProcessRows.{process_number, sound_process};
+ghost use Rattle.rules.specs.Layout.{room_for, start_of};
+ghost use Rattle.rules.specs.Tables.{records_layout, positions_layout, processes_layout, sound_records, sound_positions, sound_processes};
+ghost use Rattle.scan.specs.Scan.{count_sound, rows_rise_sound, sound_record_on};
 
 use super::rows;
 use rules::codes::LAST_DAY;
@@ -17,7 +17,7 @@ use rules::{Position, ProcessRow, Record};
 // How many whole rows fit into so many cells, at most `most`.
 pub fn room_for(header: usize, width: usize, most: usize, cells: usize) -> usize
     requires { 0 < width }
-    ensures { result ≡ roomFor header width most cells }
+    ensures { result ≡ room_for header width most cells }
 {
     if cells < header {
         return 0;
@@ -29,7 +29,7 @@ pub fn room_for(header: usize, width: usize, most: usize, cells: usize) -> usize
 // The slice has a header, and the count lies between 0 and the room.
 fn count_sound(cells: &[i64], header: usize, width: usize, most: usize) -> bool
     requires { (1 ≤ header) × (0 < width) × (most ≤ 4096) }
-    ensures { result ≡ countSound header width most cells.now }
+    ensures { result ≡ count_sound header width most cells.now }
 {
     if cells.len() < header {
         return false;
@@ -40,7 +40,7 @@ fn count_sound(cells: &[i64], header: usize, width: usize, most: usize) -> bool
 
 // The kind comes last: its test, a table of bits, then keeps no other cell waiting in a register. The day is tested before (`sound_record_on`).
 pub fn sound_record(r: Record) -> bool
-    ensures { result ≡ soundRecord r }
+    ensures { result ≡ sound_record r }
 {
     if !figures::valid_id(r.id) {
         return false;
@@ -86,7 +86,7 @@ pub fn sound_record(r: Record) -> bool
 
 // A record as the scan asks it: sound, and booked on no later day than the current one.
 fn sound_record_on(r: Record, today: i64) -> bool
-    ensures { result ≡ soundRecordOn today r }
+    ensures { result ≡ sound_record_on today r }
 {
     if !figures::in_range(0, today, r.day) {
         return false;
@@ -95,7 +95,7 @@ fn sound_record_on(r: Record, today: i64) -> bool
 }
 
 pub fn sound_position(p: Position) -> bool
-    ensures { result ≡ soundPosition p }
+    ensures { result ≡ sound_position p }
 {
     if !figures::in_range(0, 1_000_000_000_000, p.long) {
         return false;
@@ -113,7 +113,7 @@ pub fn sound_position(p: Position) -> bool
 }
 
 pub fn sound_process(r: ProcessRow) -> bool
-    ensures { result ≡ soundProcess r }
+    ensures { result ≡ sound_process r }
 {
     if !figures::valid_id(r.process) {
         return false;
@@ -154,8 +154,8 @@ const NEXT_SERIES: usize = POSITION_WIDTH + 1;
 const NEXT_PROCESS: usize = PROCESS_WIDTH;
 
 fn record_rows_sound(cells: &[i64], count: usize, today: i64) -> bool
-    requires { start_of recordsLayout count ≤ length cells.now }
-    ensures { result ≡ rowsRiseSound recordsLayout recordKey (soundRecordOn today) count cells.now }
+    requires { start_of records_layout count ≤ length cells.now }
+    ensures { result ≡ rows_rise_sound records_layout record_key (sound_record_on today) count cells.now }
 {
     let mut left = count;
     let mut at = RECORDS_HEADER;
@@ -180,8 +180,8 @@ fn record_rows_sound(cells: &[i64], count: usize, today: i64) -> bool
 }
 
 fn position_rows_sound(cells: &[i64], count: usize) -> bool
-    requires { start_of positionsLayout count ≤ length cells.now }
-    ensures { result ≡ rowsRiseSound positionsLayout positionKey soundPosition count cells.now }
+    requires { start_of positions_layout count ≤ length cells.now }
+    ensures { result ≡ rows_rise_sound positions_layout position_key sound_position count cells.now }
 {
     let mut left = count;
     let mut at = POSITIONS_HEADER;
@@ -206,8 +206,8 @@ fn position_rows_sound(cells: &[i64], count: usize) -> bool
 }
 
 fn process_rows_sound(cells: &[i64], count: usize) -> bool
-    requires { start_of processesLayout count ≤ length cells.now }
-    ensures { result ≡ rowsRiseSound processesLayout processNumber soundProcess count cells.now }
+    requires { start_of processes_layout count ≤ length cells.now }
+    ensures { result ≡ rows_rise_sound processes_layout process_number sound_process count cells.now }
 {
     let mut left = count;
     let mut at = PROCESSES_HEADER;
@@ -228,7 +228,7 @@ fn process_rows_sound(cells: &[i64], count: usize) -> bool
 
 // Test 1.
 pub fn records_sound(cells: &[i64]) -> bool
-    ensures { result ≡ soundRecords cells.now }
+    ensures { result ≡ sound_records cells.now }
 {
     if !count_sound(cells, RECORDS_HEADER, RECORD_WIDTH, MOST_RECORDS) {
         return false;
@@ -243,7 +243,7 @@ pub fn records_sound(cells: &[i64]) -> bool
 
 // Test 2.
 pub fn positions_sound(cells: &[i64]) -> bool
-    ensures { result ≡ soundPositions cells.now }
+    ensures { result ≡ sound_positions cells.now }
 {
     if !count_sound(cells, POSITIONS_HEADER, POSITION_WIDTH, MOST_POSITIONS) {
         return false;
@@ -254,7 +254,7 @@ pub fn positions_sound(cells: &[i64]) -> bool
 
 // Test 19.
 pub fn processes_sound(cells: &[i64]) -> bool
-    ensures { result ≡ soundProcesses cells.now }
+    ensures { result ≡ sound_processes cells.now }
 {
     if !count_sound(cells, PROCESSES_HEADER, PROCESS_WIDTH, MOST_PROCESSES) {
         return false;

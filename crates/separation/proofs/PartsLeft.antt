@@ -14,11 +14,11 @@ use lib.Signed.{◌≤ℤ◌}
 use mir.Syntax.{w64}
 use mir.Val.{SFits}
 use Rattle.integers.proofs.Linear.{zarith, +-lin}
-use Rattle.rules.specs.Figures.{validId, validSuffix, validAccount, validSeries, validQuantity, validCount, mostQuantity}
+use Rattle.rules.specs.Figures.{valid_id, valid_suffix, valid_account, valid_series, valid_quantity, valid_count, most_quantity}
 use Rattle.rules.specs.Refusal.{all_of}
-use Rattle.rules.specs.Separation.{sum_of, separationFigures}
+use Rattle.rules.specs.Separation.{sum_of, separation_figures}
 use Rattle.keys.proofs.Split.{and_left, and_right}
-use Rattle.keys.proofs.Clauses.{allOf-nil, allOf-cons, allOf-head}
+use Rattle.keys.proofs.Clauses.{all_of-nil, all_of-cons, all_of-head}
 use Rattle.soundness.proofs.FigureRanges.{quantity-range}
 
 module _ (parts : List ℤ) (i : ℕ) where
@@ -33,49 +33,49 @@ module _ (parts : List ℤ) (i : ℕ) where
 
 -- 2 to 1,000 of them.
 module _ (n : ℕ) where
-  pub too_few : n < 2 → validCount n ≡ false
-  unfolding validCount
+  pub too_few : n < 2 → valid_count n ≡ false
+  unfolding valid_count
   too_few h = rw (lt-leb 2 n h)
 
-  pub too_many : 2 ≤ n → 1000 < n → validCount n ≡ false
-  unfolding validCount
+  pub too_many : 2 ≤ n → 1000 < n → valid_count n ≡ false
+  unfolding valid_count
   too_many h k = rw (le-leb 2 n h, lt-leb n 1000 k)
 
-  pub count-valid : 2 ≤ n → n ≤ 1000 → validCount n ≡ true
-  unfolding validCount
+  pub count-valid : 2 ≤ n → n ≤ 1000 → valid_count n ≡ true
+  unfolding valid_count
   count-valid h k = rw (le-leb 2 n h, le-leb n 1000 k)
 
-  pub valid-count : validCount n ≡ true → n ≤ 1000
-  unfolding validCount
+  pub valid-count : valid_count n ≡ true → n ≤ 1000
+  unfolding valid_count
   valid-count h = leb-true n 1000 (and_right (leb 2 n) (leb n 1000) h)
 
 -- Every part from this place on is in its range.
-abbrev pub validFrom : List ℤ → ℕ → Bool
-validFrom parts i = all_of (map validQuantity (drop i parts))
+abbrev pub valid_from : List ℤ → ℕ → Bool
+valid_from parts i = all_of (map valid_quantity (drop i parts))
 
 module _ (parts : List ℤ) (i : ℕ) where
-  valid-next : i < length parts → validFrom parts i ≡ (validQuantity (get_or parts i (pos 0)) && validFrom parts (i + 1))
+  valid-next : i < length parts → valid_from parts i ≡ (valid_quantity (get_or parts i (pos 0)) && valid_from parts (i + 1))
   valid-next h =
-      ap (λ (l : List ℤ). all_of (map validQuantity l)) (next-part parts i h)
-      ∙ allOf-cons (validQuantity (get_or parts i (pos 0))) (map validQuantity (drop (i + 1) parts))
+      ap (λ (l : List ℤ). all_of (map valid_quantity l)) (next-part parts i h)
+      ∙ all_of-cons (valid_quantity (get_or parts i (pos 0))) (map valid_quantity (drop (i + 1) parts))
 
-  pub part-invalid : i < length parts → validQuantity (get_or parts i (pos 0)) ≡ false → validFrom parts i ≡ false
-  part-invalid h e = valid-next h ∙ ap (λ (b : Bool). b && validFrom parts (i + 1)) e
+  pub part-invalid : i < length parts → valid_quantity (get_or parts i (pos 0)) ≡ false → valid_from parts i ≡ false
+  part-invalid h e = valid-next h ∙ ap (λ (b : Bool). b && valid_from parts (i + 1)) e
 
-  pub part-valid : i < length parts → validQuantity (get_or parts i (pos 0)) ≡ true → validFrom parts i ≡ validFrom parts (i + 1)
-  part-valid h e = valid-next h ∙ ap (λ (b : Bool). b && validFrom parts (i + 1)) e
+  pub part-valid : i < length parts → valid_quantity (get_or parts i (pos 0)) ≡ true → valid_from parts i ≡ valid_from parts (i + 1)
+  part-valid h e = valid-next h ∙ ap (λ (b : Bool). b && valid_from parts (i + 1)) e
 
-  pub none-invalid : length parts ≤ i → true ≡ validFrom parts i
-  none-invalid h = sym (ap (λ (l : List ℤ). all_of (map validQuantity l)) (no_part parts i h) ∙ allOf-nil)
+  pub none-invalid : length parts ≤ i → true ≡ valid_from parts i
+  none-invalid h = sym (ap (λ (l : List ℤ). all_of (map valid_quantity l)) (no_part parts i h) ∙ all_of-nil)
 
 -- What valid figures tell of the parts.
-pub parts-told : (id suffix account series : ℤ) (parts : List ℤ) → separationFigures id suffix account series parts ≡ true
-    → (length parts ≤ 1000) × (validFrom parts 0 ≡ true)
-unfolding separationFigures
+pub parts-told : (id suffix account series : ℤ) (parts : List ℤ) → separation_figures id suffix account series parts ≡ true
+    → (length parts ≤ 1000) × (valid_from parts 0 ≡ true)
+unfolding separation_figures
 parts-told id suffix account series parts h =
-    let figures : Bool = validId id && validSuffix suffix && validAccount account && validSeries series in (
-      valid-count (length parts) (and_right figures (validCount (length parts)) (and_left (figures && validCount (length parts)) (validFrom parts 0) h)),
-      and_right (figures && validCount (length parts)) (validFrom parts 0) h,
+    let figures : Bool = valid_id id && valid_suffix suffix && valid_account account && valid_series series in (
+      valid-count (length parts) (and_right figures (valid_count (length parts)) (and_left (figures && valid_count (length parts)) (valid_from parts 0) h)),
+      and_right (figures && valid_count (length parts)) (valid_from parts 0) h,
     )
 
 -- ---- their sum
@@ -92,10 +92,10 @@ sum-cons q rest = omega zarith
 pub record SumSoFar (parts : List ℤ) (i : ℕ) (sum : ℤ) : Type 0 where
   pub whole : sum +ℤ sum_of (drop i parts) ≡ sum_of parts
   pub low : pos 0 ≤ℤ sum
-  pub high : sum ≤ℤ pos (i * mostQuantity)
-  pub left-valid : validFrom parts i ≡ true
+  pub high : sum ≤ℤ pos (i * most_quantity)
+  pub left-valid : valid_from parts i ≡ true
 
-pub sum-start : (parts : List ℤ) → validFrom parts 0 ≡ true → SumSoFar parts 0 (pos 0)
+pub sum-start : (parts : List ℤ) → valid_from parts 0 ≡ true → SumSoFar parts 0 (pos 0)
 sum-start parts valid = record {
   whole = omega (zarith, +-lin (pos 0) (sum_of parts));
   low = omega zarith;
@@ -108,26 +108,26 @@ module _ (parts : List ℤ) (i : ℕ) (sum : ℤ) (so_far : SumSoFar parts i sum
     abbrev next : ℤ
     next = get_or parts i (pos 0)
 
-    next-valid : validQuantity next ≡ true
+    next-valid : valid_quantity next ≡ true
     next-valid =
-        allOf-head (validQuantity next) (map validQuantity (drop (i + 1) parts))
+        all_of-head (valid_quantity next) (map valid_quantity (drop (i + 1) parts))
         (rw (next-part parts i within) at so_far.left-valid)
 
-    next-range : (pos 1 ≤ℤ next) × (next ≤ℤ pos mostQuantity)
+    next-range : (pos 1 ≤ℤ next) × (next ≤ℤ pos most_quantity)
     next-range = quantity-range next next-valid
 
     pub sum_fits : length parts ≤ 1000 → SFits w64 (sum +ℤ next)
     sum_fits few =
         let l : pos 0 ≤ℤ sum = so_far.low in
-        let h : sum ≤ℤ pos (i * mostQuantity) = so_far.high in
-        let r : (pos 1 ≤ℤ next) × (next ≤ℤ pos mostQuantity) = next-range in
+        let h : sum ≤ℤ pos (i * most_quantity) = so_far.high in
+        let r : (pos 1 ≤ℤ next) × (next ≤ℤ pos most_quantity) = next-range in
         omega (zarith, +-lin sum next)
 
     pub sum-next : SumSoFar parts (i + 1) (sum +ℤ next)
     sum-next =
         let l : pos 0 ≤ℤ sum = so_far.low in
-        let h : sum ≤ℤ pos (i * mostQuantity) = so_far.high in
-        let r : (pos 1 ≤ℤ next) × (next ≤ℤ pos mostQuantity) = next-range in
+        let h : sum ≤ℤ pos (i * most_quantity) = so_far.high in
+        let r : (pos 1 ≤ℤ next) × (next ≤ℤ pos most_quantity) = next-range in
         let w : sum +ℤ sum_of (drop i parts) ≡ sum_of parts = so_far.whole in
         let rest : ℤ = sum_of (drop (i + 1) parts) in
         let e : sum_of (drop i parts) ≡ next +ℤ rest = ap sum_of (next-part parts i within) ∙ sum-cons next (drop (i + 1) parts) in

@@ -1,13 +1,13 @@
 // Separation on sound tables: tests 3, 5 to 7, 11, 13 and 14, the booking, and the call that joins them. The record is looked up once. The position does not move.
 ghost use Rattle.std.specs.Prelude.{◌≡◌, true, map, ◌≤◌, length};
-ghost use Rattle.rules.specs.Figures.{validQuantity};
+ghost use Rattle.rules.specs.Figures.{valid_quantity};
 ghost use Rattle.rules.specs.Refusal.{all_of};
 ghost use Rattle.rules.specs.Request as Request;
-ghost use Rattle.rules.specs.Tables.{soundRecords, soundPositions};
+ghost use Rattle.rules.specs.Tables.{sound_records, sound_positions};
 ghost use Rattle.rules.specs.Handle.{answered};
-ghost use Rattle.rules.specs.Separation.{sum_of, separationFigures};
+ghost use Rattle.rules.specs.Separation.{sum_of, separation_figures};
 ghost use Rattle.requests.specs.KnownRecord.{KnownRecord};
-ghost use Rattle.verdict.specs.Verdict.{verdictOn, acceptedOn};
+ghost use Rattle.verdict.specs.Verdict.{verdict_on, accepted_on};
 ghost use Rattle.verdict.specs.HandledSoundly.{HandledSoundly};
 ghost use Rattle.verdict.specs.declared.Verdict.TheVariants.{Accepted};
 
@@ -19,7 +19,7 @@ use tables::records;
 use verdict::Verdict;
 
 fn parts_valid(parts: &[i64]) -> bool
-    ensures { result ≡ all_of (map validQuantity parts.now) }
+    ensures { result ≡ all_of (map valid_quantity parts.now) }
 {
     let mut i = 0;
     while i < parts.len() {
@@ -32,7 +32,7 @@ fn parts_valid(parts: &[i64]) -> bool
 }
 
 pub fn figures_valid(id: i64, suffix: i64, account: i64, series: i64, parts: &[i64]) -> bool
-    ensures { result ≡ separationFigures id suffix account series parts.now }
+    ensures { result ≡ separation_figures id suffix account series parts.now }
 {
     if !figures::valid_id(id) {
         return false;
@@ -56,7 +56,7 @@ pub fn figures_valid(id: i64, suffix: i64, account: i64, series: i64, parts: &[i
 }
 
 fn sum_of(parts: &[i64]) -> i64
-    requires { (length parts.now ≤ 1000) × (all_of (map validQuantity parts.now) ≡ true) }
+    requires { (length parts.now ≤ 1000) × (all_of (map valid_quantity parts.now) ≡ true) }
     ensures { result ≡ sum_of parts.now }
 {
     let mut sum: i64 = 0;
@@ -79,8 +79,8 @@ pub fn verdict(
     series: i64,
     parts: &[i64],
 ) -> Verdict
-    requires { (soundRecords records.now ≡ true) × (soundPositions positions.now ≡ true) × (separationFigures id suffix account series parts.now ≡ true) × KnownRecord records.now id suffix named }
-    ensures { result ≡ verdictOn records.now positions.now (Request.separate id suffix account series parts.now) }
+    requires { (sound_records records.now ≡ true) × (sound_positions positions.now ≡ true) × (separation_figures id suffix account series parts.now ≡ true) × KnownRecord records.now id suffix named }
+    ensures { result ≡ verdict_on records.now positions.now (Request.separate id suffix account series parts.now) }
 {
     let r = named.record;
     if requests::is_elsewhere(r, account, series) {
@@ -113,8 +113,8 @@ pub fn book(
     series: i64,
     parts: &[i64],
 ) -> Reply
-    requires { (soundRecords records.old ≡ true) × (soundPositions positions.now ≡ true) × (verdictOn records.old positions.now (Request.separate id suffix account series parts.now) ≡ Accepted) × KnownRecord records.old id suffix named }
-    ensures { answered result records.new positions.now ≡ acceptedOn records.old positions.now (Request.separate id suffix account series parts.now) }
+    requires { (sound_records records.old ≡ true) × (sound_positions positions.now ≡ true) × (verdict_on records.old positions.now (Request.separate id suffix account series parts.now) ≡ Accepted) × KnownRecord records.old id suffix named }
+    ensures { answered result records.new positions.now ≡ accepted_on records.old positions.now (Request.separate id suffix account series parts.now) }
 {
     let r = named.record;
     let next = named.next;
@@ -144,7 +144,7 @@ pub fn on_sound(
     series: i64,
     parts: &[i64],
 ) -> Reply
-    requires { (soundRecords records.old ≡ true) × (soundPositions positions.old ≡ true) }
+    requires { (sound_records records.old ≡ true) × (sound_positions positions.old ≡ true) }
     ensures { HandledSoundly records.old positions.old (Request.separate id suffix account series parts.now) (answered result records.new positions.new) }
 {
     if !figures_valid(id, suffix, account, series, parts) {

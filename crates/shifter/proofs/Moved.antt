@@ -18,22 +18,22 @@ use Rattle.shifter.specs.Insertion.{raised}
 
 module _ {A : Type 0} where
   -- The cells from `k` up to `used` stand `width` higher; those below `k` are still to be moved.
-  abbrev pub movedUp : List A → ℕ → ℕ → ℕ → List A
-  movedUp l used width k = take (k + width) l ++ (take (used - k) (drop k l) ++ drop (used + width) l)
+  abbrev pub moved_up : List A → ℕ → ℕ → ℕ → List A
+  moved_up l used width k = take (k + width) l ++ (take (used - k) (drop k l) ++ drop (used + width) l)
 
-  pub none-moved : (l : List A) (used width : ℕ) → l ≡ movedUp l used width used
+  pub none-moved : (l : List A) (used width : ℕ) → l ≡ moved_up l used width used
   none-moved l used width = rw (sub_self used) (sym (take-append-drop (used + width) l))
 
-  pub all_moved : (l : List A) (used width k : ℕ) → k ≤ 0 → movedUp l used width k ≡ raised width used l
+  pub all_moved : (l : List A) (used width k : ℕ) → k ≤ 0 → moved_up l used width k ≡ raised width used l
   all_moved l used width k last =
       let e : k ≡ 0 = omega arith in
       rw e (simp (zero-add, sub-zero))
 
-  pub length_moved : (l : List A) (used width k : ℕ) → k ≤ used → used + width ≤ length l → length (movedUp l used width k) ≡ length l
+  pub length_moved : (l : List A) (used width k : ℕ) → k ≤ used → used + width ≤ length l → length (moved_up l used width k) ≡ length l
   length_moved l used width k below fits = simp (length-append, length-take, length-drop) (omega arith)
 
-  move_down : (l now : List A) (used width j : ℕ) (d : A) → suc j ≤ used → used + width ≤ length l → now ≡ movedUp l used width (suc j)
-      → set now (j + width) (get_or now j d) ≡ movedUp l used width j
+  move_down : (l now : List A) (used width j : ℕ) (d : A) → suc j ≤ used → used + width ≤ length l → now ≡ moved_up l used width (suc j)
+      → set now (j + width) (get_or now j d) ≡ moved_up l used width j
   move_down l now used width j d below fits e =
       let in-l : j + width < length l = omega arith in
       let j-in-l : j < length l = omega arith in
@@ -46,11 +46,11 @@ module _ {A : Type 0} where
       rw (read, seam, set_at) (rw (left, drop-cons l j d) refl)
 
   -- One turn: the cell below is moved, too.
-  pub move-one : (l now : List A) (used width k : ℕ) (d : A) → 0 < k → k ≤ used → used + width ≤ length l → now ≡ movedUp l used width k
-      → set now (k - 1 + width) (get_or now (k - 1) d) ≡ movedUp l used width (k - 1)
+  pub move-one : (l now : List A) (used width k : ℕ) (d : A) → 0 < k → k ≤ used → used + width ≤ length l → now ≡ moved_up l used width k
+      → set now (k - 1 + width) (get_or now (k - 1) d) ≡ moved_up l used width (k - 1)
   move-one l now used width k d some below fits e =
       let from : k ≡ suc (k - 1) = omega arith in
-      move_down l now used width (k - 1) d (omega arith) fits (e ∙ ap (λ x. movedUp l used width x) from)
+      move_down l now used width (k - 1) d (omega arith) fits (e ∙ ap (λ x. moved_up l used width x) from)
 
   -- The row's first `k` cells are written.
   abbrev pub written : List A → List A → ℕ → List A
@@ -77,10 +77,10 @@ module _ {A : Type 0} where
 pub record Moving (cells : List ℤ) (used by : ℕ) (now : List ℤ) (k : ℕ) : Type 0 where
   pub fits : used + by ≤ length cells
   pub below : k ≤ used
-  pub moved : now ≡ movedUp cells used by k
+  pub moved : now ≡ moved_up cells used by k
   pub same : length now ≡ length cells
 
-made : {cells now : List ℤ} {used by k : ℕ} → used + by ≤ length cells → k ≤ used → now ≡ movedUp cells used by k → Moving cells used by now k
+made : {cells now : List ℤ} {used by k : ℕ} → used + by ≤ length cells → k ≤ used → now ≡ moved_up cells used by k → Moving cells used by now k
 made {cells} {now} {used} {by} {k} f b m = record { fits = f; below = b; moved = m; same = ap length m ∙ length_moved cells used by k b f }
 
 pub starts : {cells : List ℤ} {used by : ℕ} → used + by ≤ length cells → Moving cells used by cells used

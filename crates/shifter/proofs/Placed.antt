@@ -10,7 +10,7 @@ use mir.Syntax.{w64}
 use mir.Val.{to_z}
 use lib.Seq.{take_all, drop_at, drop-drop, length-take-le}
 use borrow.Rule.Slice.PartMut.{mid_of, put_mid}
-use Rattle.rules.specs.Layout.{afterCount}
+use Rattle.rules.specs.Layout.{after_count}
 use Rattle.cells.proofs.Count.{header-then}
 use Rattle.shifter.specs.Insertion.{inserted, replaced}
 
@@ -39,10 +39,10 @@ module _ {A : Type 0} where
 
 -- The count set, of a table whose first cells are as they were.
 set-count : (header n : ℕ) (cells rest : List ℤ) (count : ℤ) → 1 ≤ header → header ≤ length cells
-    → set (take (header + n) cells ++ rest) 0 count ≡ count ∷ (afterCount header cells ++ (take n (drop header cells) ++ rest))
+    → set (take (header + n) cells ++ rest) 0 count ≡ count ∷ (after_count header cells ++ (take n (drop header cells) ++ rest))
 set-count header n cells rest count one some =
     ap (λ (c : List ℤ). set (c ++ rest) 0 count) (sym (header-then header cells n one some))
-    ∙ ap (λ (c : List ℤ). count ∷ c) (append_assoc (afterCount header cells) (take n (drop header cells)) rest)
+    ∙ ap (λ (c : List ℤ). count ∷ c) (append_assoc (after_count header cells) (take n (drop header cells)) rest)
 
 -- The count as a cell.
 pub raised-cell : (count added : ℕ) → count + added ≤ 4096 → to_z w64 (count + added) ≡ pos (count + added)

@@ -15,26 +15,26 @@ use Rattle.shifter.specs.Insertion.{replaced, filled, raised}
 use Rattle.shifter.proofs.Placed.{shifted}
 
 -- A list with others written over it from a place on: two of them at once, or the second where the first ends.
-abbrev overFrom : List ℤ → ℕ → List ℤ → List ℤ
-overFrom xs at cells = take at cells ++ (xs ++ drop (at + length xs) cells)
+abbrev over_from : List ℤ → ℕ → List ℤ → List ℤ
+over_from xs at cells = take at cells ++ (xs ++ drop (at + length xs) cells)
 
-over : (xs ys : List ℤ) (at : ℕ) (cells : List ℤ) → at ≤ length cells → overFrom (xs ++ ys) at cells ≡ overFrom ys (at + length xs) (overFrom xs at cells)
+over : (xs ys : List ℤ) (at : ℕ) (cells : List ℤ) → at ≤ length cells → over_from (xs ++ ys) at cells ≡ over_from ys (at + length xs) (over_from xs at cells)
 over xs ys at cells h =
     let head : List ℤ = take at cells ++ xs in
     let tail : List ℤ = drop (at + length xs) cells in
     let size : length head ≡ at + length xs = length-append (take at cells) xs ∙ ap (λ (n : ℕ). n + length xs) (length-take-le at cells h) in
-    let whole : overFrom xs at cells ≡ head ++ tail = sym (append_assoc (take at cells) xs tail) in
+    let whole : over_from xs at cells ≡ head ++ tail = sym (append_assoc (take at cells) xs tail) in
     let end : at + length (xs ++ ys) ≡ at + length xs + length ys = omega (arith, length-append xs ys) in
     let front : take (at + length xs) (head ++ tail) ≡ head = take_at head tail (at + length xs) size in
     let back : drop (at + length xs + length ys) (head ++ tail) ≡ drop (at + length xs + length ys) cells =
     sym (drop-drop (length ys) (at + length xs) (head ++ tail))
     ∙ ap (drop (length ys)) (drop_at head tail (at + length xs) size)
     ∙ drop-drop (length ys) (at + length xs) cells in
-    let joined : overFrom (xs ++ ys) at cells ≡ head ++ (ys ++ drop (at + length xs + length ys) cells) = rw end (simp append_assoc) in
+    let joined : over_from (xs ++ ys) at cells ≡ head ++ (ys ++ drop (at + length xs + length ys) cells) = rw end (simp append_assoc) in
     joined
     ∙ ap (λ (c : List ℤ). head ++ (ys ++ c)) (sym back)
     ∙ ap (λ (c : List ℤ). c ++ (ys ++ drop (at + length xs + length ys) (head ++ tail))) (sym front)
-    ∙ ap (overFrom ys (at + length xs)) (sym whole)
+    ∙ ap (over_from ys (at + length xs)) (sym whole)
 
 module _ (header width : ℕ) (run : List ℤ) (place : ℕ) (cells : List ℤ) where
   -- One row's cells take the place of a row.
@@ -53,7 +53,7 @@ module _ (header width : ℕ) (run : List ℤ) (place : ℕ) (cells : List ℤ) 
       let at : ℕ = header + place * width in
       let next : at + length run ≡ header + (place + 1) * width = omega (arith, add-mul place 1 width) in
       over run more at cells fits
-      ∙ ap (λ (j : ℕ). overFrom more j (take at cells ++ (run ++ drop (at + length run) cells))) next
+      ∙ ap (λ (j : ℕ). over_from more j (take at cells ++ (run ++ drop (at + length run) cells))) next
       ∙ ap (filled header width more (place + 1)) (filled_row size)
 
 -- From the first row on.

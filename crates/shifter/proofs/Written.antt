@@ -5,13 +5,13 @@ use mathlib.Core.Bool.{true}
 use mathlib.Core.List.{List, [], ◌∷◌, ◌++◌, append-nil}
 use lib.IntN.{ℤ}
 use lib.ListN.{length, take, drop}
-use Rattle.rules.specs.Layout.{Layout, encode, rows_of, countIsSound, write}
+use Rattle.rules.specs.Layout.{Layout, encode, rows_of, count_is_sound, write}
 use Rattle.cells.specs.Lawful.{Lawful}
 use Rattle.cells.proofs.Encode.{encode-nil, encode-cons}
 use Rattle.cells.proofs.Shift.{insert-rows, replace-row}
 use Rattle.shifter.specs.Insertion.{inserted, replaced}
 
-module _ {Row : Type 0} (l : Layout Row) (lawful : Lawful l) (cells : List ℤ) (sound : countIsSound l cells ≡ true) where
+module _ {Row : Type 0} (l : Layout Row) (lawful : Lawful l) (cells : List ℤ) (sound : count_is_sound l cells ≡ true) where
   pub rows_written : (place : ℕ) (news : List Row) → place ≤ length (rows_of l cells)
       → inserted l.header l.width (encode l.put news) (length news) (length (rows_of l cells)) place cells
       ≡ write l cells (take place (rows_of l cells) ++ (news ++ drop place (rows_of l cells)))

@@ -1,6 +1,6 @@
 -- The cells of a table after rows were inserted or written anew: of any width, and any number of cells before the rows.
 use Rattle.std.specs.Prelude.{ℕ, suc, ◌+◌, ◌-◌, ◌*◌, List, ◌∷◌, ◌++◌, ℤ, pos, length, take, drop}
-use Rattle.rules.specs.Layout.{afterCount}
+use Rattle.rules.specs.Layout.{after_count}
 
 -- The first `used` cells moved up by `by`: those below `by` are as they were.
 abbrev pub raised : {A : Type 0} → (by used : ℕ) → List A → List A
@@ -10,7 +10,7 @@ raised by used cells = take by cells ++ (take used cells ++ drop (used + by) cel
 unfoldable pub inserted : (header width : ℕ) → List ℤ → (added count place : ℕ) → List ℤ → List ℤ
 inserted header width new added count place cells =
     pos (count + added)
-    ∷ (afterCount header cells
+    ∷ (after_count header cells
     ++ (take (place * width) (drop header cells)
     ++ (new
     ++ (take ((count - place) * width) (drop (header + place * width) cells)

@@ -6,35 +6,35 @@ use mathlib.Core.List.{List, [], ◌∷◌, map}
 use mathlib.Core.Option.{Option, none, some}
 use borrow.Author.Tests.{not-false, not-true}
 use lib.IntN.{ℤ, pos}
-use Rattle.integers.specs.Order.{eqZ, in_range}
-use Rattle.integers.proofs.Parts.{eqZ-true}
-use Rattle.rules.specs.Figures.{validId, validSuffix, validAccount, validSeries, adjustable, inverse, underGiveUp, giveUpKind, takeUpKind}
+use Rattle.integers.specs.Order.{eq_z, in_range}
+use Rattle.integers.proofs.Parts.{eq_z-true}
+use Rattle.rules.specs.Figures.{valid_id, valid_suffix, valid_account, valid_series, adjustable, inverse, under_give_up, give_up_kind, take_up_kind}
 use Rattle.rules.specs.Keyed.{Key, is_some, find, greatest, rising, upsert}
-use Rattle.rules.specs.NamedRecord.{isNotAdjustable, statusTest}
-use Rattle.rules.specs.Rows.{key_of, recordKey, positionKey, withStatus, soundRecord, validKind}
-use Rattle.rules.specs.ProcessRows.{processKey, processNumber, pending, claimed, refused, cancelled, done, withProgress, openedProcess, theProcess, validStage, validApproval, soundProcess}
+use Rattle.rules.specs.NamedRecord.{is_not_adjustable, status_test}
+use Rattle.rules.specs.Rows.{key_of, record_key, position_key, with_status, sound_record, valid_kind}
+use Rattle.rules.specs.ProcessRows.{process_key, process_number, pending, claimed, refused, cancelled, done, with_progress, opened_process, the_process, valid_stage, valid_approval, sound_process}
 use Rattle.rules.specs.Refusal.{test, all_of, any_of}
-use Rattle.rules.specs.Request.{giveUp}
+use Rattle.rules.specs.Request.{give_up}
 use Rattle.rules.specs.Books.{Books, view_of}
 use Rattle.rules.specs.Handle.{plan_of}
-use Rattle.rules.specs.Plan.{Effects, withProcessRow, suffixIsAbove}
-use Rattle.rules.specs.Transfer.{transferFigures, transferEffects}
-use Rattle.rules.specs.GiveUp.{giveUpFigures, isOpening, mayStep, isOutOfTurn, stepped, is_complete, stepStatusTest, recordAfter, stepEffects, finished, giveUpEffects, processBefore, giveUpPlan}
-use Rattle.rules.specs.Tables.{dayWithin}
+use Rattle.rules.specs.Plan.{Effects, with_process_row, suffix_is_above}
+use Rattle.rules.specs.Transfer.{transfer_figures, transfer_effects}
+use Rattle.rules.specs.GiveUp.{give_up_figures, is_opening, may_step, is_out_of_turn, stepped, is_complete, step_status_test, record_after, step_effects, finished, give_up_effects, process_before, give_up_plan}
+use Rattle.rules.specs.Tables.{day_within}
 use Rattle.rules.specs.declared.Record.{Record}
 use Rattle.rules.specs.declared.ProcessRow.{ProcessRow}
 use Rattle.rules.specs.declared.Step.{Step}
 use Rattle.rules.specs.declared.Step.TheVariants.{Open, Claim, Cancel, Refuse, ApproveGiver, ApproveTaker}
 use Rattle.keys.proofs.Split.{clash, and_left, and_right, and_intro}
-use Rattle.keys.proofs.Clauses.{allOf-nil, allOf-intro}
+use Rattle.keys.proofs.Clauses.{all_of-nil, all_of-intro}
 use Rattle.keys.proofs.Lookup.{find-key, find-all}
-use Rattle.keys.proofs.Counts.{isSome-absent, distinct_nil, hasAll, hasAll-intro}
+use Rattle.keys.proofs.Counts.{is_some-absent, distinct_nil, has_all, has_all-intro}
 use Rattle.keys.proofs.FirstFigures.{new-rises, same-rises}
-use Rattle.soundness.specs.SoundBooks.{SoundBooks, planOn, Accepts}
+use Rattle.soundness.specs.SoundBooks.{SoundBooks, plan_on, Accepts}
 use Rattle.soundness.proofs.Accepted.{both, own-passed, booking-passed}
-use Rattle.soundness.proofs.ReadPosition.{readAt}
+use Rattle.soundness.proofs.ReadPosition.{read_at}
 use Rattle.soundness.proofs.SoundRows.{adjustable-open, under-give-up-open, adjustable-again-sound, under-give-up-sound}
-use Rattle.soundness.proofs.NamedRecord.{recordOf, next_of, Named, named-open, restated-stands}
+use Rattle.soundness.proofs.NamedRecord.{record_of, next_of, Named, named-open, restated-stands}
 use Rattle.soundness.proofs.Days.{restated-within}
 use Rattle.soundness.proofs.BookingFacts.{ProcessFacts, BookingFacts, PlanFacts}
 use Rattle.soundness.proofs.Transfer.{transfer-effects-facts}
@@ -42,24 +42,24 @@ use Rattle.soundness.proofs.Transfer.{transfer-effects-facts}
 -- ---- the process row, figure by figure
 
 pub record SoundProcess (p : ProcessRow) : Type 0 where
-  pub process : validId p.process ≡ true
-  pub id : validId p.id ≡ true
-  pub suffix : validSuffix p.suffix ≡ true
-  pub giving : validAccount p.giving ≡ true
-  pub taking : validAccount p.taking ≡ true
-  pub series : validSeries p.series ≡ true
-  pub giver : validApproval p.giver ≡ true
-  pub taker : validApproval p.taker ≡ true
-  pub stage : validStage p.stage ≡ true
+  pub process : valid_id p.process ≡ true
+  pub id : valid_id p.id ≡ true
+  pub suffix : valid_suffix p.suffix ≡ true
+  pub giving : valid_account p.giving ≡ true
+  pub taking : valid_account p.taking ≡ true
+  pub series : valid_series p.series ≡ true
+  pub giver : valid_approval p.giver ≡ true
+  pub taker : valid_approval p.taker ≡ true
+  pub stage : valid_stage p.stage ≡ true
 
-pub sound-process : (p : ProcessRow) → SoundProcess p → soundProcess p ≡ true
-unfolding soundProcess
+pub sound-process : (p : ProcessRow) → SoundProcess p → sound_process p ≡ true
+unfolding sound_process
 sound-process p s =
     and_intro (and_intro (and_intro (and_intro (and_intro (and_intro (and_intro (and_intro
     s.process s.id) s.suffix) s.giving) s.taking) s.series) s.giver) s.taker) s.stage
 
-pub process-sound : (p : ProcessRow) → soundProcess p ≡ true → SoundProcess p
-unfolding soundProcess
+pub process-sound : (p : ProcessRow) → sound_process p ≡ true → SoundProcess p
+unfolding sound_process
 process-sound p h =
     let p1 = both _ _ h in
     let p2 = both _ _ p1.0 in
@@ -82,36 +82,36 @@ process-sound p h =
     }
 
 -- The approvals and stages that steps write.
-no-approval : validApproval (pos 0) ≡ true
-unfolding validApproval in_range
+no-approval : valid_approval (pos 0) ≡ true
+unfolding valid_approval in_range
 no-approval = refl
 
-approval : validApproval (pos 1) ≡ true
-unfolding validApproval in_range
+approval : valid_approval (pos 1) ≡ true
+unfolding valid_approval in_range
 approval = refl
 
-stage-pending : validStage pending ≡ true
-unfolding validStage eqZ
+stage-pending : valid_stage pending ≡ true
+unfolding valid_stage eq_z
 stage-pending = refl
 
-stage-claimed : validStage claimed ≡ true
-unfolding validStage eqZ
+stage-claimed : valid_stage claimed ≡ true
+unfolding valid_stage eq_z
 stage-claimed = refl
 
-stage-refused : validStage refused ≡ true
-unfolding validStage eqZ
+stage-refused : valid_stage refused ≡ true
+unfolding valid_stage eq_z
 stage-refused = refl
 
-stage-cancelled : validStage cancelled ≡ true
-unfolding validStage eqZ
+stage-cancelled : valid_stage cancelled ≡ true
+unfolding valid_stage eq_z
 stage-cancelled = refl
 
-stage-done : validStage done ≡ true
-unfolding validStage eqZ
+stage-done : valid_stage done ≡ true
+unfolding valid_stage eq_z
 stage-done = refl
 
-progressed-sound : (p : ProcessRow) → SoundProcess p → (giver taker stage : ℤ) → validApproval giver ≡ true → validApproval taker ≡ true → validStage stage ≡ true
-    → SoundProcess (withProgress p giver taker stage)
+progressed-sound : (p : ProcessRow) → SoundProcess p → (giver taker stage : ℤ) → valid_approval giver ≡ true → valid_approval taker ≡ true → valid_stage stage ≡ true
+    → SoundProcess (with_progress p giver taker stage)
 progressed-sound p s giver taker stage a b c = record {
   process = s.process;
   id = s.id;
@@ -137,11 +137,11 @@ pub finished-sound : (p : ProcessRow) → SoundProcess p → SoundProcess (finis
 unfolding finished
 finished-sound p s = progressed-sound p s p.giver p.taker (cond (is_complete p) done p.stage) s.giver s.taker (go (is_complete p))
   where
-    go : (b : Bool) → validStage (cond b done p.stage) ≡ true
+    go : (b : Bool) → valid_stage (cond b done p.stage) ≡ true
     go true = stage-done
     go false = s.stage
 
-pub stepped-key : (step : Step) (p : ProcessRow) → processKey (finished (stepped step p)) ≡ processKey p
+pub stepped-key : (step : Step) (p : ProcessRow) → process_key (finished (stepped step p)) ≡ process_key p
 unfolding stepped finished
 stepped-key Open p = refl
 stepped-key Claim p = refl
@@ -154,23 +154,23 @@ stepped-key ApproveTaker p = refl
 
 -- Test 3 of both accounts, and of the row that an opening makes.
 pub record GiveUpFigures (process id suffix giving taking series : ℤ) : Type 0 where
-  pub opened : SoundProcess (openedProcess process id suffix giving taking series)
-  pub taking-valid : validAccount taking ≡ true
-  pub accounts-differ : eqZ giving taking ≡ false
+  pub opened : SoundProcess (opened_process process id suffix giving taking series)
+  pub taking-valid : valid_account taking ≡ true
+  pub accounts-differ : eq_z giving taking ≡ false
 
-pub give-up-figures : (process id suffix giving taking series : ℤ) → giveUpFigures process id suffix giving taking series ≡ true → GiveUpFigures process id suffix giving taking series
-unfolding giveUpFigures transferFigures openedProcess
+pub give-up-figures : (process id suffix giving taking series : ℤ) → give_up_figures process id suffix giving taking series ≡ true → GiveUpFigures process id suffix giving taking series
+unfolding give_up_figures transfer_figures opened_process
 give-up-figures process id suffix giving taking series h =
-    let p1 = both (validId process) _ h in
-    let p2 = both _ (not (eqZ giving taking)) p1.1 in
-    let p3 = both _ (validSeries series) p2.0 in
-    let p4 = both _ (validAccount taking) p3.0 in
-    let p5 = both _ (validAccount giving) p4.0 in
+    let p1 = both (valid_id process) _ h in
+    let p2 = both _ (not (eq_z giving taking)) p1.1 in
+    let p3 = both _ (valid_series series) p2.0 in
+    let p4 = both _ (valid_account taking) p3.0 in
+    let p5 = both _ (valid_account giving) p4.0 in
     record {
       opened = record {
         process = p1.0;
-        id = and_left (validId id) (validSuffix suffix) p5.0;
-        suffix = and_right (validId id) (validSuffix suffix) p5.0;
+        id = and_left (valid_id id) (valid_suffix suffix) p5.0;
+        suffix = and_right (valid_id id) (valid_suffix suffix) p5.0;
         giving = p5.1;
         taking = p4.1;
         series = p3.1;
@@ -179,20 +179,20 @@ give-up-figures process id suffix giving taking series h =
         stage = stage-pending;
       };
       taking-valid = p4.1;
-      accounts-differ = not-true (eqZ giving taking) p2.1;
+      accounts-differ = not-true (eq_z giving taking) p2.1;
     }
 
 -- Test 7 leaves a record that isn't inverse: of status 0 where the step opens, else of status 3.
-pub status-passed : (step : Step) (r : Record) → (stepStatusTest step r).applies ≡ false → r.status ≡ cond (isOpening step) adjustable underGiveUp
-unfolding stepStatusTest statusTest test isNotAdjustable
-status-passed Open r h = eqZ-true r.status adjustable (not-false (eqZ r.status adjustable) h)
-status-passed Claim r h = eqZ-true r.status underGiveUp (not-false (eqZ r.status underGiveUp) h)
-status-passed Cancel r h = eqZ-true r.status underGiveUp (not-false (eqZ r.status underGiveUp) h)
-status-passed Refuse r h = eqZ-true r.status underGiveUp (not-false (eqZ r.status underGiveUp) h)
-status-passed ApproveGiver r h = eqZ-true r.status underGiveUp (not-false (eqZ r.status underGiveUp) h)
-status-passed ApproveTaker r h = eqZ-true r.status underGiveUp (not-false (eqZ r.status underGiveUp) h)
+pub status-passed : (step : Step) (r : Record) → (step_status_test step r).applies ≡ false → r.status ≡ cond (is_opening step) adjustable under_give_up
+unfolding step_status_test status_test test is_not_adjustable
+status-passed Open r h = eq_z-true r.status adjustable (not-false (eq_z r.status adjustable) h)
+status-passed Claim r h = eq_z-true r.status under_give_up (not-false (eq_z r.status under_give_up) h)
+status-passed Cancel r h = eq_z-true r.status under_give_up (not-false (eq_z r.status under_give_up) h)
+status-passed Refuse r h = eq_z-true r.status under_give_up (not-false (eq_z r.status under_give_up) h)
+status-passed ApproveGiver r h = eq_z-true r.status under_give_up (not-false (eq_z r.status under_give_up) h)
+status-passed ApproveTaker r h = eq_z-true r.status under_give_up (not-false (eq_z r.status under_give_up) h)
 
-status-open : (step : Step) (status : ℤ) → status ≡ cond (isOpening step) adjustable underGiveUp → eqZ status inverse ≡ false
+status-open : (step : Step) (status : ℤ) → status ≡ cond (is_opening step) adjustable under_give_up → eq_z status inverse ≡ false
 status-open Open status e = adjustable-open status e
 status-open Claim status e = under-give-up-open status e
 status-open Cancel status e = under-give-up-open status e
@@ -201,79 +201,79 @@ status-open ApproveGiver status e = under-give-up-open status e
 status-open ApproveTaker status e = under-give-up-open status e
 
 -- Of a later step, the row that it found.
-later-found : (step : Step) (suffix giving taking series : ℤ) (o : Option ProcessRow) → not (mayStep step suffix giving taking series o) ≡ false → (p : ProcessRow) × (o ≡ some p)
-unfolding mayStep
+later-found : (step : Step) (suffix giving taking series : ℤ) (o : Option ProcessRow) → not (may_step step suffix giving taking series o) ≡ false → (p : ProcessRow) × (o ≡ some p)
+unfolding may_step
 later-found step suffix giving taking series none h = clash refl h
 later-found step suffix giving taking series (some p) h = (p, refl)
 
 -- ---- the facts
 
-module _ (b : Books) (sound : SoundBooks b) (step : Step) (process id suffix giving taking series : ℤ) (accepted : Accepts b (giveUp step process id suffix giving taking series)) where
+module _ (b : Books) (sound : SoundBooks b) (step : Step) (process id suffix giving taking series : ℤ) (accepted : Accepts b (give_up step process id suffix giving taking series)) where
   abbrev t : List Record
   t = b.records
 
   abbrev k : Key
   k = key_of id suffix
 
-  abbrev foundProcess : Option ProcessRow
-  foundProcess = find processKey (key_of process id) b.processes
+  abbrev found_process : Option ProcessRow
+  found_process = find process_key (key_of process id) b.processes
 
   abbrev before : ProcessRow
-  before = processBefore step process id suffix giving taking series foundProcess
+  before = process_before step process id suffix giving taking series found_process
 
   abbrev after : ProcessRow
   after = stepped step before
 
   pub figures-passed : GiveUpFigures process id suffix giving taking series
-  unfolding plan_of giveUpPlan view_of test
-  figures-passed = give-up-figures process id suffix giving taking series (not-false (giveUpFigures process id suffix giving taking series) (own-passed b _ _ accepted).0)
+  unfolding plan_of give_up_plan view_of test
+  figures-passed = give-up-figures process id suffix giving taking series (not-false (give_up_figures process id suffix giving taking series) (own-passed b _ _ accepted).0)
 
-  pub turn-passed : isOutOfTurn step suffix giving taking series (greatest processKey process b.processes) foundProcess ≡ false
-  unfolding plan_of giveUpPlan view_of test
+  pub turn-passed : is_out_of_turn step suffix giving taking series (greatest process_key process b.processes) found_process ≡ false
+  unfolding plan_of give_up_plan view_of test
   turn-passed = (own-passed b _ _ accepted).1.0
 
-  record-found : is_some (find recordKey k t) ≡ true
-  unfolding plan_of giveUpPlan view_of test
-  record-found = not-false (is_some (find recordKey k t)) (own-passed b _ _ accepted).1.1.0
+  record-found : is_some (find record_key k t) ≡ true
+  unfolding plan_of give_up_plan view_of test
+  record-found = not-false (is_some (find record_key k t)) (own-passed b _ _ accepted).1.1.0
 
-  pub record-status : (recordOf t k).status ≡ cond (isOpening step) adjustable underGiveUp
-  unfolding plan_of giveUpPlan view_of
-  record-status = status-passed step (recordOf t k) (own-passed b _ _ accepted).1.1.1.1.0
+  pub record-status : (record_of t k).status ≡ cond (is_opening step) adjustable under_give_up
+  unfolding plan_of give_up_plan view_of
+  record-status = status-passed step (record_of t k) (own-passed b _ _ accepted).1.1.1.1.0
 
   pub record-named : Named t k
-  record-named = named-open t k sound.records-sound record-found (status-open step (recordOf t k).status record-status)
+  record-named = named-open t k sound.records-sound record-found (status-open step (record_of t k).status record-status)
 
   -- The process before the step is sound and has the named key, and with it in the table the process ids rise.
   pub record Before (s : Step) (p : ProcessRow) : Type 0 where
     pub is-sound : SoundProcess p
-    pub rises : (q : ProcessRow) → processKey q ≡ processKey p → rising processNumber (upsert processKey q b.processes) ≡ true
+    pub rises : (q : ProcessRow) → process_key q ≡ process_key p → rising process_number (upsert process_key q b.processes) ≡ true
 
-  opening-before : is_some (greatest processKey process b.processes) ≡ false → Before Open (openedProcess process id suffix giving taking series)
-  unfolding openedProcess
+  opening-before : is_some (greatest process_key process b.processes) ≡ false → Before Open (opened_process process id suffix giving taking series)
+  unfolding opened_process
   opening-before h = record {
     is-sound = figures-passed.opened;
-    rises = λ q e. new-rises processKey q b.processes sound.processes-rise
-        (ap (λ (x : Key). greatest processKey x.major b.processes) e ∙ isSome-absent (greatest processKey process b.processes) h);
+    rises = λ q e. new-rises process_key q b.processes sound.processes-rise
+        (ap (λ (x : Key). greatest process_key x.major b.processes) e ∙ is_some-absent (greatest process_key process b.processes) h);
   }
 
-  later-before : (s : Step) → not (mayStep s suffix giving taking series foundProcess) ≡ false → Before s (theProcess foundProcess)
-  unfolding theProcess
+  later-before : (s : Step) → not (may_step s suffix giving taking series found_process) ≡ false → Before s (the_process found_process)
+  unfolding the_process
   later-before s h =
-      let w : (p : ProcessRow) × (foundProcess ≡ some p) = later-found s suffix giving taking series foundProcess h in
-      let key : processKey w.0 ≡ key_of process id = find-key processKey (key_of process id) b.processes w.0 w.1 in
-      subst (λ (o : Option ProcessRow). Before s (theProcess o)) (sym w.1)
+      let w : (p : ProcessRow) × (found_process ≡ some p) = later-found s suffix giving taking series found_process h in
+      let key : process_key w.0 ≡ key_of process id = find-key process_key (key_of process id) b.processes w.0 w.1 in
+      subst (λ (o : Option ProcessRow). Before s (the_process o)) (sym w.1)
       (record {
-        is-sound = process-sound w.0 (find-all processKey soundProcess (key_of process id) b.processes w.0 sound.processes-sound w.1);
-        rises = λ q e. same-rises processKey q w.0 b.processes sound.processes-rise
-            (ap (λ (x : Key). find processKey x b.processes) (e ∙ key) ∙ w.1);
+        is-sound = process-sound w.0 (find-all process_key sound_process (key_of process id) b.processes w.0 sound.processes-sound w.1);
+        rises = λ q e. same-rises process_key q w.0 b.processes sound.processes-rise
+            (ap (λ (x : Key). find process_key x b.processes) (e ∙ key) ∙ w.1);
       })
 
   pub before-known : Before step before
-  unfolding processBefore isOutOfTurn
+  unfolding process_before is_out_of_turn
   before-known = go step turn-passed
     where
-      go : (s : Step) → isOutOfTurn s suffix giving taking series (greatest processKey process b.processes) foundProcess ≡ false
-          → Before s (cond (isOpening s) (openedProcess process id suffix giving taking series) (theProcess foundProcess))
+      go : (s : Step) → is_out_of_turn s suffix giving taking series (greatest process_key process b.processes) found_process ≡ false
+          → Before s (cond (is_opening s) (opened_process process id suffix giving taking series) (the_process found_process))
       go Open h = opening-before h
       go Claim h = later-before Claim h
       go Cancel h = later-before Cancel h
@@ -289,57 +289,57 @@ module _ (b : Books) (sound : SoundBooks b) (step : Step) (process id suffix giv
 
   -- The effects on records and positions.
   abbrev ChangedFacts : List Record → Type 0
-  ChangedFacts changed = (hasAll recordKey t changed ≡ true) × (all_of (map soundRecord changed) ≡ true) × (all_of (map (dayWithin b.day) changed) ≡ true)
+  ChangedFacts changed = (has_all record_key t changed ≡ true) × (all_of (map sound_record changed) ≡ true) × (all_of (map (day_within b.day) changed) ≡ true)
 
-  restated-facts : (status : ℤ) → soundRecord (withStatus status (recordOf t k)) ≡ true → ChangedFacts (withStatus status (recordOf t k) ∷ [])
+  restated-facts : (status : ℤ) → sound_record (with_status status (record_of t k)) ≡ true → ChangedFacts (with_status status (record_of t k) ∷ [])
   restated-facts status s = (
-    hasAll-intro recordKey t (withStatus status (recordOf t k)) (recordOf t k) [] (restated-stands t k record-named status) allOf-nil,
-    allOf-intro (soundRecord (withStatus status (recordOf t k))) [] s allOf-nil,
-    allOf-intro (dayWithin b.day (withStatus status (recordOf t k))) [] (restated-within b.day t k sound.days-sound record-named status) allOf-nil,
+    has_all-intro record_key t (with_status status (record_of t k)) (record_of t k) [] (restated-stands t k record-named status) all_of-nil,
+    all_of-intro (sound_record (with_status status (record_of t k))) [] s all_of-nil,
+    all_of-intro (day_within b.day (with_status status (record_of t k))) [] (restated-within b.day t k sound.days-sound record-named status) all_of-nil,
   )
 
-  changed-facts : (s : Step) → ChangedFacts (recordAfter s (recordOf t k))
-  unfolding recordAfter
-  changed-facts Open = restated-facts underGiveUp (under-give-up-sound (recordOf t k) record-named.sound record-named.not-inverse)
-  changed-facts Claim = (allOf-nil, allOf-nil, allOf-nil)
-  changed-facts Cancel = restated-facts adjustable (adjustable-again-sound (recordOf t k) record-named.sound record-named.not-inverse)
-  changed-facts Refuse = restated-facts adjustable (adjustable-again-sound (recordOf t k) record-named.sound record-named.not-inverse)
-  changed-facts ApproveGiver = (allOf-nil, allOf-nil, allOf-nil)
-  changed-facts ApproveTaker = (allOf-nil, allOf-nil, allOf-nil)
+  changed-facts : (s : Step) → ChangedFacts (record_after s (record_of t k))
+  unfolding record_after
+  changed-facts Open = restated-facts under_give_up (under-give-up-sound (record_of t k) record-named.sound record-named.not-inverse)
+  changed-facts Claim = (all_of-nil, all_of-nil, all_of-nil)
+  changed-facts Cancel = restated-facts adjustable (adjustable-again-sound (record_of t k) record-named.sound record-named.not-inverse)
+  changed-facts Refuse = restated-facts adjustable (adjustable-again-sound (record_of t k) record-named.sound record-named.not-inverse)
+  changed-facts ApproveGiver = (all_of-nil, all_of-nil, all_of-nil)
+  changed-facts ApproveTaker = (all_of-nil, all_of-nil, all_of-nil)
 
-  step-facts : BookingFacts b (stepEffects step (recordOf t k))
+  step-facts : BookingFacts b (step_effects step (record_of t k))
   step-facts = record {
     changed-present = (changed-facts step).0;
     changed-sound = (changed-facts step).1;
     changed-days = (changed-facts step).2;
-    added-absent = allOf-nil;
-    added-distinct = distinct_nil recordKey;
-    added-sound = allOf-nil;
-    added-days = allOf-nil;
-    positions-distinct = distinct_nil positionKey;
+    added-absent = all_of-nil;
+    added-distinct = distinct_nil record_key;
+    added-sound = all_of-nil;
+    added-days = all_of-nil;
+    positions-distinct = distinct_nil position_key;
     process-kept = tt;
     answered = refl;
   }
 
   abbrev completing : Effects
-  completing = transferEffects giveUpKind takeUpKind b.day (recordOf t k) (next_of t id) taking (readAt giving series b.positions) (readAt taking series b.positions)
+  completing = transfer_effects give_up_kind take_up_kind b.day (record_of t k) (next_of t id) taking (read_at giving series b.positions) (read_at taking series b.positions)
 
-  kind-give-up : validKind giveUpKind ≡ true
-  unfolding validKind eqZ
+  kind-give-up : valid_kind give_up_kind ≡ true
+  unfolding valid_kind eq_z
   kind-give-up = refl
 
-  kind-take-up : validKind takeUpKind ≡ true
-  unfolding validKind eqZ
+  kind-take-up : valid_kind take_up_kind ≡ true
+  unfolding valid_kind eq_z
   kind-take-up = refl
 
-  effects-facts : (c : Bool) → any_of (map suffixIsAbove (cond c completing (stepEffects step (recordOf t k))).added) ≡ false
-      → BookingFacts b (cond c completing (stepEffects step (recordOf t k)))
+  effects-facts : (c : Bool) → any_of (map suffix_is_above (cond c completing (step_effects step (record_of t k))).added) ≡ false
+      → BookingFacts b (cond c completing (step_effects step (record_of t k)))
   effects-facts true a =
-      transfer-effects-facts b id suffix giving taking series giveUpKind takeUpKind sound.days-sound record-named kind-give-up kind-take-up figures-passed.taking-valid figures-passed.accounts-differ a
+      transfer-effects-facts b id suffix giving taking series give_up_kind take_up_kind sound.days-sound record-named kind-give-up kind-take-up figures-passed.taking-valid figures-passed.accounts-differ a
   effects-facts false a = step-facts
 
   -- With the row of its process.
-  with-process : (p : ProcessRow) (e : Effects) → BookingFacts b e → ProcessFacts b.processes (some p) → BookingFacts b (withProcessRow p e)
+  with-process : (p : ProcessRow) (e : Effects) → BookingFacts b e → ProcessFacts b.processes (some p) → BookingFacts b (with_process_row p e)
   with-process p e f g = record {
     changed-present = f.changed-present;
     changed-sound = f.changed-sound;
@@ -353,6 +353,6 @@ module _ (b : Books) (sound : SoundBooks b) (step : Step) (process id suffix giv
     answered = f.answered;
   }
 
-  pub give-up-facts : PlanFacts b (planOn b (giveUp step process id suffix giving taking series))
-  unfolding plan_of giveUpPlan view_of giveUpEffects
+  pub give-up-facts : PlanFacts b (plan_on b (give_up step process id suffix giving taking series))
+  unfolding plan_of give_up_plan view_of give_up_effects
   give-up-facts = with-process (finished after) _ (effects-facts (is_complete after) (booking-passed b _ _ accepted).suffixes) process-facts

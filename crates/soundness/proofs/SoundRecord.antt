@@ -1,36 +1,36 @@
 -- A sound record, figure by figure, and back to the one test of it. By the laws of `&&`. Assumes nothing.
 use mathlib.Core.Path.{◌≡◌}
 use mathlib.Core.Bool.{true}
-use Rattle.rules.specs.Figures.{validId, validSuffix, validAccount, validSeries, validPrice, validSide}
-use Rattle.rules.specs.Rows.{validKind, validStatus, validSignedQuantity, validBooked, validInto, validParent, soundRecord}
+use Rattle.rules.specs.Figures.{valid_id, valid_suffix, valid_account, valid_series, valid_price, valid_side}
+use Rattle.rules.specs.Rows.{valid_kind, valid_status, valid_signed_quantity, valid_booked, valid_into, valid_parent, sound_record}
 use Rattle.rules.specs.declared.Record.{Record}
 use Rattle.keys.proofs.Split.{and_intro}
 use Rattle.soundness.proofs.Accepted.{both}
 
 pub record SoundRecord (r : Record) : Type 0 where
-  pub id : validId r.id ≡ true
-  pub suffix : validSuffix r.suffix ≡ true
-  pub parent : validSuffix r.parent ≡ true
-  pub kind : validKind r.kind ≡ true
-  pub status : validStatus r.status ≡ true
-  pub account : validAccount r.account ≡ true
-  pub series : validSeries r.series ≡ true
-  pub side : validSide r.side ≡ true
-  pub quantity : validSignedQuantity r.status r.quantity ≡ true
-  pub price : validPrice r.price ≡ true
-  pub long : validBooked r.long ≡ true
-  pub short : validBooked r.short ≡ true
-  pub into : validInto r.into ≡ true
-  pub parent-below : validParent r.parent r.suffix ≡ true
+  pub id : valid_id r.id ≡ true
+  pub suffix : valid_suffix r.suffix ≡ true
+  pub parent : valid_suffix r.parent ≡ true
+  pub kind : valid_kind r.kind ≡ true
+  pub status : valid_status r.status ≡ true
+  pub account : valid_account r.account ≡ true
+  pub series : valid_series r.series ≡ true
+  pub side : valid_side r.side ≡ true
+  pub quantity : valid_signed_quantity r.status r.quantity ≡ true
+  pub price : valid_price r.price ≡ true
+  pub long : valid_booked r.long ≡ true
+  pub short : valid_booked r.short ≡ true
+  pub into : valid_into r.into ≡ true
+  pub parent-below : valid_parent r.parent r.suffix ≡ true
 
-pub sound-record : (r : Record) → SoundRecord r → soundRecord r ≡ true
-unfolding soundRecord
+pub sound-record : (r : Record) → SoundRecord r → sound_record r ≡ true
+unfolding sound_record
 sound-record r s =
     and_intro (and_intro (and_intro (and_intro (and_intro (and_intro (and_intro (and_intro (and_intro (and_intro (and_intro (and_intro (and_intro
     s.id s.suffix) s.parent) s.kind) s.status) s.account) s.series) s.side) s.quantity) s.price) s.long) s.short) s.into) s.parent-below
 
-pub record-sound : (r : Record) → soundRecord r ≡ true → SoundRecord r
-unfolding soundRecord
+pub record-sound : (r : Record) → sound_record r ≡ true → SoundRecord r
+unfolding sound_record
 record-sound r h =
     let p1 = both _ _ h in
     let p2 = both _ _ p1.0 in

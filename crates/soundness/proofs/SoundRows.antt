@@ -4,76 +4,76 @@ use mathlib.Core.Path.{◌≡◌, refl, ap}
 use mathlib.Core.Bool.{true, false}
 use lib.IntN.{ℤ, pos}
 use lib.Signed.{◌≤ℤ◌, ◌<ℤ◌}
-use Rattle.integers.specs.Order.{eqZ, in_range}
+use Rattle.integers.specs.Order.{eq_z, in_range}
 use Rattle.integers.proofs.Linear.{zarith}
-use Rattle.rules.specs.Figures.{magnitudeAtMost, validId, validSuffix, validAccount, validSeries, validPrice, validSide, mostQuantity, greatestOfSuffixes, adjustable, adjusted, inverse, underGiveUp}
-use Rattle.rules.specs.Rows.{validKind, validStatus, validBooked, validInto, validParent, soundRecord, withStatus, adjustedRecord, newRecord, inverseRecord, adjustableRecord}
-use Rattle.rules.specs.Plan.{suffixIsAbove}
+use Rattle.rules.specs.Figures.{magnitude_at_most, valid_id, valid_suffix, valid_account, valid_series, valid_price, valid_side, most_quantity, greatest_of_suffixes, adjustable, adjusted, inverse, under_give_up}
+use Rattle.rules.specs.Rows.{valid_kind, valid_status, valid_booked, valid_into, valid_parent, sound_record, with_status, adjusted_record, new_record, inverse_record, adjustable_record}
+use Rattle.rules.specs.Plan.{suffix_is_above}
 use Rattle.rules.specs.declared.Record.{Record}
 use Rattle.soundness.proofs.SoundRecord.{SoundRecord, sound-record}
 use Rattle.soundness.proofs.FigureRanges.{signed_range, in-signed, inverse-signed, suffix-range, in-suffix, in-parent}
 
 -- Test 13 does not apply to a row.
-pub suffix-small : (r : Record) → suffixIsAbove r ≡ false → r.suffix ≤ℤ greatestOfSuffixes
-unfolding suffixIsAbove
+pub suffix-small : (r : Record) → suffix_is_above r ≡ false → r.suffix ≤ℤ greatest_of_suffixes
+unfolding suffix_is_above
 suffix-small r h = omega zarith
 
 -- The statuses that rules give, and the cells that are 0.
-status-adjustable : validStatus adjustable ≡ true
-unfolding validStatus in_range
+status-adjustable : valid_status adjustable ≡ true
+unfolding valid_status in_range
 status-adjustable = refl
 
-status-adjusted : validStatus adjusted ≡ true
-unfolding validStatus in_range
+status-adjusted : valid_status adjusted ≡ true
+unfolding valid_status in_range
 status-adjusted = refl
 
-status-inverse : validStatus inverse ≡ true
-unfolding validStatus in_range
+status-inverse : valid_status inverse ≡ true
+unfolding valid_status in_range
 status-inverse = refl
 
-status-under-give-up : validStatus underGiveUp ≡ true
-unfolding validStatus in_range
+status-under-give-up : valid_status under_give_up ≡ true
+unfolding valid_status in_range
 status-under-give-up = refl
 
-suffix-zero : validSuffix (pos 0) ≡ true
-unfolding validSuffix in_range
+suffix-zero : valid_suffix (pos 0) ≡ true
+unfolding valid_suffix in_range
 suffix-zero = refl
 
-parent-zero : validParent (pos 0) (pos 0) ≡ true
-unfolding validParent eqZ
+parent-zero : valid_parent (pos 0) (pos 0) ≡ true
+unfolding valid_parent eq_z
 parent-zero = refl
 
-pub into-zero : validInto (pos 0) ≡ true
-unfolding validInto eqZ
+pub into-zero : valid_into (pos 0) ≡ true
+unfolding valid_into eq_z
 into-zero = refl
 
-pub nothing-booked : validBooked (pos 0) ≡ true
-unfolding validBooked magnitudeAtMost in_range
+pub nothing-booked : valid_booked (pos 0) ≡ true
+unfolding valid_booked magnitude_at_most in_range
 nothing-booked = refl
 
 -- A status that isn't inverse: 0, and 3 of a record under give-up.
-pub adjustable-open : (status : ℤ) → status ≡ adjustable → eqZ status inverse ≡ false
-unfolding eqZ
-adjustable-open status e = ap (λ (z : ℤ). eqZ z inverse) e
+pub adjustable-open : (status : ℤ) → status ≡ adjustable → eq_z status inverse ≡ false
+unfolding eq_z
+adjustable-open status e = ap (λ (z : ℤ). eq_z z inverse) e
 
-pub under-give-up-open : (status : ℤ) → status ≡ underGiveUp → eqZ status inverse ≡ false
-unfolding eqZ
-under-give-up-open status e = ap (λ (z : ℤ). eqZ z inverse) e
+pub under-give-up-open : (status : ℤ) → status ≡ under_give_up → eq_z status inverse ≡ false
+unfolding eq_z
+under-give-up-open status e = ap (λ (z : ℤ). eq_z z inverse) e
 
 -- The quantity of a sound record that isn't inverse; of one with status 0.
-pub open-quantity : (r : Record) → SoundRecord r → eqZ r.status inverse ≡ false → (pos 1 ≤ℤ r.quantity) × (r.quantity ≤ℤ pos mostQuantity)
+pub open-quantity : (r : Record) → SoundRecord r → eq_z r.status inverse ≡ false → (pos 1 ≤ℤ r.quantity) × (r.quantity ≤ℤ pos most_quantity)
 open-quantity r s e = signed_range r.status r.quantity e s.quantity
 
-pub quantity-of : (r : Record) → SoundRecord r → r.status ≡ adjustable → (pos 1 ≤ℤ r.quantity) × (r.quantity ≤ℤ pos mostQuantity)
+pub quantity-of : (r : Record) → SoundRecord r → r.status ≡ adjustable → (pos 1 ≤ℤ r.quantity) × (r.quantity ≤ℤ pos most_quantity)
 quantity-of r s e = open-quantity r s (adjustable-open r.status e)
 
 pub new-sound : (today id kind account series side quantity price long short : ℤ) →
-    validId id ≡ true → validKind kind ≡ true → validAccount account ≡ true → validSeries series ≡ true → validSide side ≡ true →
-    pos 1 ≤ℤ quantity → quantity ≤ℤ pos mostQuantity → validPrice price ≡ true → validBooked long ≡ true → validBooked short ≡ true →
-    soundRecord (newRecord today id kind account series side quantity price long short) ≡ true
-unfolding newRecord eqZ
+    valid_id id ≡ true → valid_kind kind ≡ true → valid_account account ≡ true → valid_series series ≡ true → valid_side side ≡ true →
+    pos 1 ≤ℤ quantity → quantity ≤ℤ pos most_quantity → valid_price price ≡ true → valid_booked long ≡ true → valid_booked short ≡ true →
+    sound_record (new_record today id kind account series side quantity price long short) ≡ true
+unfolding new_record eq_z
 new-sound today id kind account series side quantity price long short i k a s d q₀ q₁ p l m =
-    sound-record (newRecord today id kind account series side quantity price long short)
+    sound-record (new_record today id kind account series side quantity price long short)
     (record {
       id = i;
       suffix = suffix-zero;
@@ -92,11 +92,11 @@ new-sound today id kind account series side quantity price long short i k a s d 
     })
 
 -- From a sound record that isn't inverse.
-module _ (r : Record) (s : SoundRecord r) (e : eqZ r.status inverse ≡ false) where
+module _ (r : Record) (s : SoundRecord r) (e : eq_z r.status inverse ≡ false) where
   -- In any other status that isn't inverse.
-  pub restated-sound : (status : ℤ) → validStatus status ≡ true → eqZ status inverse ≡ false → soundRecord (withStatus status r) ≡ true
+  pub restated-sound : (status : ℤ) → valid_status status ≡ true → eq_z status inverse ≡ false → sound_record (with_status status r) ≡ true
   restated-sound status valid stays =
-      sound-record (withStatus status r)
+      sound-record (with_status status r)
       (record {
         id = s.id;
         suffix = s.suffix;
@@ -114,28 +114,28 @@ module _ (r : Record) (s : SoundRecord r) (e : eqZ r.status inverse ≡ false) w
         parent-below = s.parent-below;
       })
 
-  pub adjusted-sound : soundRecord (adjustedRecord r) ≡ true
-  unfolding adjustedRecord eqZ
+  pub adjusted-sound : sound_record (adjusted_record r) ≡ true
+  unfolding adjusted_record eq_z
   adjusted-sound = restated-sound adjusted status-adjusted refl
 
-  pub adjustable-again-sound : soundRecord (withStatus adjustable r) ≡ true
-  unfolding eqZ
+  pub adjustable-again-sound : sound_record (with_status adjustable r) ≡ true
+  unfolding eq_z
   adjustable-again-sound = restated-sound adjustable status-adjustable refl
 
-  pub under-give-up-sound : soundRecord (withStatus underGiveUp r) ≡ true
-  unfolding eqZ
-  under-give-up-sound = restated-sound underGiveUp status-under-give-up refl
+  pub under-give-up-sound : sound_record (with_status under_give_up r) ≡ true
+  unfolding eq_z
+  under-give-up-sound = restated-sound under_give_up status-under-give-up refl
 
   -- A row that comes out of it has a greater suffix.
-  module _ (today suffix : ℤ) (above : r.suffix <ℤ suffix) (small : suffix ≤ℤ greatestOfSuffixes) where
-    later-suffix : validSuffix suffix ≡ true
+  module _ (today suffix : ℤ) (above : r.suffix <ℤ suffix) (small : suffix ≤ℤ greatest_of_suffixes) where
+    later-suffix : valid_suffix suffix ≡ true
     later-suffix = let low : pos 0 ≤ℤ r.suffix = (suffix-range r.suffix s.suffix).0 in in-suffix suffix (omega zarith) small
 
-    pub inverse-sound : (kind long short into : ℤ) → validKind kind ≡ true → validBooked long ≡ true → validBooked short ≡ true → validInto into ≡ true →
-        soundRecord (inverseRecord today r suffix kind long short into) ≡ true
-    unfolding inverseRecord
+    pub inverse-sound : (kind long short into : ℤ) → valid_kind kind ≡ true → valid_booked long ≡ true → valid_booked short ≡ true → valid_into into ≡ true →
+        sound_record (inverse_record today r suffix kind long short into) ≡ true
+    unfolding inverse_record
     inverse-sound kind long short into k l m i =
-        sound-record (inverseRecord today r suffix kind long short into)
+        sound-record (inverse_record today r suffix kind long short into)
         (record {
           id = s.id;
           suffix = later-suffix;
@@ -153,11 +153,11 @@ module _ (r : Record) (s : SoundRecord r) (e : eqZ r.status inverse ≡ false) w
           parent-below = in-parent r.suffix suffix above;
         })
 
-    pub adjustable-sound : (kind account quantity long short : ℤ) → validKind kind ≡ true → validAccount account ≡ true → pos 1 ≤ℤ quantity → quantity ≤ℤ pos mostQuantity →
-        validBooked long ≡ true → validBooked short ≡ true → soundRecord (adjustableRecord today r suffix kind account quantity long short) ≡ true
-    unfolding adjustableRecord eqZ
+    pub adjustable-sound : (kind account quantity long short : ℤ) → valid_kind kind ≡ true → valid_account account ≡ true → pos 1 ≤ℤ quantity → quantity ≤ℤ pos most_quantity →
+        valid_booked long ≡ true → valid_booked short ≡ true → sound_record (adjustable_record today r suffix kind account quantity long short) ≡ true
+    unfolding adjustable_record eq_z
     adjustable-sound kind account quantity long short k a q₀ q₁ l m =
-        sound-record (adjustableRecord today r suffix kind account quantity long short)
+        sound-record (adjustable_record today r suffix kind account quantity long short)
         (record {
           id = s.id;
           suffix = later-suffix;

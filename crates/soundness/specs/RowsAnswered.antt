@@ -4,14 +4,14 @@ use Rattle.std.specs.Prelude.{ℤ, pos}
 use Rattle.rules.specs.declared.Reply.{Reply}
 use Rattle.rules.specs.declared.Reply.TheVariants.{Booked, ClosingError, Lineage, Refused, Stopped, Written, Replayed, BadLine, LineRefused, Listed}
 
-abbrev pub rowsAnswered : Reply → ℤ
-rowsAnswered (Booked rows residual) = rows
-rowsAnswered (ClosingError excess) = pos 1
-rowsAnswered (Lineage price links) = pos 0
-rowsAnswered (Refused number place) = pos 0
-rowsAnswered (Stopped booked number place) = booked
-rowsAnswered (Written bytes) = pos 0
-rowsAnswered (Replayed lines) = pos 0
-rowsAnswered (BadLine line) = pos 0
-rowsAnswered (LineRefused line number place) = pos 0
-rowsAnswered (Listed records) = pos 0
+abbrev pub rows_answered : Reply → ℤ
+rows_answered (Booked rows residual) = rows
+rows_answered (ClosingError excess) = pos 1
+rows_answered (Lineage price links) = pos 0
+rows_answered (Refused number place) = pos 0
+rows_answered (Stopped booked number place) = booked
+rows_answered (Written bytes) = pos 0
+rows_answered (Replayed lines) = pos 0
+rows_answered (BadLine line) = pos 0
+rows_answered (LineRefused line number place) = pos 0
+rows_answered (Listed records) = pos 0

@@ -1,14 +1,14 @@
 // The process of a give-up by value: whose turn it is, what a step makes of it, and when it is complete. Each step matches the stage and writes the process anew.
 ghost use Rattle.std.specs.Prelude.{◌≡◌, ◌||◌};
-ghost use Rattle.rules.specs.ProcessRows.{pending, claimed, rowOfProcess, withProgress, withStage, openedProcess, stageNumber};
+ghost use Rattle.rules.specs.ProcessRows.{pending, claimed, row_of_process, with_progress, with_stage, opened_process, stage_number};
 ghost use Rattle.rules.specs.declared.Step.TheVariants.{ApproveGiver, ApproveTaker};
 ghost use Rattle.rules.specs.GiveUp as GiveUp;
-ghost use Rattle.rules.specs.GiveUp.{is_at, hasFigures, hasTurn, is_complete};
+ghost use Rattle.rules.specs.GiveUp.{is_at, has_figures, has_turn, is_complete};
 
 use rules::{Process, Stage, Step};
 
 fn is_pending(p: Process) -> bool
-    ensures { result ≡ is_at pending (rowOfProcess p) }
+    ensures { result ≡ is_at pending (row_of_process p) }
 {
     let stage = p.stage;
     match stage {
@@ -21,7 +21,7 @@ fn is_pending(p: Process) -> bool
 }
 
 fn is_claimed(p: Process) -> bool
-    ensures { result ≡ is_at claimed (rowOfProcess p) }
+    ensures { result ≡ is_at claimed (row_of_process p) }
 {
     let stage = p.stage;
     match stage {
@@ -35,7 +35,7 @@ fn is_claimed(p: Process) -> bool
 
 // Before the end: pending or claimed.
 fn is_under_way(p: Process) -> bool
-    ensures { result ≡ (is_at pending (rowOfProcess p) || is_at claimed (rowOfProcess p)) }
+    ensures { result ≡ (is_at pending (row_of_process p) || is_at claimed (row_of_process p)) }
 {
     let stage = p.stage;
     match stage {
@@ -49,7 +49,7 @@ fn is_under_way(p: Process) -> bool
 
 // The giver's clearing member approves once, before the end; the taker's once, after the claim.
 fn giver_may_approve(p: Process) -> bool
-    ensures { result ≡ hasTurn ApproveGiver (rowOfProcess p) }
+    ensures { result ≡ has_turn ApproveGiver (row_of_process p) }
 {
     if !is_under_way(p) {
         return false;
@@ -58,7 +58,7 @@ fn giver_may_approve(p: Process) -> bool
 }
 
 fn taker_may_approve(p: Process) -> bool
-    ensures { result ≡ hasTurn ApproveTaker (rowOfProcess p) }
+    ensures { result ≡ has_turn ApproveTaker (row_of_process p) }
 {
     if !is_claimed(p) {
         return false;
@@ -67,7 +67,7 @@ fn taker_may_approve(p: Process) -> bool
 }
 
 pub fn has_turn(step: Step, p: Process) -> bool
-    ensures { result ≡ hasTurn step (rowOfProcess p) }
+    ensures { result ≡ has_turn step (row_of_process p) }
 {
     match step {
         Step::Open => false,
@@ -81,7 +81,7 @@ pub fn has_turn(step: Step, p: Process) -> bool
 
 // The figures that a step names are the row's.
 pub fn has_figures(p: Process, suffix: i64, giving: i64, taking: i64, series: i64) -> bool
-    ensures { result ≡ hasFigures suffix giving taking series (rowOfProcess p) }
+    ensures { result ≡ has_figures suffix giving taking series (row_of_process p) }
 {
     if p.suffix != suffix {
         return false;
@@ -97,7 +97,7 @@ pub fn has_figures(p: Process, suffix: i64, giving: i64, taking: i64, series: i6
 
 // The process with other approvals and another stage.
 fn with_progress(p: Process, giver: i64, taker: i64, stage: Stage) -> Process
-    ensures { rowOfProcess result ≡ withProgress (rowOfProcess p) giver taker (stageNumber stage) }
+    ensures { row_of_process result ≡ with_progress (row_of_process p) giver taker (stage_number stage) }
 {
     Process {
         process: p.process,
@@ -114,13 +114,13 @@ fn with_progress(p: Process, giver: i64, taker: i64, stage: Stage) -> Process
 
 // The process with another stage.
 fn with_stage(p: Process, stage: Stage) -> Process
-    ensures { rowOfProcess result ≡ withStage (stageNumber stage) (rowOfProcess p) }
+    ensures { row_of_process result ≡ with_stage (stage_number stage) (row_of_process p) }
 {
     with_progress(p, p.giver, p.taker, stage)
 }
 
 pub fn opened(process: i64, id: i64, suffix: i64, giving: i64, taking: i64, series: i64) -> Process
-    ensures { rowOfProcess result ≡ openedProcess process id suffix giving taking series }
+    ensures { row_of_process result ≡ opened_process process id suffix giving taking series }
 {
     Process {
         process,
@@ -136,7 +136,7 @@ pub fn opened(process: i64, id: i64, suffix: i64, giving: i64, taking: i64, seri
 }
 
 pub fn stepped(step: Step, p: Process) -> Process
-    ensures { rowOfProcess result ≡ GiveUp.stepped step (rowOfProcess p) }
+    ensures { row_of_process result ≡ GiveUp.stepped step (row_of_process p) }
 {
     let stage = p.stage;
     match step {
@@ -151,7 +151,7 @@ pub fn stepped(step: Step, p: Process) -> Process
 
 // Claimed, with both approvals.
 pub fn is_complete(p: Process) -> bool
-    ensures { result ≡ is_complete (rowOfProcess p) }
+    ensures { result ≡ is_complete (row_of_process p) }
 {
     if !is_claimed(p) {
         return false;
@@ -164,7 +164,7 @@ pub fn is_complete(p: Process) -> bool
 
 // A process that is complete is done.
 pub fn finished(p: Process) -> Process
-    ensures { rowOfProcess result ≡ GiveUp.finished (rowOfProcess p) }
+    ensures { row_of_process result ≡ GiveUp.finished (row_of_process p) }
 {
     if is_complete(p) {
         return with_stage(p, Stage::Done);

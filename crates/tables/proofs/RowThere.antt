@@ -10,7 +10,7 @@ use Rattle.rules.specs.Keyed.{Key, rising}
 use Rattle.rules.specs.Layout.{Layout, count_of, decode, row_at, rows_of}
 use Rattle.cells.specs.SoundTable.{SoundTable}
 use Rattle.keys.proofs.Lookup.{find-all}
-use Rattle.lookup.specs.Lookup.{key_at, rowFrom, foundOr, foundIn, place_in}
+use Rattle.lookup.specs.Lookup.{key_at, row_from, found_or, found_in, place_in}
 use Rattle.lookup.specs.declared.Found.TheVariants.{Row}
 use Rattle.lookup.proofs.RisingKeys.{rising-map, found-there}
 use Rattle.lookup.proofs.TableLookup.{KeyFirst, table-keys, table-row, table-found}
@@ -21,24 +21,24 @@ key-of-row key (r ∷ rest) zero other = refl
 key-of-row key (r ∷ rest) (suc i) other = key-of-row key rest i other
 
 rising-found : {A : Type 0} (key : A → Key) (rows : List A) (i : ℕ) (other : A) → rising key rows ≡ true → i < length rows
-    → rowFrom 0 (key (get_or rows i other)) (map key rows) ≡ some i
+    → row_from 0 (key (get_or rows i other)) (map key rows) ≡ some i
 rising-found key rows i other rises h =
-    ap (λ (k : Key). rowFrom 0 k (map key rows)) (sym (key-of-row key rows i other))
+    ap (λ (k : Key). row_from 0 k (map key rows)) (sym (key-of-row key rows i other))
     ∙ found-there (map key rows) i (key other) (rising-map key rows ∙ rises) (rw (length-map rows key) h)
 
 module _ {A : Type 0} (l : Layout A) (key : A → Key) (first : KeyFirst l key) (cells : List ℤ) where
   pub row-there : (i : ℕ) → rising key (rows_of l cells) ≡ true → i < length (rows_of l cells)
-      → foundIn l (key (row_at l cells i)) cells ≡ Row i
-  unfolding foundOr
+      → found_in l (key (row_at l cells i)) cells ≡ Row i
+  unfolding found_or
   row-there i rises h =
       let here : A = row_at l cells i in
-      let row : rowFrom 0 (key here) (decode key_at l.width (nat_abs (count_of cells)) l.header cells) ≡ some i =
-      ap (rowFrom 0 (key here)) (table-keys l key first cells)
-      ∙ ap (λ (r : A). rowFrom 0 (key r) (map key (rows_of l cells))) (sym (table-row l key first cells i here h))
+      let row : row_from 0 (key here) (decode key_at l.width (nat_abs (count_of cells)) l.header cells) ≡ some i =
+      ap (row_from 0 (key here)) (table-keys l key first cells)
+      ∙ ap (λ (r : A). row_from 0 (key r) (map key (rows_of l cells))) (sym (table-row l key first cells i here h))
       ∙ rising-found key (rows_of l cells) i here rises h in
-      ap (λ (o : Option ℕ). foundOr o (place_in l (key here) cells)) row
+      ap (λ (o : Option ℕ). found_or o (place_in l (key here) cells)) row
 
-  pub row-is-sound : (soundRow : A → Bool) → SoundTable l key soundRow cells → (i : ℕ) → i < length (rows_of l cells) → soundRow (row_at l cells i) ≡ true
-  row-is-sound soundRow table i h =
-      find-all key soundRow (key (row_at l cells i)) (rows_of l cells) (row_at l cells i) table.rows-sound
+  pub row-is-sound : (sound_row : A → Bool) → SoundTable l key sound_row cells → (i : ℕ) → i < length (rows_of l cells) → sound_row (row_at l cells i) ≡ true
+  row-is-sound sound_row table i h =
+      find-all key sound_row (key (row_at l cells i)) (rows_of l cells) (row_at l cells i) table.rows-sound
       (table-found l key first cells (key (row_at l cells i)) i (row-there i table.rows-rise h)).1

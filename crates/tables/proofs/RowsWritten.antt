@@ -14,26 +14,26 @@ use mir.Syntax.{w64}
 use mir.Val.{SFits}
 use Rattle.integers.proofs.Linear.{zarith, +-lin}
 use Rattle.rules.specs.Layout.{encode}
-use Rattle.rules.specs.Tables.{recordCells, recordsLayout}
+use Rattle.rules.specs.Tables.{record_cells, records_layout}
 use Rattle.rules.specs.declared.Record.{Record}
 use Rattle.cells.proofs.RowCells.{records-lawful}
 use Rattle.shifter.specs.Insertion.{filled, replaced}
 use Rattle.shifter.proofs.RowsFilled.{rows_next}
-use Rattle.tables.specs.NewRows.{numberedAs, rowsLike}
+use Rattle.tables.specs.NewRows.{numbered_as, rows_like}
 
 -- The rows of these quantities written from a place on.
 abbrev pub written : Record → ℤ → List ℤ → ℕ → List ℤ → List ℤ
-written first suffix quantities place part = filled 0 recordsLayout.width (encode recordCells (rowsLike first suffix quantities)) place part
+written first suffix quantities place part = filled 0 records_layout.width (encode record_cells (rows_like first suffix quantities)) place part
 
 none_written : (first : Record) (suffix : ℤ) (place : ℕ) (part : List ℤ) → written first suffix [] place part ≡ part
-unfolding rowsLike encode filled
-none_written first suffix place part = rw (add-zero (0 + place * recordsLayout.width)) (take-append-drop (0 + place * recordsLayout.width) part)
+unfolding rows_like encode filled
+none_written first suffix place part = rw (add-zero (0 + place * records_layout.width)) (take-append-drop (0 + place * records_layout.width) part)
 
-one_written : (first : Record) (suffix q : ℤ) (rest : List ℤ) (place : ℕ) (part : List ℤ) → place * recordsLayout.width ≤ length part
-    → written first suffix (q ∷ rest) place part ≡ written first (suffix +ℤ pos 1) rest (place + 1) (replaced 0 (recordCells (numberedAs first suffix q)) place part)
-unfolding rowsLike
+one_written : (first : Record) (suffix q : ℤ) (rest : List ℤ) (place : ℕ) (part : List ℤ) → place * records_layout.width ≤ length part
+    → written first suffix (q ∷ rest) place part ≡ written first (suffix +ℤ pos 1) rest (place + 1) (replaced 0 (record_cells (numbered_as first suffix q)) place part)
+unfolding rows_like
 one_written first suffix q rest place part fits =
-    rows_next recordsLayout records-lawful 0 (numberedAs first suffix q) (rowsLike first (suffix +ℤ pos 1) rest) place part (omega arith)
+    rows_next records_layout records-lawful 0 (numbered_as first suffix q) (rows_like first (suffix +ℤ pos 1) rest) place part (omega arith)
 
 -- The part now, where the next quantity is at this place and its row has this suffix.
 pub record WrittenSoFar (before : List ℤ) (place : ℕ) (first : Record) (quantities now : List ℤ) (suffix : ℤ) (i : ℕ) : Type 0 where
@@ -51,14 +51,14 @@ written_start before place first quantities = record {
 }
 
 module _ (before : List ℤ) (place : ℕ) (first : Record) (quantities now : List ℤ) (suffix : ℤ) (i : ℕ) (so_far : WrittenSoFar before place first quantities now suffix i) where
-  module _ (fits : (place + length quantities) * recordsLayout.width ≤ length before) (more : i < length quantities) where
+  module _ (fits : (place + length quantities) * records_layout.width ≤ length before) (more : i < length quantities) where
     abbrev q : ℤ
     q = get_or quantities i (pos 0)
 
     next-left : drop i quantities ≡ q ∷ drop (i + 1) quantities
     next-left = rw add-one (drop-cons quantities i (pos 0) more)
 
-    pub row_fits : (place + i + 1) * recordsLayout.width ≤ length now
+    pub row_fits : (place + i + 1) * records_layout.width ≤ length now
     row_fits = omega (arith, so_far.same_size)
 
     pub suffix-fits : first.suffix ≤ℤ pos 65536 → pos 0 ≤ℤ first.suffix → length quantities ≤ 65535 → SFits w64 (suffix +ℤ pos 1)
@@ -66,7 +66,7 @@ module _ (before : List ℤ) (place : ℕ) (first : Record) (quantities now : Li
         let e : suffix ≡ first.suffix +ℤ pos i = so_far.suffix-is in
         omega (zarith, more, few, +-lin first.suffix (pos i), +-lin suffix (pos 1))
 
-    pub written_next : (after : List ℤ) → after ≡ replaced 0 (recordCells (numberedAs first suffix q)) (place + i) now → length after ≡ length now
+    pub written_next : (after : List ℤ) → after ≡ replaced 0 (record_cells (numbered_as first suffix q)) (place + i) now → length after ≡ length now
         → WrittenSoFar before place first quantities after (suffix +ℤ pos 1) (i + 1)
     written_next after e size =
         let rest : List ℤ = drop (i + 1) quantities in

@@ -7,12 +7,12 @@ use mathlib.Core.List.{List, [], ◌∷◌, ◌++◌}
 use lib.IntN.{ℤ}
 use lib.ListN.{length, take, drop, set}
 use lib.Seq.{length-take-le}
-use Rattle.rules.specs.Rows.{withStatus}
+use Rattle.rules.specs.Rows.{with_status}
 use Rattle.rules.specs.Layout.{start_of, row_at}
-use Rattle.rules.specs.Tables.{recordAt, recordCells, statusCell, recordsLayout}
+use Rattle.rules.specs.Tables.{record_at, record_cells, status_cell, records_layout}
 use Rattle.rules.specs.declared.Record.{Record}
 use Rattle.cells.proofs.Parts.{around}
-use Rattle.cells.proofs.RowCells.{length-recordCells, recordCells-recordAt}
+use Rattle.cells.proofs.RowCells.{length-record_cells, record_cells-record_at}
 use Rattle.shifter.specs.Insertion.{replaced}
 
 -- A cell past the first part.
@@ -21,31 +21,31 @@ set_past [] ys n a = rw (zero-add n) refl
 set_past {A} (x ∷ xs) ys n a = rw (suc-add (length xs) n) (ap {B = List A} (λ l. x ∷ l) (set_past xs ys n a))
 
 -- The status among a record's cells.
-status-cell : (s : ℤ) (r : Record) (rest : List ℤ) → set (recordCells r ++ rest) statusCell s ≡ recordCells (withStatus s r) ++ rest
-unfolding recordCells
+status-cell : (s : ℤ) (r : Record) (rest : List ℤ) → set (record_cells r ++ rest) status_cell s ≡ record_cells (with_status s r) ++ rest
+unfolding record_cells
 status-cell s r rest = refl
 
-status-at : (s : ℤ) (cells : List ℤ) (at : ℕ) → at + recordsLayout.width ≤ length cells
-    → set cells (at + statusCell) s ≡ take at cells ++ (recordCells (withStatus s (recordAt cells at)) ++ drop (at + recordsLayout.width) cells)
+status-at : (s : ℤ) (cells : List ℤ) (at : ℕ) → at + records_layout.width ≤ length cells
+    → set cells (at + status_cell) s ≡ take at cells ++ (record_cells (with_status s (record_at cells at)) ++ drop (at + records_layout.width) cells)
 status-at s cells at fits =
     let before : List ℤ = take at cells in
-    let rest : List ℤ = drop (at + recordsLayout.width) cells in
-    let r : Record = recordAt cells at in
-    let whole : cells ≡ before ++ (recordCells r ++ rest)
-    = sym (around cells at recordsLayout.width) ∙ ap (λ (c : List ℤ). before ++ (c ++ rest)) (sym (recordCells-recordAt cells at fits)) in
+    let rest : List ℤ = drop (at + records_layout.width) cells in
+    let r : Record = record_at cells at in
+    let whole : cells ≡ before ++ (record_cells r ++ rest)
+    = sym (around cells at records_layout.width) ∙ ap (λ (c : List ℤ). before ++ (c ++ rest)) (sym (record_cells-record_at cells at fits)) in
     let full : length before ≡ at = length-take-le at cells (omega arith) in
-    ap (λ (c : List ℤ). set c (at + statusCell) s) whole
-    ∙ ap (λ (n : ℕ). set (before ++ (recordCells r ++ rest)) (n + statusCell) s) (sym full)
-    ∙ set_past before (recordCells r ++ rest) statusCell s
+    ap (λ (c : List ℤ). set c (at + status_cell) s) whole
+    ∙ ap (λ (n : ℕ). set (before ++ (record_cells r ++ rest)) (n + status_cell) s) (sym full)
+    ∙ set_past before (record_cells r ++ rest) status_cell s
     ∙ ap (λ (c : List ℤ). before ++ c) (status-cell s r rest)
 
-pub status-set : (s : ℤ) (cells : List ℤ) (row : ℕ) → start_of recordsLayout (suc row) ≤ length cells
-    → set cells (start_of recordsLayout row + statusCell) s ≡ replaced recordsLayout.header (recordCells (withStatus s (row_at recordsLayout cells row))) row cells
+pub status-set : (s : ℤ) (cells : List ℤ) (row : ℕ) → start_of records_layout (suc row) ≤ length cells
+    → set cells (start_of records_layout row + status_cell) s ≡ replaced records_layout.header (record_cells (with_status s (row_at records_layout cells row))) row cells
 unfolding replaced
 status-set s cells row fits =
-    let changed : List ℤ = recordCells (withStatus s (row_at recordsLayout cells row)) in
-    let end : start_of recordsLayout row + recordsLayout.width ≡ start_of recordsLayout (suc row) = omega arith in
-    status-at s cells (start_of recordsLayout row) (omega arith)
-    ∙ ap (λ (n : ℕ). take (start_of recordsLayout row) cells ++ (changed ++ drop n cells)) end
-    ∙ ap (λ (w : ℕ). take (recordsLayout.header + row * w) cells ++ (changed ++ drop (recordsLayout.header + suc row * w) cells))
-    (sym (length-recordCells (withStatus s (row_at recordsLayout cells row))))
+    let changed : List ℤ = record_cells (with_status s (row_at records_layout cells row)) in
+    let end : start_of records_layout row + records_layout.width ≡ start_of records_layout (suc row) = omega arith in
+    status-at s cells (start_of records_layout row) (omega arith)
+    ∙ ap (λ (n : ℕ). take (start_of records_layout row) cells ++ (changed ++ drop n cells)) end
+    ∙ ap (λ (w : ℕ). take (records_layout.header + row * w) cells ++ (changed ++ drop (records_layout.header + suc row * w) cells))
+    (sym (length-record_cells (with_status s (row_at records_layout cells row))))

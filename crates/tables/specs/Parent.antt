@@ -2,12 +2,12 @@
 use Rattle.std.specs.Prelude.{◌<◌, ◌≡◌, List, ℤ, length}
 use Rattle.std.proofs.Math.Option.{none, some}
 use Rattle.rules.specs.Layout.{row_at, rows_of}
-use Rattle.rules.specs.Tables.{recordsLayout}
+use Rattle.rules.specs.Tables.{records_layout}
 use Rattle.rules.specs.Reportable.{parent_of}
 use Rattle.rules.specs.declared.Record.{Record}
 use Rattle.lookup.specs.declared.Found.{Found}
 use Rattle.lookup.specs.declared.Found.TheVariants.{Row, Absent}
 
 abbrev pub ParentAt : List ℤ → Record → Found → Type 0
-ParentAt cells r (Row row) = (row < length (rows_of recordsLayout cells)) × (parent_of (rows_of recordsLayout cells) r ≡ some (row_at recordsLayout cells row))
-ParentAt cells r (Absent place) = parent_of (rows_of recordsLayout cells) r ≡ none
+ParentAt cells r (Row row) = (row < length (rows_of records_layout cells)) × (parent_of (rows_of records_layout cells) r ≡ some (row_at records_layout cells row))
+ParentAt cells r (Absent place) = parent_of (rows_of records_layout cells) r ≡ none

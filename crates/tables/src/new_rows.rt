@@ -1,12 +1,12 @@
 // The rows that come out of a record, inserted together: the records table from their place on is lent to a shifter, which moves the rows there up, once, and writes the
 // new ones: the record's inverse, then one row a quantity.
 ghost use Rattle.std.specs.Prelude.{◌≡◌, ◌++◌, suc, ◌+◌, ◌*◌, ◌≤◌, pos, length, take, drop, ◌≤ℤ◌};
-ghost use Rattle.rules.specs.Keyed.{upsertAll};
-ghost use Rattle.rules.specs.Rows.{recordKey};
+ghost use Rattle.rules.specs.Keyed.{upsert_all};
+ghost use Rattle.rules.specs.Rows.{record_key};
 ghost use Rattle.rules.specs.Layout.{encode, rows_of, write};
-ghost use Rattle.rules.specs.Tables.{recordCells, recordsLayout};
+ghost use Rattle.rules.specs.Tables.{record_cells, records_layout};
 ghost use Rattle.shifter.specs.Insertion.{replaced, filled};
-ghost use Rattle.tables.specs.NewRows.{numberedAs, rowsLike, newRows, NewRowsReady};
+ghost use Rattle.tables.specs.NewRows.{numbered_as, rows_like, new_rows, NewRowsReady};
 
 use super::records;
 use rules::Record;
@@ -14,7 +14,7 @@ use rules::layout::{RECORD_WIDTH, RECORDS_HEADER};
 use scan::rows;
 
 fn numbered_as(r: Record, suffix: i64, quantity: i64) -> Record
-    ensures { result ≡ numberedAs r suffix quantity }
+    ensures { result ≡ numbered_as r suffix quantity }
 {
     let mut row = r;
     row.suffix = suffix;
@@ -24,8 +24,8 @@ fn numbered_as(r: Record, suffix: i64, quantity: i64) -> Record
 
 // The cells of row `row` of a part written anew.
 fn write_record(part: &mut [i64], row: usize, r: Record)
-    requires { suc row * recordsLayout.width ≤ length part.old }
-    ensures { part.new ≡ replaced 0 (recordCells r) row part.old }
+    requires { suc row * records_layout.width ≤ length part.old }
+    ensures { part.new ≡ replaced 0 (record_cells r) row part.old }
 {
     let row_cells = rows::record_cells(r);
     shifter::replace_row(part, 0, row, &row_cells);
@@ -33,8 +33,8 @@ fn write_record(part: &mut [i64], row: usize, r: Record)
 
 // One row a quantity, from row `place` of a part on.
 fn write_rows(part: &mut [i64], place: usize, first: Record, quantities: &[i64])
-    requires { ((place + length quantities.now) * recordsLayout.width ≤ length part.old) × (pos 0 ≤ℤ first.suffix) × (first.suffix ≤ℤ pos 65536) × (length quantities.now ≤ 65535) }
-    ensures { part.new ≡ filled 0 recordsLayout.width (encode recordCells (rowsLike first first.suffix quantities.now)) place part.old }
+    requires { ((place + length quantities.now) * records_layout.width ≤ length part.old) × (pos 0 ≤ℤ first.suffix) × (first.suffix ≤ℤ pos 65536) × (length quantities.now ≤ 65535) }
+    ensures { part.new ≡ filled 0 records_layout.width (encode record_cells (rows_like first first.suffix quantities.now)) place part.old }
 {
     let mut suffix = first.suffix;
     let mut at = 0;
@@ -48,8 +48,8 @@ fn write_rows(part: &mut [i64], place: usize, first: Record, quantities: &[i64])
 
 // The shifter: the first `used` cells of the part moved up, and the new rows before them.
 fn shift_in_rows(part: &mut [i64], used: usize, inverse: Record, first: Record, quantities: &[i64])
-    requires { (used + suc (length quantities.now) * recordsLayout.width ≤ length part.old) × (pos 0 ≤ℤ first.suffix) × (first.suffix ≤ℤ pos 65536) × (length quantities.now ≤ 65535) }
-    ensures { part.new ≡ encode recordCells (newRows inverse first quantities.now) ++ (take used part.old ++ drop (used + suc (length quantities.now) * recordsLayout.width) part.old) }
+    requires { (used + suc (length quantities.now) * records_layout.width ≤ length part.old) × (pos 0 ≤ℤ first.suffix) × (first.suffix ≤ℤ pos 65536) × (length quantities.now ≤ 65535) }
+    ensures { part.new ≡ encode record_cells (new_rows inverse first quantities.now) ++ (take used part.old ++ drop (used + suc (length quantities.now) * records_layout.width) part.old) }
 {
     shifter::move_up(&mut *part, used, (quantities.len() + 1) * RECORD_WIDTH);
     write_record(&mut *part, 0, inverse);
@@ -64,7 +64,7 @@ pub fn insert_rows(
     quantities: &[i64],
 )
     requires { NewRowsReady cells.old place inverse first quantities.now }
-    ensures { cells.new ≡ write recordsLayout cells.old (upsertAll recordKey (newRows inverse first quantities.now) (rows_of recordsLayout cells.old)) }
+    ensures { cells.new ≡ write records_layout cells.old (upsert_all record_key (new_rows inverse first quantities.now) (rows_of records_layout cells.old)) }
 {
     let n = records::count(cells);
     let at = RECORDS_HEADER + place * RECORD_WIDTH;

@@ -1,10 +1,10 @@
 // The positions table, once it passes test 2: its rows, its lookup, and its changes.
 ghost use Rattle.std.specs.Prelude.{◌≡◌, true, ◌∷◌, [], ◌+◌, ◌≤◌, length};
-ghost use Rattle.rules.specs.Keyed.{find, upsert, absentFrom};
-ghost use Rattle.rules.specs.Rows.{key_of, positionKey, soundPosition, orZeros};
-ghost use Rattle.rules.specs.Layout.{roomOf, rows_of, write};
-ghost use Rattle.rules.specs.Tables.{positionsLayout, soundPositions};
-ghost use Rattle.lookup.specs.Lookup.{positionFound};
+ghost use Rattle.rules.specs.Keyed.{find, upsert, absent_from};
+ghost use Rattle.rules.specs.Rows.{key_of, position_key, sound_position, or_zeros};
+ghost use Rattle.rules.specs.Layout.{room_of, rows_of, write};
+ghost use Rattle.rules.specs.Tables.{positions_layout, sound_positions};
+ghost use Rattle.lookup.specs.Lookup.{position_found};
 
 use lookup::Found;
 use rules::Position;
@@ -12,14 +12,14 @@ use rules::layout::{MOST_POSITIONS, POSITION_WIDTH, POSITIONS_HEADER};
 use scan::rows;
 
 pub fn count(cells: &[i64]) -> usize
-    requires { soundPositions cells.now ≡ true }
-    ensures { result ≡ length (rows_of positionsLayout cells.now) }
+    requires { sound_positions cells.now ≡ true }
+    ensures { result ≡ length (rows_of positions_layout cells.now) }
 {
     cells[0] as usize
 }
 
 pub fn room(cells: &[i64]) -> usize
-    ensures { result ≡ roomOf positionsLayout cells.now }
+    ensures { result ≡ room_of positions_layout cells.now }
 {
     scan::soundness::room_for(
         POSITIONS_HEADER,
@@ -30,8 +30,8 @@ pub fn room(cells: &[i64]) -> usize
 }
 
 pub fn find_position(cells: &[i64], account: i64, series: i64) -> Found
-    requires { soundPositions cells.now ≡ true }
-    ensures { result ≡ positionFound cells.now account series }
+    requires { sound_positions cells.now ≡ true }
+    ensures { result ≡ position_found cells.now account series }
 {
     lookup::find_row(
         cells,
@@ -45,8 +45,8 @@ pub fn find_position(cells: &[i64], account: i64, series: i64) -> Found
 
 // The position of an account and series, by what the lookup found; zeros where it has no row.
 pub fn read_position(cells: &[i64], found: Found, account: i64, series: i64) -> Position
-    requires { (soundPositions cells.now ≡ true) × (found ≡ positionFound cells.now account series) }
-    ensures { result ≡ orZeros account series (find positionKey (key_of account series) (rows_of positionsLayout cells.now)) }
+    requires { (sound_positions cells.now ≡ true) × (found ≡ position_found cells.now account series) }
+    ensures { result ≡ or_zeros account series (find position_key (key_of account series) (rows_of positions_layout cells.now)) }
 {
     match found {
         Found::Row(row) => rows::position_at(cells, POSITIONS_HEADER + row * POSITION_WIDTH),
@@ -64,8 +64,8 @@ pub fn read_position(cells: &[i64], found: Found, account: i64, series: i64) -> 
 
 // The row of its key written anew, or made at the place where it belongs, by what the lookup found.
 pub fn write_position(cells: &mut [i64], found: Found, p: Position)
-    requires { (soundPositions cells.old ≡ true) × (soundPosition p ≡ true) × (length (rows_of positionsLayout cells.old) + absentFrom positionKey (rows_of positionsLayout cells.old) (p ∷ []) ≤ roomOf positionsLayout cells.old) × (found ≡ positionFound cells.old p.account p.series) }
-    ensures { (cells.new ≡ write positionsLayout cells.old (upsert positionKey p (rows_of positionsLayout cells.old))) × (soundPositions cells.new ≡ true) }
+    requires { (sound_positions cells.old ≡ true) × (sound_position p ≡ true) × (length (rows_of positions_layout cells.old) + absent_from position_key (rows_of positions_layout cells.old) (p ∷ []) ≤ room_of positions_layout cells.old) × (found ≡ position_found cells.old p.account p.series) }
+    ensures { (cells.new ≡ write positions_layout cells.old (upsert position_key p (rows_of positions_layout cells.old))) × (sound_positions cells.new ≡ true) }
 {
     let n = count(cells);
     let row = rows::position_cells(p);

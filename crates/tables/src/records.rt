@@ -2,10 +2,10 @@
 ghost use Rattle.std.specs.Prelude.{◌≡◌, true, ◌<◌, length};
 ghost use Rattle.std.proofs.Math.Option.{none};
 ghost use Rattle.rules.specs.Keyed.{find, upsert};
-ghost use Rattle.rules.specs.Rows.{recordKey, soundRecord, withStatus};
-ghost use Rattle.rules.specs.Layout.{row_at, roomOf, rows_of, write};
-ghost use Rattle.rules.specs.Tables.{recordsLayout, currentDay, soundRecordRows};
-ghost use Rattle.lookup.specs.Lookup.{place_in, recordSought};
+ghost use Rattle.rules.specs.Rows.{record_key, sound_record, with_status};
+ghost use Rattle.rules.specs.Layout.{row_at, room_of, rows_of, write};
+ghost use Rattle.rules.specs.Tables.{records_layout, current_day, sound_record_rows};
+ghost use Rattle.lookup.specs.Lookup.{place_in, record_sought};
 ghost use Rattle.tables.specs.Parent.{ParentAt};
 
 use lookup::{Found, Sought};
@@ -14,31 +14,31 @@ use rules::layout::{DAY_CELL, MOST_RECORDS, RECORD_WIDTH, RECORDS_HEADER, STATUS
 use scan::rows;
 
 pub fn count(cells: &[i64]) -> usize
-    requires { soundRecordRows cells.now ≡ true }
-    ensures { result ≡ length (rows_of recordsLayout cells.now) }
+    requires { sound_record_rows cells.now ≡ true }
+    ensures { result ≡ length (rows_of records_layout cells.now) }
 {
     cells[0] as usize
 }
 
 // The current day (document 02, K8), which new rows take.
 pub fn today(cells: &[i64]) -> i64
-    requires { soundRecordRows cells.now ≡ true }
-    ensures { result ≡ currentDay cells.now }
+    requires { sound_record_rows cells.now ≡ true }
+    ensures { result ≡ current_day cells.now }
 {
     cells[DAY_CELL]
 }
 
 // How many rows there is room for.
 pub fn room(cells: &[i64]) -> usize
-    ensures { result ≡ roomOf recordsLayout cells.now }
+    ensures { result ≡ room_of records_layout cells.now }
 {
     scan::soundness::room_for(RECORDS_HEADER, RECORD_WIDTH, MOST_RECORDS, cells.len())
 }
 
 // The lookup (document 02, K2): what the table has of an id and suffix.
 pub fn look_up(cells: &[i64], id: i64, suffix: i64) -> Sought
-    requires { soundRecordRows cells.now ≡ true }
-    ensures { result ≡ recordSought cells.now id suffix }
+    requires { sound_record_rows cells.now ≡ true }
+    ensures { result ≡ record_sought cells.now id suffix }
 {
     lookup::look_up(
         cells,
@@ -52,15 +52,15 @@ pub fn look_up(cells: &[i64], id: i64, suffix: i64) -> Sought
 
 // Row `row`, from 0.
 pub fn read_record(cells: &[i64], row: usize) -> Record
-    requires { (soundRecordRows cells.now ≡ true) × (row < length (rows_of recordsLayout cells.now)) }
-    ensures { result ≡ row_at recordsLayout cells.now row }
+    requires { (sound_record_rows cells.now ≡ true) × (row < length (rows_of records_layout cells.now)) }
+    ensures { result ≡ row_at records_layout cells.now row }
 {
     rows::record_at(cells, RECORDS_HEADER + row * RECORD_WIDTH)
 }
 
 // The parent of the record in row `row`: it stands no later than the record does.
 pub fn find_parent(cells: &[i64], row: usize, r: Record) -> Found
-    requires { (soundRecordRows cells.now ≡ true) × (row < length (rows_of recordsLayout cells.now)) × (r ≡ row_at recordsLayout cells.now row) }
+    requires { (sound_record_rows cells.now ≡ true) × (row < length (rows_of records_layout cells.now)) × (r ≡ row_at records_layout cells.now row) }
     ensures { ParentAt cells.now r result }
 {
     lookup::find_by_distance(
@@ -76,8 +76,8 @@ pub fn find_parent(cells: &[i64], row: usize, r: Record) -> Found
 
 // A new row, at the place where its key belongs.
 pub fn insert_record(cells: &mut [i64], place: usize, r: Record)
-    requires { (soundRecordRows cells.old ≡ true) × (soundRecord r ≡ true) × (find recordKey (recordKey r) (rows_of recordsLayout cells.old) ≡ none) × (length (rows_of recordsLayout cells.old) < roomOf recordsLayout cells.old) × (place ≡ place_in recordsLayout (recordKey r) cells.old) }
-    ensures { (cells.new ≡ write recordsLayout cells.old (upsert recordKey r (rows_of recordsLayout cells.old))) × (soundRecordRows cells.new ≡ true) }
+    requires { (sound_record_rows cells.old ≡ true) × (sound_record r ≡ true) × (find record_key (record_key r) (rows_of records_layout cells.old) ≡ none) × (length (rows_of records_layout cells.old) < room_of records_layout cells.old) × (place ≡ place_in records_layout (record_key r) cells.old) }
+    ensures { (cells.new ≡ write records_layout cells.old (upsert record_key r (rows_of records_layout cells.old))) × (sound_record_rows cells.new ≡ true) }
 {
     let n = count(cells);
     let row = rows::record_cells(r);
@@ -86,8 +86,8 @@ pub fn insert_record(cells: &mut [i64], place: usize, r: Record)
 
 // Another status in row `row`, in which the record is sound.
 pub fn set_status(cells: &mut [i64], row: usize, status: i64)
-    requires { (soundRecordRows cells.old ≡ true) × (row < length (rows_of recordsLayout cells.old)) × (soundRecord (withStatus status (row_at recordsLayout cells.old row)) ≡ true) }
-    ensures { (cells.new ≡ write recordsLayout cells.old (upsert recordKey (withStatus status (row_at recordsLayout cells.old row)) (rows_of recordsLayout cells.old))) × (soundRecordRows cells.new ≡ true) }
+    requires { (sound_record_rows cells.old ≡ true) × (row < length (rows_of records_layout cells.old)) × (sound_record (with_status status (row_at records_layout cells.old row)) ≡ true) }
+    ensures { (cells.new ≡ write records_layout cells.old (upsert record_key (with_status status (row_at records_layout cells.old row)) (rows_of records_layout cells.old))) × (sound_record_rows cells.new ≡ true) }
 {
     cells[RECORDS_HEADER + row * RECORD_WIDTH + STATUS_CELL] = status;
 }

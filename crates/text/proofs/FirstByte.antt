@@ -7,7 +7,7 @@ use native.Mathlib.Omega.{arith}
 use borrow.Author.Tests.{leb-true, le-leb, lt-leb}
 use lib.Dec.{leb}
 use lib.ListN.{drop}
-use Rattle.text.specs.Scan.{first, isDigit}
+use Rattle.text.specs.Scan.{first, is_digit}
 
 -- Past the end the first byte is 0.
 pub first_rest : (text : List ℕ) → 0 < first text → text ≡ first text ∷ drop 1 text
@@ -21,14 +21,14 @@ both_true false b h = (h, cc)
 true-both : (a b : Bool) → a ≡ true → b ≡ true → (a && b) ≡ true
 true-both a b h g = ap (λ (t : Bool). t && b) h ∙ g
 
-pub is_digit : (b : ℕ) → isDigit b ≡ true → (48 ≤ b) × (b ≤ 57)
-unfolding isDigit
-is_digit b h = let (low, high) = both_true (leb 48 b) (leb b 57) h in (leb-true 48 b low, leb-true b 57 high)
+pub is-digit : (b : ℕ) → is_digit b ≡ true → (48 ≤ b) × (b ≤ 57)
+unfolding is_digit
+is-digit b h = let (low, high) = both_true (leb 48 b) (leb b 57) h in (leb-true 48 b low, leb-true b 57 high)
 
-pub digit-is : (b : ℕ) → 48 ≤ b → b ≤ 57 → isDigit b ≡ true
-unfolding isDigit
+pub digit-is : (b : ℕ) → 48 ≤ b → b ≤ 57 → is_digit b ≡ true
+unfolding is_digit
 digit-is b low high = true-both (leb 48 b) (leb b 57) (le-leb 48 b low) (le-leb b 57 high)
 
-pub below-digits : (b : ℕ) → b < 48 → isDigit b ≡ false
-unfolding isDigit
+pub below-digits : (b : ℕ) → b < 48 → is_digit b ≡ false
+unfolding is_digit
 below-digits b h = ap (λ (t : Bool). t && leb b 57) (lt-leb 48 b h)

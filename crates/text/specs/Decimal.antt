@@ -9,19 +9,19 @@ abbrev pub minus : ℕ
 minus = 45
 
 -- The digits before the last one: none before that of a number below 10.
-unfoldable pub digitsBefore : ℕ → (ℕ → List ℕ) → List ℕ
-digitsBefore zero onward = []
-digitsBefore (suc n) onward = onward (suc n)
+unfoldable pub digits_before : ℕ → (ℕ → List ℕ) → List ℕ
+digits_before zero onward = []
+digits_before (suc n) onward = onward (suc n)
 
 -- The digits of n, of which there are at most so many: those of n / 10, then the last one.
-unfoldable pub digitsWithin : ℕ → ℕ → List ℕ
-digitsWithin zero n = []
-digitsWithin (suc most) n = digitsBefore (n / 10) (λ (m : ℕ). digitsWithin most m) ++ (digit (n % 10) ∷ [])
+unfoldable pub digits_within : ℕ → ℕ → List ℕ
+digits_within zero n = []
+digits_within (suc most) n = digits_before (n / 10) (λ (m : ℕ). digits_within most m) ++ (digit (n % 10) ∷ [])
 
 -- A number above 0 has no more digits than it counts, and 0 has one.
-unfoldable pub digitsOf : ℕ → List ℕ
-digitsOf n = digitsWithin (suc n) n
+unfoldable pub digits_of : ℕ → List ℕ
+digits_of n = digits_within (suc n) n
 
-unfoldable pub numberText : ℤ → List ℕ
-numberText (pos n) = digitsOf n
-numberText (negsuc n) = minus ∷ digitsOf (suc n)
+unfoldable pub number_text : ℤ → List ℕ
+number_text (pos n) = digits_of n
+number_text (negsuc n) = minus ∷ digits_of (suc n)

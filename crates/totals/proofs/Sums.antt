@@ -7,20 +7,20 @@ use mathlib.Core.Option.{Option, none, some}
 use borrow.Author.Tests.{not-true}
 use lib.IntN.{ℤ, pos, ◌+ℤ◌}
 use Rattle.integers.proofs.Linear.{zarith, +-lin}
-use Rattle.rules.specs.Keyed.{Key, same, is_some, find, rising, upsert, upsertAll}
-use Rattle.rules.specs.Rows.{recordKey}
-use Rattle.rules.specs.NamedRecord.{theRecord}
+use Rattle.rules.specs.Keyed.{Key, same, is_some, find, rising, upsert, upsert_all}
+use Rattle.rules.specs.Rows.{record_key}
+use Rattle.rules.specs.NamedRecord.{the_record}
 use Rattle.rules.specs.Books.{Books}
 use Rattle.rules.specs.Plan.{Effects, booked}
-use Rattle.rules.specs.Totals.{sumOver}
+use Rattle.rules.specs.Totals.{sum_over}
 use Rattle.rules.specs.declared.Record.{Record}
 use Rattle.keys.proofs.Split.{none-some, some_inj}
 use Rattle.keys.proofs.KeyOrder.{same-sym, Way, lower, level, upper, way}
-use Rattle.keys.proofs.Clauses.{find-nil, find-here, find-there, upsert-nil, upsert-lower, upsert-level, upsert-upper, upsertAll-nil, upsertAll-cons}
+use Rattle.keys.proofs.Clauses.{find-nil, find-here, find-there, upsert-nil, upsert-lower, upsert-level, upsert-upper, upsert_all-nil, upsert_all-cons}
 use Rattle.keys.proofs.Lookup.{find-upsert-other}
-use Rattle.keys.proofs.Rising.{belowAll-intro, belowAll-lower, rising-tail, rising-head, find-low, upsert-rises}
-use Rattle.keys.proofs.Folds.{Only, only-head, only-tail, upsertAll-append}
-use Rattle.keys.proofs.Counts.{distinct, distinct_head, distinct_tail, hasAll, hasAll-head, hasAll-upsert, lacksAll, lacksAll-head, lacksAll-upsert, lacksAll-upsertAll}
+use Rattle.keys.proofs.Rising.{below_all-intro, below_all-lower, rising-tail, rising-head, find-low, upsert-rises}
+use Rattle.keys.proofs.Folds.{Only, only-head, only-tail, upsert_all-append}
+use Rattle.keys.proofs.Counts.{distinct, distinct_head, distinct_tail, has_all, has_all-head, has_all-upsert, lacks_all, lacks_all-head, lacks_all-upsert, lacks_all-upsert_all}
 use Rattle.soundness.specs.SoundBooks.{SoundBooks}
 use Rattle.soundness.proofs.BookingFacts.{BookingFacts}
 use Rattle.totals.specs.Replaced.{replaced}
@@ -28,169 +28,169 @@ use Rattle.totals.specs.Replaced.{replaced}
 -- ---- lists
 
 module _ (figure : Record → ℤ) where
-  pub sum-nil : sumOver figure [] ≡ pos 0
-  unfolding sumOver
+  pub sum-nil : sum_over figure [] ≡ pos 0
+  unfolding sum_over
   sum-nil = refl
 
-  pub sum-cons : (r : Record) (rest : List Record) → sumOver figure (r ∷ rest) ≡ figure r +ℤ sumOver figure rest
-  unfolding sumOver
+  pub sum-cons : (r : Record) (rest : List Record) → sum_over figure (r ∷ rest) ≡ figure r +ℤ sum_over figure rest
+  unfolding sum_over
   sum-cons r rest = refl
 
-  pub sum-append : (xs ys : List Record) → sumOver figure (xs ++ ys) ≡ sumOver figure xs +ℤ sumOver figure ys
-  unfolding sumOver
-  sum-append [] ys = omega (zarith, +-lin (pos 0) (sumOver figure ys))
+  pub sum-append : (xs ys : List Record) → sum_over figure (xs ++ ys) ≡ sum_over figure xs +ℤ sum_over figure ys
+  unfolding sum_over
+  sum-append [] ys = omega (zarith, +-lin (pos 0) (sum_over figure ys))
   sum-append (r ∷ rest) ys =
-      let later : sumOver figure (rest ++ ys) ≡ sumOver figure rest +ℤ sumOver figure ys = sum-append rest ys in
+      let later : sum_over figure (rest ++ ys) ≡ sum_over figure rest +ℤ sum_over figure ys = sum-append rest ys in
       omega (
         zarith,
-        +-lin (figure r) (sumOver figure (rest ++ ys)),
-        +-lin (sumOver figure rest) (sumOver figure ys),
-        +-lin (figure r) (sumOver figure rest),
-        +-lin (figure r +ℤ sumOver figure rest) (sumOver figure ys),
+        +-lin (figure r) (sum_over figure (rest ++ ys)),
+        +-lin (sum_over figure rest) (sum_over figure ys),
+        +-lin (figure r) (sum_over figure rest),
+        +-lin (figure r +ℤ sum_over figure rest) (sum_over figure ys),
       )
 
   -- ---- one record put
 
-  pub put-adds : (new : Record) (t : List Record) → find recordKey (recordKey new) t ≡ none → sumOver figure (upsert recordKey new t) ≡ sumOver figure t +ℤ figure new
-  unfolding sumOver
-  put-adds new [] h = rw (upsert-nil recordKey new) (omega (zarith, +-lin (figure new) (pos 0), +-lin (pos 0) (figure new)))
-  put-adds new (r ∷ rest) h = go (put-adds new rest) (way (recordKey new) (recordKey r))
+  pub put-adds : (new : Record) (t : List Record) → find record_key (record_key new) t ≡ none → sum_over figure (upsert record_key new t) ≡ sum_over figure t +ℤ figure new
+  unfolding sum_over
+  put-adds new [] h = rw (upsert-nil record_key new) (omega (zarith, +-lin (figure new) (pos 0), +-lin (pos 0) (figure new)))
+  put-adds new (r ∷ rest) h = go (put-adds new rest) (way (record_key new) (record_key r))
     where
-      go : (find recordKey (recordKey new) rest ≡ none → sumOver figure (upsert recordKey new rest) ≡ sumOver figure rest +ℤ figure new) → Way (recordKey new) (recordKey r) →
-          sumOver figure (upsert recordKey new (r ∷ rest)) ≡ (figure r +ℤ sumOver figure rest) +ℤ figure new
+      go : (find record_key (record_key new) rest ≡ none → sum_over figure (upsert record_key new rest) ≡ sum_over figure rest +ℤ figure new) → Way (record_key new) (record_key r) →
+          sum_over figure (upsert record_key new (r ∷ rest)) ≡ (figure r +ℤ sum_over figure rest) +ℤ figure new
       go again (lower b _ _) =
-          rw (upsert-lower recordKey new r rest b)
-          (omega (zarith, +-lin (figure new) (figure r +ℤ sumOver figure rest), +-lin (figure r +ℤ sumOver figure rest) (figure new)))
-      go again (level e s _ _) = none-some h (find-here recordKey (recordKey new) r rest (same-sym (recordKey r) (recordKey new) ∙ s))
+          rw (upsert-lower record_key new r rest b)
+          (omega (zarith, +-lin (figure new) (figure r +ℤ sum_over figure rest), +-lin (figure r +ℤ sum_over figure rest) (figure new)))
+      go again (level e s _ _) = none-some h (find-here record_key (record_key new) r rest (same-sym (record_key r) (record_key new) ∙ s))
       go again (upper a s b) =
-          let later : sumOver figure (upsert recordKey new rest) ≡ sumOver figure rest +ℤ figure new =
-          again (sym (find-there recordKey (recordKey new) r rest (same-sym (recordKey r) (recordKey new) ∙ s)) ∙ h) in
-          rw (upsert-upper recordKey new r rest b s)
+          let later : sum_over figure (upsert record_key new rest) ≡ sum_over figure rest +ℤ figure new =
+          again (sym (find-there record_key (record_key new) r rest (same-sym (record_key r) (record_key new) ∙ s)) ∙ h) in
+          rw (upsert-upper record_key new r rest b s)
           (omega (
             zarith,
-            +-lin (figure r) (sumOver figure (upsert recordKey new rest)),
-            +-lin (sumOver figure rest) (figure new),
-            +-lin (figure r) (sumOver figure rest),
-            +-lin (figure r +ℤ sumOver figure rest) (figure new),
+            +-lin (figure r) (sum_over figure (upsert record_key new rest)),
+            +-lin (sum_over figure rest) (figure new),
+            +-lin (figure r) (sum_over figure rest),
+            +-lin (figure r +ℤ sum_over figure rest) (figure new),
           ))
 
-  pub put-replaces : (new x : Record) (t : List Record) → rising recordKey t ≡ true → find recordKey (recordKey new) t ≡ some x →
-      sumOver figure (upsert recordKey new t) +ℤ figure x ≡ sumOver figure t +ℤ figure new
-  unfolding sumOver
-  put-replaces new x [] h f = none-some (find-nil recordKey (recordKey new)) f
-  put-replaces new x (r ∷ rest) h f = go (put-replaces new x rest (rising-tail recordKey r rest h)) (way (recordKey new) (recordKey r))
+  pub put-replaces : (new x : Record) (t : List Record) → rising record_key t ≡ true → find record_key (record_key new) t ≡ some x →
+      sum_over figure (upsert record_key new t) +ℤ figure x ≡ sum_over figure t +ℤ figure new
+  unfolding sum_over
+  put-replaces new x [] h f = none-some (find-nil record_key (record_key new)) f
+  put-replaces new x (r ∷ rest) h f = go (put-replaces new x rest (rising-tail record_key r rest h)) (way (record_key new) (record_key r))
     where
-      go : (find recordKey (recordKey new) rest ≡ some x → sumOver figure (upsert recordKey new rest) +ℤ figure x ≡ sumOver figure rest +ℤ figure new) →
-          Way (recordKey new) (recordKey r) → sumOver figure (upsert recordKey new (r ∷ rest)) +ℤ figure x ≡ (figure r +ℤ sumOver figure rest) +ℤ figure new
+      go : (find record_key (record_key new) rest ≡ some x → sum_over figure (upsert record_key new rest) +ℤ figure x ≡ sum_over figure rest +ℤ figure new) →
+          Way (record_key new) (record_key r) → sum_over figure (upsert record_key new (r ∷ rest)) +ℤ figure x ≡ (figure r +ℤ sum_over figure rest) +ℤ figure new
       go again (lower b _ _) =
           none-some
-          (find-low recordKey (recordKey new) (r ∷ rest)
-          (belowAll-intro recordKey (recordKey new) r rest b (belowAll-lower recordKey (recordKey new) (recordKey r) rest b (rising-head recordKey r rest h))))
+          (find-low record_key (record_key new) (r ∷ rest)
+          (below_all-intro record_key (record_key new) r rest b (below_all-lower record_key (record_key new) (record_key r) rest b (rising-head record_key r rest h))))
           f
       go again (level e s _ _) =
-          let same_row : x ≡ r = some_inj f (find-here recordKey (recordKey new) r rest (same-sym (recordKey r) (recordKey new) ∙ s)) in
+          let same_row : x ≡ r = some_inj f (find-here record_key (record_key new) r rest (same-sym (record_key r) (record_key new) ∙ s)) in
           let same-figure : figure x ≡ figure r = ap figure same_row in
-          rw (upsert-level recordKey new r rest s)
+          rw (upsert-level record_key new r rest s)
           (omega (
             zarith,
-            +-lin (figure new) (sumOver figure rest),
-            +-lin (figure new +ℤ sumOver figure rest) (figure x),
-            +-lin (figure r) (sumOver figure rest),
-            +-lin (figure r +ℤ sumOver figure rest) (figure new),
+            +-lin (figure new) (sum_over figure rest),
+            +-lin (figure new +ℤ sum_over figure rest) (figure x),
+            +-lin (figure r) (sum_over figure rest),
+            +-lin (figure r +ℤ sum_over figure rest) (figure new),
           ))
       go again (upper a s b) =
-          let later : sumOver figure (upsert recordKey new rest) +ℤ figure x ≡ sumOver figure rest +ℤ figure new =
-          again (sym (find-there recordKey (recordKey new) r rest (same-sym (recordKey r) (recordKey new) ∙ s)) ∙ f) in
-          rw (upsert-upper recordKey new r rest b s)
+          let later : sum_over figure (upsert record_key new rest) +ℤ figure x ≡ sum_over figure rest +ℤ figure new =
+          again (sym (find-there record_key (record_key new) r rest (same-sym (record_key r) (record_key new) ∙ s)) ∙ f) in
+          rw (upsert-upper record_key new r rest b s)
           (omega (
             zarith,
-            +-lin (figure r) (sumOver figure (upsert recordKey new rest)),
-            +-lin (figure r +ℤ sumOver figure (upsert recordKey new rest)) (figure x),
-            +-lin (sumOver figure (upsert recordKey new rest)) (figure x),
-            +-lin (sumOver figure rest) (figure new),
-            +-lin (figure r) (sumOver figure rest),
-            +-lin (figure r +ℤ sumOver figure rest) (figure new),
+            +-lin (figure r) (sum_over figure (upsert record_key new rest)),
+            +-lin (figure r +ℤ sum_over figure (upsert record_key new rest)) (figure x),
+            +-lin (sum_over figure (upsert record_key new rest)) (figure x),
+            +-lin (sum_over figure rest) (figure new),
+            +-lin (figure r) (sum_over figure rest),
+            +-lin (figure r +ℤ sum_over figure rest) (figure new),
           ))
 
   -- ---- records put one after the other
 
-  pub puts-add : (rs t : List Record) → distinct recordKey rs ≡ true → lacksAll recordKey t rs ≡ true → sumOver figure (upsertAll recordKey rs t) ≡ sumOver figure t +ℤ sumOver figure rs
-  unfolding sumOver
-  puts-add [] t d a = rw (upsertAll-nil recordKey t) (omega (zarith, +-lin (sumOver figure t) (pos 0)))
+  pub puts-add : (rs t : List Record) → distinct record_key rs ≡ true → lacks_all record_key t rs ≡ true → sum_over figure (upsert_all record_key rs t) ≡ sum_over figure t +ℤ sum_over figure rs
+  unfolding sum_over
+  puts-add [] t d a = rw (upsert_all-nil record_key t) (omega (zarith, +-lin (sum_over figure t) (pos 0)))
   puts-add (r ∷ rest) t d a =
-      let u : List Record = upsert recordKey r t in
-      let first : sumOver figure u ≡ sumOver figure t +ℤ figure r = put-adds r t (lacksAll-head recordKey t r rest a) in
-      let later : sumOver figure (upsertAll recordKey rest u) ≡ sumOver figure u +ℤ sumOver figure rest =
-      puts-add rest u (distinct_tail recordKey r rest d)
-      (lacksAll-upsert recordKey r rest t (distinct_head recordKey r rest d) (only-tail recordKey (λ (k : Key). not (is_some (find recordKey k t))) r rest a)) in
-      rw (upsertAll-cons recordKey r rest t)
+      let u : List Record = upsert record_key r t in
+      let first : sum_over figure u ≡ sum_over figure t +ℤ figure r = put-adds r t (lacks_all-head record_key t r rest a) in
+      let later : sum_over figure (upsert_all record_key rest u) ≡ sum_over figure u +ℤ sum_over figure rest =
+      puts-add rest u (distinct_tail record_key r rest d)
+      (lacks_all-upsert record_key r rest t (distinct_head record_key r rest d) (only-tail record_key (λ (k : Key). not (is_some (find record_key k t))) r rest a)) in
+      rw (upsert_all-cons record_key r rest t)
       (omega (
         zarith,
-        +-lin (sumOver figure t) (figure r),
-        +-lin (sumOver figure u) (sumOver figure rest),
-        +-lin (figure r) (sumOver figure rest),
-        +-lin (sumOver figure t) (figure r +ℤ sumOver figure rest),
+        +-lin (sum_over figure t) (figure r),
+        +-lin (sum_over figure u) (sum_over figure rest),
+        +-lin (figure r) (sum_over figure rest),
+        +-lin (sum_over figure t) (figure r +ℤ sum_over figure rest),
       ))
 
 -- A put leaves what stands at other keys.
-replaced-after : (new : Record) (rs t : List Record) → Only recordKey (λ (k : Key). not (same (recordKey new) k)) rs → replaced (upsert recordKey new t) rs ≡ replaced t rs
+replaced-after : (new : Record) (rs t : List Record) → Only record_key (λ (k : Key). not (same (record_key new) k)) rs → replaced (upsert record_key new t) rs ≡ replaced t rs
 unfolding replaced
 replaced-after new [] t o = refl
 replaced-after new (r ∷ rest) t o =
     ap₂ (λ (x : Record) (xs : List Record). x ∷ xs)
-    (ap theRecord (find-upsert-other recordKey (recordKey r) new t (not-true (same (recordKey new) (recordKey r)) (only-head recordKey (λ (k : Key). not (same (recordKey new) k)) r rest o))))
-    (replaced-after new rest t (only-tail recordKey (λ (k : Key). not (same (recordKey new) k)) r rest o))
+    (ap the_record (find-upsert-other record_key (record_key r) new t (not-true (same (record_key new) (record_key r)) (only-head record_key (λ (k : Key). not (same (record_key new) k)) r rest o))))
+    (replaced-after new rest t (only-tail record_key (λ (k : Key). not (same (record_key new) k)) r rest o))
 
-stands-there : (o : Option Record) (x : Record) → o ≡ some x → o ≡ some (theRecord o)
-unfolding theRecord
-stands-there o x e = e ∙ ap (λ (w : Option Record). some (theRecord w)) (sym e)
+stands-there : (o : Option Record) (x : Record) → o ≡ some x → o ≡ some (the_record o)
+unfolding the_record
+stands-there o x e = e ∙ ap (λ (w : Option Record). some (the_record w)) (sym e)
 
 module _ (figure : Record → ℤ) where
-  pub puts-replace : (rs t : List Record) → rising recordKey t ≡ true → distinct recordKey rs ≡ true → hasAll recordKey t rs ≡ true →
-      sumOver figure (upsertAll recordKey rs t) +ℤ sumOver figure (replaced t rs) ≡ sumOver figure t +ℤ sumOver figure rs
-  unfolding sumOver replaced
-  puts-replace [] t h d p = rw (upsertAll-nil recordKey t)
+  pub puts-replace : (rs t : List Record) → rising record_key t ≡ true → distinct record_key rs ≡ true → has_all record_key t rs ≡ true →
+      sum_over figure (upsert_all record_key rs t) +ℤ sum_over figure (replaced t rs) ≡ sum_over figure t +ℤ sum_over figure rs
+  unfolding sum_over replaced
+  puts-replace [] t h d p = rw (upsert_all-nil record_key t)
   puts-replace (r ∷ rest) t h d p =
-      let u : List Record = upsert recordKey r t in
-      let x : Record = theRecord (find recordKey (recordKey r) t) in
-      let there : find recordKey (recordKey r) t ≡ some x = stands-there (find recordKey (recordKey r) t) (hasAll-head recordKey t r rest p).0 (hasAll-head recordKey t r rest p).1 in
-      let first : sumOver figure u +ℤ figure x ≡ sumOver figure t +ℤ figure r = put-replaces figure r x t h there in
-      let others : sumOver figure (replaced u rest) ≡ sumOver figure (replaced t rest) = ap (sumOver figure) (replaced-after r rest t (distinct_head recordKey r rest d)) in
-      let later : sumOver figure (upsertAll recordKey rest u) +ℤ sumOver figure (replaced u rest) ≡ sumOver figure u +ℤ sumOver figure rest =
-      puts-replace rest u (upsert-rises recordKey r t h) (distinct_tail recordKey r rest d)
-      (hasAll-upsert recordKey r rest t (only-tail recordKey (λ (k : Key). is_some (find recordKey k t)) r rest p)) in
-      rw (upsertAll-cons recordKey r rest t)
+      let u : List Record = upsert record_key r t in
+      let x : Record = the_record (find record_key (record_key r) t) in
+      let there : find record_key (record_key r) t ≡ some x = stands-there (find record_key (record_key r) t) (has_all-head record_key t r rest p).0 (has_all-head record_key t r rest p).1 in
+      let first : sum_over figure u +ℤ figure x ≡ sum_over figure t +ℤ figure r = put-replaces figure r x t h there in
+      let others : sum_over figure (replaced u rest) ≡ sum_over figure (replaced t rest) = ap (sum_over figure) (replaced-after r rest t (distinct_head record_key r rest d)) in
+      let later : sum_over figure (upsert_all record_key rest u) +ℤ sum_over figure (replaced u rest) ≡ sum_over figure u +ℤ sum_over figure rest =
+      puts-replace rest u (upsert-rises record_key r t h) (distinct_tail record_key r rest d)
+      (has_all-upsert record_key r rest t (only-tail record_key (λ (k : Key). is_some (find record_key k t)) r rest p)) in
+      rw (upsert_all-cons record_key r rest t)
       (omega (
         zarith,
-        +-lin (sumOver figure u) (figure x),
-        +-lin (sumOver figure t) (figure r),
-        +-lin (sumOver figure (upsertAll recordKey rest u)) (sumOver figure (replaced u rest)),
-        +-lin (sumOver figure u) (sumOver figure rest),
-        +-lin (figure x) (sumOver figure (replaced t rest)),
-        +-lin (sumOver figure (upsertAll recordKey rest u)) (figure x +ℤ sumOver figure (replaced t rest)),
-        +-lin (figure r) (sumOver figure rest),
-        +-lin (sumOver figure t) (figure r +ℤ sumOver figure rest),
+        +-lin (sum_over figure u) (figure x),
+        +-lin (sum_over figure t) (figure r),
+        +-lin (sum_over figure (upsert_all record_key rest u)) (sum_over figure (replaced u rest)),
+        +-lin (sum_over figure u) (sum_over figure rest),
+        +-lin (figure x) (sum_over figure (replaced t rest)),
+        +-lin (sum_over figure (upsert_all record_key rest u)) (figure x +ℤ sum_over figure (replaced t rest)),
+        +-lin (figure r) (sum_over figure rest),
+        +-lin (sum_over figure t) (figure r +ℤ sum_over figure rest),
       ))
 
   -- What the effects of a plan do to the sum: it gains the figures of the records that are changed and added, and loses those of the records that the changed ones replace.
-  pub booked-sum : (b : Books) → SoundBooks b → (e : Effects) → BookingFacts b e → distinct recordKey e.changed ≡ true →
-      sumOver figure (booked e b).records +ℤ sumOver figure (replaced b.records e.changed) ≡ sumOver figure b.records +ℤ (sumOver figure e.changed +ℤ sumOver figure e.added)
+  pub booked-sum : (b : Books) → SoundBooks b → (e : Effects) → BookingFacts b e → distinct record_key e.changed ≡ true →
+      sum_over figure (booked e b).records +ℤ sum_over figure (replaced b.records e.changed) ≡ sum_over figure b.records +ℤ (sum_over figure e.changed +ℤ sum_over figure e.added)
   unfolding booked
   booked-sum b sound e f d =
       let t : List Record = b.records in
-      let u : List Record = upsertAll recordKey e.changed t in
-      let old : ℤ = sumOver figure (replaced t e.changed) in
-      let end : ℤ = sumOver figure (upsertAll recordKey e.added u) in
-      let changes : sumOver figure u +ℤ old ≡ sumOver figure t +ℤ sumOver figure e.changed = puts-replace e.changed t sound.records-rise d f.changed-present in
-      let adds : end ≡ sumOver figure u +ℤ sumOver figure e.added =
-      puts-add figure e.added u f.added-distinct (lacksAll-upsertAll recordKey e.changed e.added t f.changed-present f.added-absent) in
-      rw (upsertAll-append recordKey e.changed e.added t)
+      let u : List Record = upsert_all record_key e.changed t in
+      let old : ℤ = sum_over figure (replaced t e.changed) in
+      let end : ℤ = sum_over figure (upsert_all record_key e.added u) in
+      let changes : sum_over figure u +ℤ old ≡ sum_over figure t +ℤ sum_over figure e.changed = puts-replace e.changed t sound.records-rise d f.changed-present in
+      let adds : end ≡ sum_over figure u +ℤ sum_over figure e.added =
+      puts-add figure e.added u f.added-distinct (lacks_all-upsert_all record_key e.changed e.added t f.changed-present f.added-absent) in
+      rw (upsert_all-append record_key e.changed e.added t)
       (omega (
         zarith,
-        +-lin (sumOver figure u) old,
-        +-lin (sumOver figure t) (sumOver figure e.changed),
-        +-lin (sumOver figure u) (sumOver figure e.added),
+        +-lin (sum_over figure u) old,
+        +-lin (sum_over figure t) (sum_over figure e.changed),
+        +-lin (sum_over figure u) (sum_over figure e.added),
         +-lin end old,
-        +-lin (sumOver figure e.changed) (sumOver figure e.added),
-        +-lin (sumOver figure t) (sumOver figure e.changed +ℤ sumOver figure e.added),
+        +-lin (sum_over figure e.changed) (sum_over figure e.added),
+        +-lin (sum_over figure t) (sum_over figure e.changed +ℤ sum_over figure e.added),
       ))

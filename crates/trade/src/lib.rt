@@ -1,21 +1,21 @@
 // Trade on sound tables: tests 3, 4 and 14 to 16, the booking, and the call that joins them. Its id and its position are looked up once, for the tests and for the booking.
 ghost use Rattle.std.specs.Prelude.{◌≡◌, true, pos};
 ghost use Rattle.std.proofs.Math.Option.{none};
-ghost use Rattle.rules.specs.Figures.{validQuantity, validPrice};
+ghost use Rattle.rules.specs.Figures.{valid_quantity, valid_price};
 ghost use Rattle.rules.specs.Keyed.{greatest};
-ghost use Rattle.rules.specs.Rows.{key_of, recordKey, soundPosition};
+ghost use Rattle.rules.specs.Rows.{key_of, record_key, sound_position};
 ghost use Rattle.rules.specs.Layout.{rows_of};
 ghost use Rattle.rules.specs.Request as Request;
-ghost use Rattle.rules.specs.Tables.{recordsLayout, soundRecords, soundPositions};
+ghost use Rattle.rules.specs.Tables.{records_layout, sound_records, sound_positions};
 ghost use Rattle.rules.specs.Handle.{answered};
 ghost use Rattle.rules.specs.Trade as Trade;
-ghost use Rattle.rules.specs.Trade.{tradeFigures};
+ghost use Rattle.rules.specs.Trade.{trade_figures};
 ghost use Rattle.lookup.specs.Lookup.{place_in};
 ghost use Rattle.requests.specs.KnownPosition.{KnownPosition};
-ghost use Rattle.verdict.specs.Verdict.{verdictOn, acceptedOn};
+ghost use Rattle.verdict.specs.Verdict.{verdict_on, accepted_on};
 ghost use Rattle.verdict.specs.HandledSoundly.{HandledSoundly};
 ghost use Rattle.verdict.specs.declared.Verdict.TheVariants.{Accepted};
-ghost use Rattle.trade.specs.Booking.{bookingOf, positionAfter};
+ghost use Rattle.trade.specs.Booking.{booking_of, position_after};
 
 use lookup::{Greatest, Sought};
 use requests::Held;
@@ -40,7 +40,7 @@ pub fn figures_valid(
     quantity: i64,
     price: i64,
 ) -> bool
-    ensures { result ≡ tradeFigures id account series side quantity price }
+    ensures { result ≡ trade_figures id account series side quantity price }
 {
     if !figures::valid_id(id) {
         return false;
@@ -62,7 +62,7 @@ pub fn figures_valid(
 
 // The smaller of the quantity and what is open against it, for a trade to close; nothing for a trade to open.
 fn closed_by(side: i64, quantity: i64, p: Position) -> i64
-    ensures { result ≡ Trade.closedBy side quantity p }
+    ensures { result ≡ Trade.closed_by side quantity p }
 {
     if !figures::is_to_close(side) {
         return 0;
@@ -75,8 +75,8 @@ fn closed_by(side: i64, quantity: i64, p: Position) -> i64
 }
 
 fn booking_of(side: i64, quantity: i64, price: i64, p: Position) -> Booking
-    requires { (validQuantity quantity ≡ true) × (soundPosition p ≡ true) × (validPrice price ≡ true) }
-    ensures { result ≡ bookingOf side quantity price p }
+    requires { (valid_quantity quantity ≡ true) × (sound_position p ≡ true) × (valid_price price ≡ true) }
+    ensures { result ≡ booking_of side quantity price p }
 {
     let closed = closed_by(side, quantity, p);
     let opened = quantity - closed;
@@ -104,8 +104,8 @@ fn booking_of(side: i64, quantity: i64, price: i64, p: Position) -> Booking
 
 // The position as the trade will leave it.
 fn position_after(side: i64, quantity: i64, price: i64, p: Position) -> Position
-    requires { (validQuantity quantity ≡ true) × (soundPosition p ≡ true) × (validPrice price ≡ true) }
-    ensures { result ≡ positionAfter side quantity price p }
+    requires { (valid_quantity quantity ≡ true) × (sound_position p ≡ true) × (valid_price price ≡ true) }
+    ensures { result ≡ position_after side quantity price p }
 {
     let b = booking_of(side, quantity, price, p);
     requests::moved(p, b.movement)
@@ -123,8 +123,8 @@ fn verdict(
     quantity: i64,
     price: i64,
 ) -> Verdict
-    requires { (soundRecords records.now ≡ true) × (soundPositions positions.now ≡ true) × (tradeFigures id account series side quantity price ≡ true) × (greatest recordKey id (rows_of recordsLayout records.now) ≡ none) × KnownPosition positions.now account series held }
-    ensures { result ≡ verdictOn records.now positions.now (Request.trade id account series side quantity price) }
+    requires { (sound_records records.now ≡ true) × (sound_positions positions.now ≡ true) × (trade_figures id account series side quantity price ≡ true) × (greatest record_key id (rows_of records_layout records.now) ≡ none) × KnownPosition positions.now account series held }
+    ensures { result ≡ verdict_on records.now positions.now (Request.trade id account series side quantity price) }
 {
     if requests::lacks_records_room(records, 1) {
         return Verdict::Refused(14, 0);
@@ -154,8 +154,8 @@ fn book(
     quantity: i64,
     price: i64,
 ) -> Reply
-    requires { (soundRecords records.old ≡ true) × (soundPositions positions.old ≡ true) × (verdictOn records.old positions.old (Request.trade id account series side quantity price) ≡ Accepted) × KnownPosition positions.old account series held × (place ≡ place_in recordsLayout (key_of id (pos 0)) records.old) }
-    ensures { answered result records.new positions.new ≡ acceptedOn records.old positions.old (Request.trade id account series side quantity price) }
+    requires { (sound_records records.old ≡ true) × (sound_positions positions.old ≡ true) × (verdict_on records.old positions.old (Request.trade id account series side quantity price) ≡ Accepted) × KnownPosition positions.old account series held × (place ≡ place_in records_layout (key_of id (pos 0)) records.old) }
+    ensures { answered result records.new positions.new ≡ accepted_on records.old positions.old (Request.trade id account series side quantity price) }
 {
     let found = held.found;
     let p = held.position;
@@ -193,7 +193,7 @@ pub fn on_sound(
     quantity: i64,
     price: i64,
 ) -> Reply
-    requires { (soundRecords records.old ≡ true) × (soundPositions positions.old ≡ true) }
+    requires { (sound_records records.old ≡ true) × (sound_positions positions.old ≡ true) }
     ensures { HandledSoundly records.old positions.old (Request.trade id account series side quantity price) (answered result records.new positions.new) }
 {
     if !figures_valid(id, account, series, side, quantity, price) {

@@ -4,33 +4,33 @@ use mathlib.Core.Path.{◌≡◌}
 use mathlib.Core.Bool.{true, false}
 use lib.IntN.{ℤ, pos}
 use lib.Signed.{lt_z}
-use Rattle.rules.specs.Figures.{isBuy}
-use Rattle.rules.specs.Transfer.{inLong, inShort, holdsTooLittle}
+use Rattle.rules.specs.Figures.{is_buy}
+use Rattle.rules.specs.Transfer.{in_long, in_short, holds_too_little}
 use Rattle.rules.specs.declared.Record.{Record}
 use Rattle.rules.specs.declared.Position.{Position}
 
 module _ (side amount : ℤ) where
-  pub long-bought : isBuy side ≡ true → amount ≡ inLong side amount
-  unfolding inLong
+  pub long-bought : is_buy side ≡ true → amount ≡ in_long side amount
+  unfolding in_long
   long-bought e = rw e
 
-  pub long-sold : isBuy side ≡ false → pos 0 ≡ inLong side amount
-  unfolding inLong
+  pub long-sold : is_buy side ≡ false → pos 0 ≡ in_long side amount
+  unfolding in_long
   long-sold e = rw e
 
-  pub short-bought : isBuy side ≡ true → pos 0 ≡ inShort side amount
-  unfolding inShort
+  pub short-bought : is_buy side ≡ true → pos 0 ≡ in_short side amount
+  unfolding in_short
   short-bought e = rw e
 
-  pub short-sold : isBuy side ≡ false → amount ≡ inShort side amount
-  unfolding inShort
+  pub short-sold : is_buy side ≡ false → amount ≡ in_short side amount
+  unfolding in_short
   short-sold e = rw e
 
 module _ (r : Record) (p : Position) where
-  pub holds-buy : isBuy r.side ≡ true → lt_z p.long r.quantity ≡ holdsTooLittle r p
-  unfolding holdsTooLittle
+  pub holds-buy : is_buy r.side ≡ true → lt_z p.long r.quantity ≡ holds_too_little r p
+  unfolding holds_too_little
   holds-buy e = rw e
 
-  pub holds-sell : isBuy r.side ≡ false → lt_z p.short r.quantity ≡ holdsTooLittle r p
-  unfolding holdsTooLittle
+  pub holds-sell : is_buy r.side ≡ false → lt_z p.short r.quantity ≡ holds_too_little r p
+  unfolding holds_too_little
   holds-sell e = rw e

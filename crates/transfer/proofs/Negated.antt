@@ -8,17 +8,17 @@ use mir.Facts.{to_z-of_z}
 use mir.Syntax.{w64}
 use mir.Val.{SFits, to_z, of_z}
 use Rattle.integers.proofs.Linear.{zarith, minus-lin, neg-lin}
-use Rattle.rules.specs.Figures.{magnitudeAtMost}
+use Rattle.rules.specs.Figures.{magnitude_at_most}
 use Rattle.soundness.proofs.FigureRanges.{magnitude-range, in-magnitude}
 use Rattle.scan.proofs.ReadBack.{read_back}
 
-module _ (q : ℤ) (small : magnitudeAtMost 1000000 q ≡ true) where
+module _ (q : ℤ) (small : magnitude_at_most 1000000 q ≡ true) where
   pub negated_fits : SFits w64 (pos 0 -ℤ q)
   negated_fits =
       let range : (neg_ℤ (pos 1000000) ≤ℤ q) × (q ≤ℤ pos 1000000) = magnitude-range 1000000 q small in
       omega (zarith, minus-lin (pos 0) q)
 
-  pub negated-small : magnitudeAtMost 1000000 (neg_ℤ q) ≡ true
+  pub negated-small : magnitude_at_most 1000000 (neg_ℤ q) ≡ true
   negated-small =
       let range : (neg_ℤ (pos 1000000) ≤ℤ q) × (q ≤ℤ pos 1000000) = magnitude-range 1000000 q small in
       in-magnitude 1000000 (neg_ℤ q) (omega (zarith, neg-lin q, neg-lin (pos 1000000))) (omega (zarith, neg-lin q, neg-lin (pos 1000000)))

@@ -1,15 +1,15 @@
 // Account transfer on sound tables: tests 3, 5 to 8 and 12 to 16, the booking, and the call that joins them. The record and both positions are looked up once.
 ghost use Rattle.std.specs.Prelude.{◌≡◌, true, pos, neg_ℤ};
-ghost use Rattle.rules.specs.Figures.{magnitudeAtMost, validPrice};
-ghost use Rattle.rules.specs.Rows.{soundPosition, moved, inverseRecord, adjustableRecord};
+ghost use Rattle.rules.specs.Figures.{magnitude_at_most, valid_price};
+ghost use Rattle.rules.specs.Rows.{sound_position, moved, inverse_record, adjustable_record};
 ghost use Rattle.rules.specs.Request as Request;
-ghost use Rattle.rules.specs.Tables.{soundRecordRows, soundRecords, soundPositions};
+ghost use Rattle.rules.specs.Tables.{sound_record_rows, sound_records, sound_positions};
 ghost use Rattle.rules.specs.Handle.{answered};
-ghost use Rattle.rules.specs.Transfer.{transferFigures, inLong, inShort, inSide, holdsTooLittle};
+ghost use Rattle.rules.specs.Transfer.{transfer_figures, in_long, in_short, in_side, holds_too_little};
 ghost use Rattle.requests.specs.KnownPosition.{KnownPosition};
 ghost use Rattle.requests.specs.KnownRecord.{KnownRecord};
-ghost use Rattle.verdict.specs.Moving.{movingEffects, movingVerdict, recordsAfter, positionsAfter};
-ghost use Rattle.verdict.specs.Verdict.{verdictOn, acceptedOn};
+ghost use Rattle.verdict.specs.Moving.{moving_effects, moving_verdict, records_after, positions_after};
+ghost use Rattle.verdict.specs.Verdict.{verdict_on, accepted_on};
 ghost use Rattle.verdict.specs.HandledSoundly.{HandledSoundly};
 ghost use Rattle.verdict.specs.declared.Verdict.TheVariants.{Accepted};
 ghost use Rattle.transfer.specs.MovingReady.{MovingReady};
@@ -22,7 +22,7 @@ use tables::{positions, records};
 use verdict::Verdict;
 
 pub fn figures_valid(id: i64, suffix: i64, from: i64, to: i64, series: i64) -> bool
-    ensures { result ≡ transferFigures id suffix from to series }
+    ensures { result ≡ transfer_figures id suffix from to series }
 {
     if !figures::valid_id(id) {
         return false;
@@ -44,20 +44,20 @@ pub fn figures_valid(id: i64, suffix: i64, from: i64, to: i64, series: i64) -> b
 
 // An amount in the long of a buy, in the short of a sell.
 fn in_long(side: i64, amount: i64) -> i64
-    ensures { result ≡ inLong side amount }
+    ensures { result ≡ in_long side amount }
 {
     if figures::is_buy(side) { amount } else { 0 }
 }
 
 fn in_short(side: i64, amount: i64) -> i64
-    ensures { result ≡ inShort side amount }
+    ensures { result ≡ in_short side amount }
 {
     if figures::is_buy(side) { 0 } else { amount }
 }
 
 // 12: the old account's long (buy) or short (sell) is below the quantity.
 fn holds_too_little(r: Record, p: Position) -> bool
-    ensures { result ≡ holdsTooLittle r p }
+    ensures { result ≡ holds_too_little r p }
 {
     if figures::is_buy(r.side) {
         return p.long < r.quantity;
@@ -67,8 +67,8 @@ fn holds_too_little(r: Record, p: Position) -> bool
 
 // A position with an amount more in the side's figure, and in the totals.
 fn shifted(p: Position, side: i64, amount: i64, price: i64) -> Position
-    requires { (soundPosition p ≡ true) × (magnitudeAtMost 1000000 amount ≡ true) × (validPrice price ≡ true) }
-    ensures { result ≡ moved p (inSide side amount price) }
+    requires { (sound_position p ≡ true) × (magnitude_at_most 1000000 amount ≡ true) × (valid_price price ≡ true) }
+    ensures { result ≡ moved p (in_side side amount price) }
 {
     let long = in_long(side, amount);
     let short = in_short(side, amount);
@@ -77,23 +77,23 @@ fn shifted(p: Position, side: i64, amount: i64, price: i64) -> Position
 
 // The old account's position without the record's quantity, and the new account's with it.
 fn taken_from(p: Position, r: Record) -> Position
-    requires { (soundPosition p ≡ true) × (magnitudeAtMost 1000000 r.quantity ≡ true) × (validPrice r.price ≡ true) }
-    ensures { result ≡ moved p (inSide r.side (neg_ℤ r.quantity) r.price) }
+    requires { (sound_position p ≡ true) × (magnitude_at_most 1000000 r.quantity ≡ true) × (valid_price r.price ≡ true) }
+    ensures { result ≡ moved p (in_side r.side (neg_ℤ r.quantity) r.price) }
 {
     shifted(p, r.side, -r.quantity, r.price)
 }
 
 fn given_to(p: Position, r: Record) -> Position
-    requires { (soundPosition p ≡ true) × (magnitudeAtMost 1000000 r.quantity ≡ true) × (validPrice r.price ≡ true) }
-    ensures { result ≡ moved p (inSide r.side r.quantity r.price) }
+    requires { (sound_position p ≡ true) × (magnitude_at_most 1000000 r.quantity ≡ true) × (valid_price r.price ≡ true) }
+    ensures { result ≡ moved p (in_side r.side r.quantity r.price) }
 {
     shifted(p, r.side, r.quantity, r.price)
 }
 
 // The inverse row in the old account, and the row that arrives in the new one, each of a type.
 pub fn inverse_row(today: i64, r: Record, next: i64, kind: i64) -> Record
-    requires { magnitudeAtMost 1000000 r.quantity ≡ true }
-    ensures { result ≡ inverseRecord today r next kind (inLong r.side (neg_ℤ r.quantity)) (inShort r.side (neg_ℤ r.quantity)) (pos 0) }
+    requires { magnitude_at_most 1000000 r.quantity ≡ true }
+    ensures { result ≡ inverse_record today r next kind (in_long r.side (neg_ℤ r.quantity)) (in_short r.side (neg_ℤ r.quantity)) (pos 0) }
 {
     let left = -r.quantity;
     let long = in_long(r.side, left);
@@ -102,7 +102,7 @@ pub fn inverse_row(today: i64, r: Record, next: i64, kind: i64) -> Record
 }
 
 pub fn arrived_row(today: i64, r: Record, suffix: i64, to: i64, kind: i64) -> Record
-    ensures { result ≡ adjustableRecord today r suffix kind to r.quantity (inLong r.side r.quantity) (inShort r.side r.quantity) }
+    ensures { result ≡ adjustable_record today r suffix kind to r.quantity (in_long r.side r.quantity) (in_short r.side r.quantity) }
 {
     let long = in_long(r.side, r.quantity);
     let short = in_short(r.side, r.quantity);
@@ -122,9 +122,9 @@ pub fn verdict(
     to: i64,
     series: i64,
 ) -> Verdict
-    requires records_value { (soundRecordRows records.now ≡ true) × (soundPositions positions.now ≡ true) }
-    requires series_value { (transferFigures id suffix from to series ≡ true) × KnownRecord records.now id suffix named × KnownPosition positions.now from series old × KnownPosition positions.now to series new }
-    ensures { result ≡ verdictOn records.now positions.now (Request.transfer id suffix from to series) }
+    requires records_value { (sound_record_rows records.now ≡ true) × (sound_positions positions.now ≡ true) }
+    requires series_value { (transfer_figures id suffix from to series ≡ true) × KnownRecord records.now id suffix named × KnownPosition positions.now from series old × KnownPosition positions.now to series new }
+    ensures { result ≡ verdict_on records.now positions.now (Request.transfer id suffix from to series) }
 {
     let r = named.record;
     if requests::is_elsewhere(r, from, series) {
@@ -154,9 +154,9 @@ pub fn verdict_on_positions(
     to: i64,
     series: i64,
 ) -> Verdict
-    requires records_value { (soundRecordRows records.now ≡ true) × (soundPositions positions.now ≡ true) }
+    requires records_value { (sound_record_rows records.now ≡ true) × (sound_positions positions.now ≡ true) }
     requires known_record { KnownRecord records.now id suffix named × KnownPosition positions.now from series old × KnownPosition positions.now to series new }
-    ensures { result ≡ movingVerdict records.now positions.now named.record id from to series }
+    ensures { result ≡ moving_verdict records.now positions.now named.record id from to series }
 {
     let r = named.record;
     if holds_too_little(r, old.position) {
@@ -200,7 +200,7 @@ pub fn book_moved(
     arriving: i64,
 )
     requires { MovingReady records.old positions.old named old new id suffix from to series leaving arriving }
-    ensures { (records.new ≡ recordsAfter (movingEffects leaving arriving records.old positions.old named.record id from to series) records.old) × (positions.new ≡ positionsAfter (movingEffects leaving arriving records.old positions.old named.record id from to series) positions.old) }
+    ensures { (records.new ≡ records_after (moving_effects leaving arriving records.old positions.old named.record id from to series) records.old) × (positions.new ≡ positions_after (moving_effects leaving arriving records.old positions.old named.record id from to series) positions.old) }
 {
     let r = named.record;
     let next = named.next;
@@ -227,9 +227,9 @@ pub fn book(
     to: i64,
     series: i64,
 ) -> Reply
-    requires records_value { (soundRecords records.old ≡ true) × (soundPositions positions.old ≡ true) × (verdictOn records.old positions.old (Request.transfer id suffix from to series) ≡ Accepted) }
+    requires records_value { (sound_records records.old ≡ true) × (sound_positions positions.old ≡ true) × (verdict_on records.old positions.old (Request.transfer id suffix from to series) ≡ Accepted) }
     requires known_record { KnownRecord records.old id suffix named × KnownPosition positions.old from series old × KnownPosition positions.old to series new }
-    ensures { answered result records.new positions.new ≡ acceptedOn records.old positions.old (Request.transfer id suffix from to series) }
+    ensures { answered result records.new positions.new ≡ accepted_on records.old positions.old (Request.transfer id suffix from to series) }
 {
     book_moved(
         records, positions, named, old, new, id, suffix, from, to, series, TRANSFER, TRANSFER,
@@ -249,7 +249,7 @@ pub fn on_sound(
     to: i64,
     series: i64,
 ) -> Reply
-    requires { (soundRecords records.old ≡ true) × (soundPositions positions.old ≡ true) }
+    requires { (sound_records records.old ≡ true) × (sound_positions positions.old ≡ true) }
     ensures { HandledSoundly records.old positions.old (Request.transfer id suffix from to series) (answered result records.new positions.new) }
 {
     if !figures_valid(id, suffix, from, to, series) {

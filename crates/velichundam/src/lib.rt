@@ -5,12 +5,12 @@ ghost use Rattle.std.specs.Prelude.{◌≡◌, [], length};
 ghost use Rattle.rules.specs.Reply.{code_of};
 ghost use Rattle.rules.specs.Request as Request;
 ghost use Rattle.rules.specs.Call as Call;
-ghost use Rattle.rules.specs.Call.{handleCall};
-ghost use Rattle.rules.specs.Left.{leftBy};
+ghost use Rattle.rules.specs.Call.{handle_call};
+ghost use Rattle.rules.specs.Left.{left_by};
 ghost use Rattle.rules.specs.Handle.{handle};
-ghost use Rattle.rules.specs.Tables.{tables_of, allTables};
+ghost use Rattle.rules.specs.Tables.{tables_of, all_tables};
 ghost use Rattle.rules.specs.declared.Step.TheVariants.{Open, Claim, Cancel, Refuse, ApproveGiver, ApproveTaker};
-ghost use Rattle.velichundam.specs.HandedBack.{inNumbers, codeFrom, handedBack, handedBackAll, inNumbersWith, handedBackWith};
+ghost use Rattle.velichundam.specs.HandedBack.{in_numbers, code_from, handed_back, handed_back_all, in_numbers_with, handed_back_with};
 
 use rules::{Reply, Step};
 
@@ -27,7 +27,7 @@ pub struct Coded {
 }
 
 fn code_of(r: Reply) -> Coded
-    ensures { codeFrom result.kind result.first result.second result.third ≡ code_of r }
+    ensures { code_from result.kind result.first result.second result.third ≡ code_of r }
 {
     match r {
         Reply::Booked { rows, residual } => Coded {
@@ -108,7 +108,7 @@ pub extern "C" fn velichundam_trade(
     quantity: i64,
     price: i64,
 ) -> Coded
-    ensures { handedBack result.kind result.first result.second result.third records.new positions.new ≡ inNumbers (handle (tables_of records.old positions.old) (Request.trade id account series side quantity price)) }
+    ensures { handed_back result.kind result.first result.second result.third records.new positions.new ≡ in_numbers (handle (tables_of records.old positions.old) (Request.trade id account series side quantity price)) }
 {
     code_of(book::trade(
         records, positions, id, account, series, side, quantity, price,
@@ -123,7 +123,7 @@ pub extern "C" fn velichundam_trades(
     trades: &[i64],
     excess: &mut [i64],
 ) -> Coded
-    ensures { handedBackWith result.kind result.first result.second result.third excess.new records.new positions.new ≡ inNumbersWith (leftBy excess.old (handleCall (tables_of records.old positions.old) (Call.trades trades.now (length excess.old)))) }
+    ensures { handed_back_with result.kind result.first result.second result.third excess.new records.new positions.new ≡ in_numbers_with (left_by excess.old (handle_call (tables_of records.old positions.old) (Call.trades trades.now (length excess.old)))) }
 {
     code_of(book::trades(records, positions, trades, excess))
 }
@@ -138,7 +138,7 @@ pub extern "C" fn velichundam_separate(
     series: i64,
     parts: &[i64],
 ) -> Coded
-    ensures { handedBack result.kind result.first result.second result.third records.new positions.new ≡ inNumbers (handle (tables_of records.old positions.old) (Request.separate id suffix account series parts.now)) }
+    ensures { handed_back result.kind result.first result.second result.third records.new positions.new ≡ in_numbers (handle (tables_of records.old positions.old) (Request.separate id suffix account series parts.now)) }
 {
     code_of(book::separate(records, positions, id, suffix, account, series, parts))
 }
@@ -153,7 +153,7 @@ pub extern "C" fn velichundam_transfer(
     to: i64,
     series: i64,
 ) -> Coded
-    ensures { handedBack result.kind result.first result.second result.third records.new positions.new ≡ inNumbers (handle (tables_of records.old positions.old) (Request.transfer id suffix from to series)) }
+    ensures { handed_back result.kind result.first result.second result.third records.new positions.new ≡ in_numbers (handle (tables_of records.old positions.old) (Request.transfer id suffix from to series)) }
 {
     code_of(book::transfer(records, positions, id, suffix, from, to, series))
 }
@@ -167,7 +167,7 @@ pub extern "C" fn velichundam_merge(
     series: i64,
     pairs: &[i64],
 ) -> Coded
-    ensures { handedBack result.kind result.first result.second result.third records.new positions.new ≡ inNumbers (handle (tables_of records.old positions.old) (Request.merge id account series pairs.now)) }
+    ensures { handed_back result.kind result.first result.second result.third records.new positions.new ≡ in_numbers (handle (tables_of records.old positions.old) (Request.merge id account series pairs.now)) }
 {
     code_of(book::merge(records, positions, id, account, series, pairs))
 }
@@ -175,7 +175,7 @@ pub extern "C" fn velichundam_merge(
 // The records table is lent to be read, so its cells stay as they were.
 #[unsafe(no_mangle)]
 pub extern "C" fn velichundam_lineage(records: &[i64], id: i64, suffix: i64) -> Coded
-    ensures { codeFrom result.kind result.first result.second result.third ≡ code_of (handle (tables_of records.now []) (Request.lineage id suffix)).reply }
+    ensures { code_from result.kind result.first result.second result.third ≡ code_of (handle (tables_of records.now []) (Request.lineage id suffix)).reply }
 {
     code_of(book::lineage(records, id, suffix))
 }
@@ -183,7 +183,7 @@ pub extern "C" fn velichundam_lineage(records: &[i64], id: i64, suffix: i64) -> 
 // A new day; it is lent the records alone.
 #[unsafe(no_mangle)]
 pub extern "C" fn velichundam_day(records: &mut [i64], day: i64) -> Coded
-    ensures { handedBack result.kind result.first result.second result.third records.new [] ≡ inNumbers (handle (tables_of records.old []) (Request.newDay day)) }
+    ensures { handed_back result.kind result.first result.second result.third records.new [] ≡ in_numbers (handle (tables_of records.old []) (Request.new_day day)) }
 {
     code_of(book::day(records, day))
 }
@@ -191,7 +191,7 @@ pub extern "C" fn velichundam_day(records: &mut [i64], day: i64) -> Coded
 // The end-of-day reporting list.
 #[unsafe(no_mangle)]
 pub extern "C" fn velichundam_reportable(records: &[i64], pairs: &mut [i64]) -> Coded
-    ensures { handedBackWith result.kind result.first result.second result.third pairs.new records.now [] ≡ inNumbersWith (leftBy pairs.old (handleCall (tables_of records.now []) (Call.reportable (length pairs.old)))) }
+    ensures { handed_back_with result.kind result.first result.second result.third pairs.new records.now [] ≡ in_numbers_with (left_by pairs.old (handle_call (tables_of records.now []) (Call.reportable (length pairs.old)))) }
 {
     code_of(book::reportable(records, pairs))
 }
@@ -209,7 +209,7 @@ pub extern "C" fn velichundam_give_up_open(
     taking: i64,
     series: i64,
 ) -> Coded
-    ensures { handedBackAll result.kind result.first result.second result.third records.new positions.new processes.new ≡ inNumbers (handle (allTables records.old positions.old processes.old) (Request.giveUp Open process id suffix giving taking series)) }
+    ensures { handed_back_all result.kind result.first result.second result.third records.new positions.new processes.new ≡ in_numbers (handle (all_tables records.old positions.old processes.old) (Request.give_up Open process id suffix giving taking series)) }
 {
     code_of(book::give_up(
         records,
@@ -237,7 +237,7 @@ pub extern "C" fn velichundam_give_up_claim(
     taking: i64,
     series: i64,
 ) -> Coded
-    ensures { handedBackAll result.kind result.first result.second result.third records.new positions.new processes.new ≡ inNumbers (handle (allTables records.old positions.old processes.old) (Request.giveUp Claim process id suffix giving taking series)) }
+    ensures { handed_back_all result.kind result.first result.second result.third records.new positions.new processes.new ≡ in_numbers (handle (all_tables records.old positions.old processes.old) (Request.give_up Claim process id suffix giving taking series)) }
 {
     code_of(book::give_up(
         records,
@@ -265,7 +265,7 @@ pub extern "C" fn velichundam_give_up_cancel(
     taking: i64,
     series: i64,
 ) -> Coded
-    ensures { handedBackAll result.kind result.first result.second result.third records.new positions.new processes.new ≡ inNumbers (handle (allTables records.old positions.old processes.old) (Request.giveUp Cancel process id suffix giving taking series)) }
+    ensures { handed_back_all result.kind result.first result.second result.third records.new positions.new processes.new ≡ in_numbers (handle (all_tables records.old positions.old processes.old) (Request.give_up Cancel process id suffix giving taking series)) }
 {
     code_of(book::give_up(
         records,
@@ -293,7 +293,7 @@ pub extern "C" fn velichundam_give_up_refuse(
     taking: i64,
     series: i64,
 ) -> Coded
-    ensures { handedBackAll result.kind result.first result.second result.third records.new positions.new processes.new ≡ inNumbers (handle (allTables records.old positions.old processes.old) (Request.giveUp Refuse process id suffix giving taking series)) }
+    ensures { handed_back_all result.kind result.first result.second result.third records.new positions.new processes.new ≡ in_numbers (handle (all_tables records.old positions.old processes.old) (Request.give_up Refuse process id suffix giving taking series)) }
 {
     code_of(book::give_up(
         records,
@@ -321,7 +321,7 @@ pub extern "C" fn velichundam_give_up_approve_giver(
     taking: i64,
     series: i64,
 ) -> Coded
-    ensures { handedBackAll result.kind result.first result.second result.third records.new positions.new processes.new ≡ inNumbers (handle (allTables records.old positions.old processes.old) (Request.giveUp ApproveGiver process id suffix giving taking series)) }
+    ensures { handed_back_all result.kind result.first result.second result.third records.new positions.new processes.new ≡ in_numbers (handle (all_tables records.old positions.old processes.old) (Request.give_up ApproveGiver process id suffix giving taking series)) }
 {
     code_of(book::give_up(
         records,
@@ -349,7 +349,7 @@ pub extern "C" fn velichundam_give_up_approve_taker(
     taking: i64,
     series: i64,
 ) -> Coded
-    ensures { handedBackAll result.kind result.first result.second result.third records.new positions.new processes.new ≡ inNumbers (handle (allTables records.old positions.old processes.old) (Request.giveUp ApproveTaker process id suffix giving taking series)) }
+    ensures { handed_back_all result.kind result.first result.second result.third records.new positions.new processes.new ≡ in_numbers (handle (all_tables records.old positions.old processes.old) (Request.give_up ApproveTaker process id suffix giving taking series)) }
 {
     code_of(book::give_up(
         records,

@@ -2,10 +2,10 @@
 ghost use Rattle.std.specs.Prelude.{◌≡◌};
 ghost use Rattle.rules.specs.Request as Request;
 ghost use Rattle.rules.specs.Call as Call;
-ghost use Rattle.rules.specs.Call.{handleCall};
-ghost use Rattle.rules.specs.Tables.{allTables};
-ghost use Rattle.rules.specs.Writing.{writeRequest, writeTrades, writeGiveUp};
-ghost use Rattle.velichundam.specs.HandedBack.{inNumbers, handedBackAll, inNumbersText, handedBackText};
+ghost use Rattle.rules.specs.Call.{handle_call};
+ghost use Rattle.rules.specs.Tables.{all_tables};
+ghost use Rattle.rules.specs.Writing.{write_request, write_trades, write_give_up};
+ghost use Rattle.velichundam.specs.HandedBack.{in_numbers, handed_back_all, in_numbers_text, handed_back_text};
 
 use crate::{Coded, code_of};
 
@@ -19,7 +19,7 @@ pub extern "C" fn velichundam_write_trade(
     quantity: i64,
     price: i64,
 ) -> Coded
-    ensures { handedBackText result.kind result.first result.second result.third text.new ≡ inNumbersText (writeRequest (Request.trade id account series side quantity price) text.old) }
+    ensures { handed_back_text result.kind result.first result.second result.third text.new ≡ in_numbers_text (write_request (Request.trade id account series side quantity price) text.old) }
 {
     code_of(journal_writing::line::write_trade(text, id, account, series, side, quantity, price))
 }
@@ -27,7 +27,7 @@ pub extern "C" fn velichundam_write_trade(
 // A line for each trade.
 #[unsafe(no_mangle)]
 pub extern "C" fn velichundam_write_trades(text: &mut [u8], trades: &[i64]) -> Coded
-    ensures { handedBackText result.kind result.first result.second result.third text.new ≡ inNumbersText (writeTrades trades.now text.old) }
+    ensures { handed_back_text result.kind result.first result.second result.third text.new ≡ in_numbers_text (write_trades trades.now text.old) }
 {
     code_of(journal_writing::trades::write_trades(text, trades))
 }
@@ -41,7 +41,7 @@ pub extern "C" fn velichundam_write_separation(
     series: i64,
     parts: &[i64],
 ) -> Coded
-    ensures { handedBackText result.kind result.first result.second result.third text.new ≡ inNumbersText (writeRequest (Request.separate id suffix account series parts.now) text.old) }
+    ensures { handed_back_text result.kind result.first result.second result.third text.new ≡ in_numbers_text (write_request (Request.separate id suffix account series parts.now) text.old) }
 {
     code_of(journal_writing::line::write_separation(text, id, suffix, account, series, parts))
 }
@@ -55,14 +55,14 @@ pub extern "C" fn velichundam_write_transfer(
     to: i64,
     series: i64,
 ) -> Coded
-    ensures { handedBackText result.kind result.first result.second result.third text.new ≡ inNumbersText (writeRequest (Request.transfer id suffix from to series) text.old) }
+    ensures { handed_back_text result.kind result.first result.second result.third text.new ≡ in_numbers_text (write_request (Request.transfer id suffix from to series) text.old) }
 {
     code_of(journal_writing::line::write_transfer(text, id, suffix, from, to, series))
 }
 
 #[unsafe(no_mangle)]
 pub extern "C" fn velichundam_write_day(text: &mut [u8], day: i64) -> Coded
-    ensures { handedBackText result.kind result.first result.second result.third text.new ≡ inNumbersText (writeRequest (Request.newDay day) text.old) }
+    ensures { handed_back_text result.kind result.first result.second result.third text.new ≡ in_numbers_text (write_request (Request.new_day day) text.old) }
 {
     code_of(journal_writing::line::write_day(text, day))
 }
@@ -75,7 +75,7 @@ pub extern "C" fn velichundam_write_merge(
     series: i64,
     pairs: &[i64],
 ) -> Coded
-    ensures { handedBackText result.kind result.first result.second result.third text.new ≡ inNumbersText (writeRequest (Request.merge id account series pairs.now) text.old) }
+    ensures { handed_back_text result.kind result.first result.second result.third text.new ≡ in_numbers_text (write_request (Request.merge id account series pairs.now) text.old) }
 {
     code_of(journal_writing::line::write_merge(text, id, account, series, pairs))
 }
@@ -92,7 +92,7 @@ pub extern "C" fn velichundam_write_give_up(
     taking: i64,
     series: i64,
 ) -> Coded
-    ensures { handedBackText result.kind result.first result.second result.third text.new ≡ inNumbersText (writeGiveUp step process id suffix giving taking series text.old) }
+    ensures { handed_back_text result.kind result.first result.second result.third text.new ≡ in_numbers_text (write_give_up step process id suffix giving taking series text.old) }
 {
     code_of(journal_writing::line::write_give_up(
         text, step, process, id, suffix, giving, taking, series,
@@ -106,7 +106,7 @@ pub extern "C" fn velichundam_replay(
     processes: &mut [i64],
     text: &[u8],
 ) -> Coded
-    ensures { handedBackAll result.kind result.first result.second result.third records.new positions.new processes.new ≡ inNumbers (handleCall (allTables records.old positions.old processes.old) (Call.replay text.now)) }
+    ensures { handed_back_all result.kind result.first result.second result.third records.new positions.new processes.new ≡ in_numbers (handle_call (all_tables records.old positions.old processes.old) (Call.replay text.now)) }
 {
     code_of(book::replay(records, positions, processes, text))
 }

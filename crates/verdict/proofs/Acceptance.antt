@@ -6,22 +6,22 @@ use mathlib.Core.Bool.{true}
 use mathlib.Core.List.{List}
 use mathlib.Core.Option.{Option, none, some}
 use lib.IntN.{ℤ}
-use Rattle.rules.specs.Refusal.{Test, firstRefusal}
+use Rattle.rules.specs.Refusal.{Test, first_refusal}
 use Rattle.rules.specs.Request.{Request}
-use Rattle.rules.specs.Plan.{planTests}
-use Rattle.rules.specs.Tables.{booksOf, soundRecords, soundPositions, soundProcesses, noProcesses, tables_of}
+use Rattle.rules.specs.Plan.{plan_tests}
+use Rattle.rules.specs.Tables.{books_of, sound_records, sound_positions, sound_processes, no_processes, tables_of}
 use Rattle.rules.proofs.Computed.{Computed}
 use Rattle.cells.proofs.SoundBookCells.{books-records-rise, books-records-sound, books-records-fit, books-days-sound, books-positions-rise, books-positions-sound, books-positions-fit, books-processes-rise, books-processes-sound, books-processes-fit}
-use Rattle.soundness.specs.SoundBooks.{SoundBooks, planOn, Accepts}
-use Rattle.verdict.specs.Verdict.{verdictOf, verdictOn}
+use Rattle.soundness.specs.SoundBooks.{SoundBooks, plan_on, Accepts}
+use Rattle.verdict.specs.Verdict.{verdict_of, verdict_on}
 use Rattle.verdict.specs.declared.Verdict.TheVariants.{Accepted}
 
 -- The process table that stands where none is lent.
-pub no-processes-sound : soundProcesses noProcesses ≡ true
+pub no-processes-sound : sound_processes no_processes ≡ true
 unfolding Computed
 no-processes-sound = refl
 
-pub sound-books : (rs ps : List ℤ) → soundRecords rs ≡ true → soundPositions ps ≡ true → SoundBooks (booksOf (tables_of rs ps))
+pub sound-books : (rs ps : List ℤ) → sound_records rs ≡ true → sound_positions ps ≡ true → SoundBooks (books_of (tables_of rs ps))
 sound-books rs ps h k = record {
   records-rise = books-records-rise (tables_of rs ps) h;
   records-sound = books-records-sound (tables_of rs ps) h;
@@ -35,16 +35,16 @@ sound-books rs ps h k = record {
   days-sound = books-days-sound (tables_of rs ps) h;
 }
 
-pub none-accepted : (o : Option Test) → verdictOf o ≡ Accepted → o ≡ none
-unfolding verdictOf
+pub none-accepted : (o : Option Test) → verdict_of o ≡ Accepted → o ≡ none
+unfolding verdict_of
 none-accepted none h = refl
 none-accepted (some t) h = let z : ◌≡◌ {A = ℕ} 0 1 = cc in absurd (omega arith)
 
 module _ (rs ps : List ℤ) (r : Request) where
-  pub accepted-accepts : verdictOn rs ps r ≡ Accepted → Accepts (booksOf (tables_of rs ps)) r
-  unfolding verdictOn
-  accepted-accepts h = none-accepted (firstRefusal (planTests (booksOf (tables_of rs ps)) (planOn (booksOf (tables_of rs ps)) r))) h
+  pub accepted-accepts : verdict_on rs ps r ≡ Accepted → Accepts (books_of (tables_of rs ps)) r
+  unfolding verdict_on
+  accepted-accepts h = none-accepted (first_refusal (plan_tests (books_of (tables_of rs ps)) (plan_on (books_of (tables_of rs ps)) r))) h
 
-  pub accepts-accepted : Accepts (booksOf (tables_of rs ps)) r → verdictOn rs ps r ≡ Accepted
-  unfolding verdictOn verdictOf
-  accepts-accepted h = ap verdictOf h
+  pub accepts-accepted : Accepts (books_of (tables_of rs ps)) r → verdict_on rs ps r ≡ Accepted
+  unfolding verdict_on verdict_of
+  accepts-accepted h = ap verdict_of h

@@ -8,11 +8,11 @@ use mathlib.Core.List.{List, [], ◌∷◌, map}
 use mathlib.Core.Option.{some}
 use lib.Dec.{eqb}
 use lib.IntN.{pos}
-use Rattle.rules.specs.NamedRecord.{isNotAdjustable, statusRefusal}
-use Rattle.rules.specs.Merge.{firstStatusRefusal}
-use Rattle.rules.specs.Refusal.{Test, any_of, firstPlace, firstRefusal}
+use Rattle.rules.specs.NamedRecord.{is_not_adjustable, status_refusal}
+use Rattle.rules.specs.Merge.{first_status_refusal}
+use Rattle.rules.specs.Refusal.{Test, any_of, first_place, first_refusal}
 use Rattle.rules.specs.declared.Record.{Record}
-use Rattle.verdict.specs.Verdict.{verdictOf}
+use Rattle.verdict.specs.Verdict.{verdict_of}
 use Rattle.verdict.specs.declared.Verdict.{Verdict}
 use Rattle.verdict.specs.declared.Verdict.TheVariants.{Accepted, Refused}
 
@@ -21,53 +21,53 @@ pub record Listed : Type 0 where
   pub label : ℕ
   pub is : Test
 
--- The rules' `test`, `testEach`, `statusTest` and `statusOfEach`, with their parts in sight.
+-- The rules' `test`, `test_each`, `status_test` and `status_of_each`, with their parts in sight.
 abbrev pub row : ℕ → Bool → Listed
 row number applies = record { label = number; is = record { number = number; applies = applies; place = 0 } }
 
-abbrev pub rowEach : ℕ → List Bool → Listed
-rowEach number fails = record { label = number; is = record { number = number; applies = any_of fails; place = firstPlace fails } }
+abbrev pub row_each : ℕ → List Bool → Listed
+row_each number fails = record { label = number; is = record { number = number; applies = any_of fails; place = first_place fails } }
 
-abbrev pub statusRow : Record → Listed
-statusRow r = record { label = 7; is = record { number = statusRefusal r.status; applies = isNotAdjustable r; place = 0 } }
+abbrev pub status_row : Record → Listed
+status_row r = record { label = 7; is = record { number = status_refusal r.status; applies = is_not_adjustable r; place = 0 } }
 
-abbrev pub statusRowEach : List Record → Listed
-statusRowEach rs = record { label = 7; is = record { number = firstStatusRefusal rs; applies = any_of (map isNotAdjustable rs); place = firstPlace (map isNotAdjustable rs) } }
+abbrev pub status_row_each : List Record → Listed
+status_row_each rs = record { label = 7; is = record { number = first_status_refusal rs; applies = any_of (map is_not_adjustable rs); place = first_place (map is_not_adjustable rs) } }
 
-abbrev pub testsOf : List Listed → List Test
-testsOf [] = []
-testsOf (t ∷ rest) = t.is ∷ testsOf rest
+abbrev pub tests_of : List Listed → List Test
+tests_of [] = []
+tests_of (t ∷ rest) = t.is ∷ tests_of rest
 
 -- The tests from that with label n on, whatever the order of the labels; none where no test has it.
-abbrev pub fromTest : ℕ → List Listed → List Test
-fromTest n [] = []
-fromTest n (t ∷ rest) = cond (eqb t.label n) (testsOf (t ∷ rest)) (fromTest n rest)
+abbrev pub from_test : ℕ → List Listed → List Test
+from_test n [] = []
+from_test n (t ∷ rest) = cond (eqb t.label n) (tests_of (t ∷ rest)) (from_test n rest)
 
-abbrev pub verdictBy : List Test → Verdict
-verdictBy tests = verdictOf (firstRefusal tests)
+abbrev pub verdict_by : List Test → Verdict
+verdict_by tests = verdict_of (first_refusal tests)
 
 -- The verdict is that of the tests from here on.
 pub record Remaining (whole : Verdict) (tests : List Test) : Type 0 where
-  pub is : whole ≡ verdictBy tests
+  pub is : whole ≡ verdict_by tests
 
 -- the next test doesn't apply
 infixl 1 ◌past◌
 pub ◌past◌ : {whole : Verdict} {t : Test} {rest : List Test} → Remaining whole (t ∷ rest) → t.applies ≡ false → Remaining whole rest
-unfolding firstRefusal
+unfolding first_refusal
 m past e = record { is = rw e at m.is }
 
 -- nor does any of a request that is accepted
 pub passes : {whole : Verdict} {t : Test} {rest : List Test} → Remaining whole (t ∷ rest) → whole ≡ Accepted → t.applies ≡ false
-unfolding firstRefusal verdictOf
+unfolding first_refusal verdict_of
 passes {whole} {t} {rest} m e = go t.applies (sym m.is ∙ e)
   where
-    go : (b : Bool) → verdictOf (cond b (some t) (firstRefusal rest)) ≡ Accepted → b ≡ false
+    go : (b : Bool) → verdict_of (cond b (some t) (first_refusal rest)) ≡ Accepted → b ≡ false
     go true h = let z : ◌≡◌ {A = ℕ} 0 1 = cc in absurd (omega arith)
     go false h = refl
 
 -- it applies
 pub stops : {whole : Verdict} {t : Test} {rest : List Test} → Remaining whole (t ∷ rest) → t.applies ≡ true → Refused (pos t.number) (pos t.place) ≡ whole
-unfolding firstRefusal verdictOf
+unfolding first_refusal verdict_of
 stops m e = sym (rw e at m.is)
 
 -- it applies, and its place is known
@@ -77,7 +77,7 @@ stops_at {whole} {t} m e = subst (λ (i : ℕ). Refused (pos t.number) (pos i) �
 
 -- no test is left
 pub ends : {whole : Verdict} → Remaining whole [] → Accepted ≡ whole
-unfolding firstRefusal verdictOf
+unfolding first_refusal verdict_of
 ends m = sym m.is
 
 -- A test beside one that always holds, or never applies.

@@ -9,44 +9,44 @@ use lib.Dec.{ltb}
 use lib.IntN.{ℤ}
 use lib.ListN.{length}
 use borrow.Author.Tests.{le-ltb}
-use Rattle.rules.specs.Keyed.{Key, find, is_some, absentFrom}
-use Rattle.rules.specs.Rows.{key_of, positionKey, moved}
-use Rattle.rules.specs.Layout.{roomOf, rows_of}
-use Rattle.rules.specs.Tables.{positionsLayout, soundPositions}
+use Rattle.rules.specs.Keyed.{Key, find, is_some, absent_from}
+use Rattle.rules.specs.Rows.{key_of, position_key, moved}
+use Rattle.rules.specs.Layout.{room_of, rows_of}
+use Rattle.rules.specs.Tables.{positions_layout, sound_positions}
 use Rattle.rules.specs.declared.Position.{Position}
 use Rattle.rules.specs.declared.Movement.{Movement}
 use Rattle.cells.proofs.SoundCells.{positions-known}
-use Rattle.soundness.proofs.ReadPosition.{readAt, read-key}
-use Rattle.verdict.specs.Verdict.{absentPosition}
+use Rattle.soundness.proofs.ReadPosition.{read_at, read-key}
+use Rattle.verdict.specs.Verdict.{absent_position}
 
 -- The position read at an account and series of a table.
-abbrev pub positionRead : List ℤ → ℤ → ℤ → Position
-positionRead ps account series = readAt account series (rows_of positionsLayout ps)
+abbrev pub position_read : List ℤ → ℤ → ℤ → Position
+position_read ps account series = read_at account series (rows_of positions_layout ps)
 
 module _ (ps : List ℤ) where
   pub absent-moved : (account series : ℤ) (m : Movement) (rest : List Position)
-      → absentFrom positionKey (rows_of positionsLayout ps) (moved (positionRead ps account series) m ∷ rest)
-      ≡ absentPosition ps account series + absentFrom positionKey (rows_of positionsLayout ps) rest
-  unfolding absentFrom absentPosition moved
+      → absent_from position_key (rows_of positions_layout ps) (moved (position_read ps account series) m ∷ rest)
+      ≡ absent_position ps account series + absent_from position_key (rows_of positions_layout ps) rest
+  unfolding absent_from absent_position moved
   absent-moved account series m rest =
-      ap (λ (k : Key). cond (is_some (find positionKey k (rows_of positionsLayout ps))) 0 1 + absentFrom positionKey (rows_of positionsLayout ps) rest)
-      (read-key account series (rows_of positionsLayout ps))
+      ap (λ (k : Key). cond (is_some (find position_key k (rows_of positions_layout ps))) 0 1 + absent_from position_key (rows_of positions_layout ps) rest)
+      (read-key account series (rows_of positions_layout ps))
 
   pub absent-one : (account series : ℤ) (m : Movement)
-      → absentFrom positionKey (rows_of positionsLayout ps) (moved (positionRead ps account series) m ∷ []) ≡ absentPosition ps account series
-  unfolding absentFrom
+      → absent_from position_key (rows_of positions_layout ps) (moved (position_read ps account series) m ∷ []) ≡ absent_position ps account series
+  unfolding absent_from
   absent-one account series m = omega (arith, absent-moved account series m [])
 
-  pub absent-at-most-one : (account series : ℤ) → absentPosition ps account series ≤ 1
-  unfolding absentPosition
-  absent-at-most-one account series = go (is_some (find positionKey (key_of account series) (rows_of positionsLayout ps)))
+  pub absent-at-most-one : (account series : ℤ) → absent_position ps account series ≤ 1
+  unfolding absent_position
+  absent-at-most-one account series = go (is_some (find position_key (key_of account series) (rows_of positions_layout ps)))
     where
       go : (b : Bool) → cond b 0 1 ≤ 1
       go true = omega arith
       go false = omega arith
 
   -- A sound table has room for no more rows.
-  pub room-for-none : soundPositions ps ≡ true → ltb (roomOf positionsLayout ps) (length (rows_of positionsLayout ps) + 0) ≡ false
+  pub room-for-none : sound_positions ps ≡ true → ltb (room_of positions_layout ps) (length (rows_of positions_layout ps) + 0) ≡ false
   room-for-none sound =
-      let fit : length (rows_of positionsLayout ps) ≤ roomOf positionsLayout ps = (positions-known ps sound).rows_fit in
-      le-ltb (roomOf positionsLayout ps) (length (rows_of positionsLayout ps) + 0) (omega arith)
+      let fit : length (rows_of positions_layout ps) ≤ room_of positions_layout ps = (positions-known ps sound).rows_fit in
+      le-ltb (room_of positions_layout ps) (length (rows_of positions_layout ps) + 0) (omega arith)

@@ -6,7 +6,7 @@ use Rattle.rules.proofs.Computed.{Computed}
 use Rattle.worked.specs.Examples.{found, stated, examples}
 use Rattle.worked.specs.Others.{others}
 use Rattle.worked.specs.Batches as Batches
-use Rattle.worked.specs.GiveUps.{giveUps}
+use Rattle.worked.specs.GiveUps.{give_ups}
 
 -- P1 to P11.
 pub worked-examples : map found examples ≡ map stated examples
@@ -24,6 +24,6 @@ unfolding Computed
 worked-batches = refl
 
 -- Give-ups, in all three tables.
-pub worked-give-ups : map found giveUps ≡ map stated giveUps
+pub worked-give-ups : map found give_ups ≡ map stated give_ups
 unfolding Computed
 worked-give-ups = refl

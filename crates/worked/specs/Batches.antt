@@ -1,10 +1,10 @@
 -- Batches of trades (document 02, K1) as a table: the tables at the start, the figures and the cells lent for the excesses, and the whole answer.
 use Rattle.std.specs.Prelude.{ℕ, List, [], ◌∷◌, ℤ, pos}
 use Rattle.rules.specs.Tables.{Tables, tables_of}
-use Rattle.rules.specs.Handle.{Answer, answeredBy}
-use Rattle.rules.specs.Call.{trades, handleCall}
+use Rattle.rules.specs.Handle.{Answer, answered_by}
+use Rattle.rules.specs.Call.{trades, handle_call}
 use Rattle.rules.specs.declared.Reply.TheVariants.{Booked, Refused, Stopped}
-use Rattle.worked.specs.Examples.{minus, row, position, table, recordsTable, joined}
+use Rattle.worked.specs.Examples.{minus, row, position, table, records_table, joined}
 
 pub record Batch : Type 0 where
   pub start : Tables
@@ -13,25 +13,25 @@ pub record Batch : Type 0 where
   pub answer : Answer
 
 abbrev pub found : Batch → Answer
-found b = handleCall b.start (trades b.figures b.cells)
+found b = handle_call b.start (trades b.figures b.cells)
 
 abbrev pub stated : Batch → Answer
 stated b = b.answer
 
-abbrev pub sixOf : (id acc ser side qty price : ℤ) → List ℤ
-sixOf id acc ser side qty price = id ∷ acc ∷ ser ∷ side ∷ qty ∷ price ∷ []
+abbrev pub six_of : (id acc ser side qty price : ℤ) → List ℤ
+six_of id acc ser side qty price = id ∷ acc ∷ ser ∷ side ∷ qty ∷ price ∷ []
 
 -- Long 100, short 120, as in P1.
 abbrev pub start : Tables
-start = tables_of (recordsTable 0 [] 42) (table 1 (position (pos 1) (pos 1) (pos 100) (pos 120) (pos 0) (pos 0) (pos 0) ∷ []) 7)
+start = tables_of (records_table 0 [] 42) (table 1 (position (pos 1) (pos 1) (pos 100) (pos 120) (pos 0) (pos 0) (pos 0) ∷ []) 7)
 
 -- P1's buy close 150 with excess 30, then a sell open.
-abbrev pub firstTwo : List (List ℤ)
-firstTwo = sixOf (pos 7) (pos 1) (pos 1) (pos 3) (pos 150) (pos 5) ∷ sixOf (pos 8) (pos 2) (pos 1) (pos 2) (pos 10) (pos 6) ∷ []
+abbrev pub first_two : List (List ℤ)
+first_two = six_of (pos 7) (pos 1) (pos 1) (pos 3) (pos 150) (pos 5) ∷ six_of (pos 8) (pos 2) (pos 1) (pos 2) (pos 10) (pos 6) ∷ []
 
 abbrev pub finish : Tables
 finish = tables_of
-    (recordsTable 2
+    (records_table 2
     (row (pos 7) (pos 0) (pos 0) (pos 10) (pos 0) (pos 1) (pos 1) (pos 3) (pos 150) (pos 5) (pos 30) (minus 120) (pos 0)
     ∷ row (pos 8) (pos 0) (pos 0) (pos 0) (pos 0) (pos 2) (pos 1) (pos 2) (pos 10) (pos 6) (pos 0) (pos 10) (pos 0)
     ∷ [])
@@ -42,7 +42,7 @@ finish = tables_of
 abbrev pub booked : Batch
 booked = record {
   start = start;
-  figures = joined firstTwo;
+  figures = joined first_two;
   cells = 2;
   answer = record { reply = Booked (pos 2) (pos 0); output = pos 30 ∷ pos 0 ∷ []; tables = finish };
 }
@@ -51,27 +51,27 @@ booked = record {
 abbrev pub stopped : Batch
 stopped = record {
   start = start;
-  figures = joined (sixOf (pos 7) (pos 1) (pos 1) (pos 3) (pos 150) (pos 5) ∷ sixOf (pos 8) (pos 2) (pos 1) (pos 2) (pos 10) (pos 6)
-      ∷ sixOf (pos 7) (pos 1) (pos 1) (pos 1) (pos 1) (pos 5) ∷ sixOf (pos 9) (pos 1) (pos 1) (pos 1) (pos 1) (pos 5) ∷ []);
+  figures = joined (six_of (pos 7) (pos 1) (pos 1) (pos 3) (pos 150) (pos 5) ∷ six_of (pos 8) (pos 2) (pos 1) (pos 2) (pos 10) (pos 6)
+      ∷ six_of (pos 7) (pos 1) (pos 1) (pos 1) (pos 1) (pos 5) ∷ six_of (pos 9) (pos 1) (pos 1) (pos 1) (pos 1) (pos 5) ∷ []);
   cells = 5;
   answer = record { reply = Stopped (pos 2) (pos 4) (pos 0); output = pos 30 ∷ pos 0 ∷ []; tables = finish };
 }
 
 -- Stopped at the first trade by a figure of its own: quantity 0.
-abbrev pub stoppedAtOnce : Batch
-stoppedAtOnce = record {
+abbrev pub stopped_at_once : Batch
+stopped_at_once = record {
   start = start;
-  figures = sixOf (pos 7) (pos 1) (pos 1) (pos 3) (pos 0) (pos 5);
+  figures = six_of (pos 7) (pos 1) (pos 1) (pos 3) (pos 0) (pos 5);
   cells = 1;
   answer = record { reply = Stopped (pos 0) (pos 3) (pos 0); output = []; tables = start };
 }
 
 -- Two trades and one cell for their excesses: 3, and nothing booked. No trade at all: 3.
-abbrev pub shortExcess : Batch
-shortExcess = record { start = start; figures = joined firstTwo; cells = 1; answer = answeredBy (Refused (pos 3) (pos 0)) start }
+abbrev pub short_excess : Batch
+short_excess = record { start = start; figures = joined first_two; cells = 1; answer = answered_by (Refused (pos 3) (pos 0)) start }
 
-abbrev pub noTrade : Batch
-noTrade = record { start = start; figures = []; cells = 1; answer = answeredBy (Refused (pos 3) (pos 0)) start }
+abbrev pub no_trade : Batch
+no_trade = record { start = start; figures = []; cells = 1; answer = answered_by (Refused (pos 3) (pos 0)) start }
 
 abbrev pub batches : List Batch
-batches = booked ∷ stopped ∷ stoppedAtOnce ∷ shortExcess ∷ noTrade ∷ []
+batches = booked ∷ stopped ∷ stopped_at_once ∷ short_excess ∷ no_trade ∷ []

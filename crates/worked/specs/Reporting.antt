@@ -1,13 +1,13 @@
 -- 002's sample "for the reporting of the end of day state for a complex scenario" (10.1.1): transaction 123456 over 17, 18 and 19 January 2018, here days 1, 2 and 3; and the requests that book its rows.
 -- Every row of it is one that our requests book. Its column H, of adjustments on a later day, has no cell of ours.
 use Rattle.std.specs.Prelude.{ℕ, cond, List, [], ◌∷◌, ◌++◌, map, ℤ, pos, length, replicate}
-use Rattle.integers.specs.Order.{eqZ, in_range}
-use Rattle.rules.specs.Figures.{adjustable, adjusted, inverse, separationKind}
-use Rattle.rules.specs.Request.{Request, trade, separate, transfer, giveUp, newDay}
-use Rattle.rules.specs.Tables.{Tables, allTables, recordCells}
+use Rattle.integers.specs.Order.{eq_z, in_range}
+use Rattle.rules.specs.Figures.{adjustable, adjusted, inverse, separation_kind}
+use Rattle.rules.specs.Request.{Request, trade, separate, transfer, give_up, new_day}
+use Rattle.rules.specs.Tables.{Tables, all_tables, record_cells}
 use Rattle.rules.specs.Handle.{Answer}
-use Rattle.rules.specs.Call.{reportable, handleCall}
-use Rattle.rules.specs.Reportable.{reportableRecords}
+use Rattle.rules.specs.Call.{reportable, handle_call}
+use Rattle.rules.specs.Reportable.{reportable_records}
 use Rattle.rules.specs.declared.Record.{Record}
 use Rattle.rules.specs.declared.Reply.{Reply}
 use Rattle.rules.specs.declared.Reply.TheVariants.{Booked, Listed}
@@ -96,110 +96,110 @@ standing day r = record {
   side = pos 1;
   quantity = r.quantity;
   price = pos 5;
-  long = cond (eqZ r.kind separationKind) (pos 0) r.quantity;
+  long = cond (eq_z r.kind separation_kind) (pos 0) r.quantity;
   short = pos 0;
   into = pos 0;
   day = r.day;
 }
 
-abbrev pub standingOf : ℤ → List Row → List Record
-standingOf day [] = []
-standingOf day (r ∷ rest) = cond (in_range (pos 1) day r.day) (standing day r ∷ standingOf day rest) (standingOf day rest)
+abbrev pub standing_of : ℤ → List Row → List Record
+standing_of day [] = []
+standing_of day (r ∷ rest) = cond (in_range (pos 1) day r.day) (standing day r ∷ standing_of day rest) (standing_of day rest)
 
 -- The records at the end of a day, and the suffixes that are reported then.
-abbrev pub recordsAtEnd : ℤ → List Record
-recordsAtEnd day = standingOf day sample
+abbrev pub records_at_end : ℤ → List Record
+records_at_end day = standing_of day sample
 
-abbrev pub reportedAtEnd : ℤ → List ℤ
-reportedAtEnd day = map (λ (r : Record). r.suffix) (reportableRecords day (recordsAtEnd day))
+abbrev pub reported_at_end : ℤ → List ℤ
+reported_at_end day = map (λ (r : Record). r.suffix) (reportable_records day (records_at_end day))
 
 -- 002's rows with "Yes" in the column "Report?".
-abbrev pub firstList : List ℕ
-firstList = 2 ∷ 7 ∷ 9 ∷ 13 ∷ []
+abbrev pub first_list : List ℕ
+first_list = 2 ∷ 7 ∷ 9 ∷ 13 ∷ []
 
-abbrev pub secondList : List ℕ
-secondList = 14 ∷ 15 ∷ 16 ∷ 17 ∷ 20 ∷ []
+abbrev pub second_list : List ℕ
+second_list = 14 ∷ 15 ∷ 16 ∷ 17 ∷ 20 ∷ []
 
-abbrev pub thirdList : List ℕ
-thirdList = 21 ∷ 22 ∷ 23 ∷ 24 ∷ 25 ∷ 26 ∷ []
+abbrev pub third_list : List ℕ
+third_list = 21 ∷ 22 ∷ 23 ∷ 24 ∷ 25 ∷ 26 ∷ []
 
 -- ---- the history
 
 -- A give-up of a suffix from account 1 to account 2, all its steps.
 abbrev pub steps : (process suffix : ℤ) → List Request
 steps process suffix =
-    map (λ step. giveUp step process (pos 123456) suffix (pos 1) (pos 2) (pos 1)) (Open ∷ Claim ∷ ApproveGiver ∷ ApproveTaker ∷ [])
+    map (λ step. give_up step process (pos 123456) suffix (pos 1) (pos 2) (pos 1)) (Open ∷ Claim ∷ ApproveGiver ∷ ApproveTaker ∷ [])
 
 abbrev pub stepped : List Reply
 stepped = Booked (pos 0) (pos 0) ∷ Booked (pos 0) (pos 0) ∷ Booked (pos 0) (pos 0) ∷ Booked (pos 2) (pos 0) ∷ []
 
 -- A give-up that is done.
-abbrev pub doneFor : (number suffix : ℕ) → List ℤ
-doneFor number suffix = process (pos number) (pos 123456) (pos suffix) (pos 1) (pos 2) (pos 1) (pos 1) (pos 1) (pos 0)
+abbrev pub done_for : (number suffix : ℕ) → List ℤ
+done_for number suffix = process (pos number) (pos 123456) (pos suffix) (pos 1) (pos 2) (pos 1) (pos 1) (pos 1) (pos 0)
 
 -- Room for 27 records, three positions and seven processes: the records of the table at the end of a day, with so many cells that hold no row.
-abbrev pub atEnd : (day : ℤ) → (unused : ℕ) → (positions processes : List ℤ) → Tables
-atEnd day unused positions processes =
-    allTables (pos (length (recordsAtEnd day)) ∷ day ∷ joined (map recordCells (recordsAtEnd day)) ++ replicate unused (minus 1)) positions processes
+abbrev pub at_end : (day : ℤ) → (unused : ℕ) → (positions processes : List ℤ) → Tables
+at_end day unused positions processes =
+    all_tables (pos (length (records_at_end day)) ∷ day ∷ joined (map record_cells (records_at_end day)) ++ replicate unused (minus 1)) positions processes
 
 -- What an account holds.
 abbrev pub held : (account long value : ℕ) → List ℤ
 held account long value = position (pos account) (pos 1) (pos long) (pos 0) (pos 0) (pos long) (pos value)
 
 abbrev pub empty : Tables
-empty = atEnd (pos 0) 378 (table 0 [] 21) (table 0 [] 63)
+empty = at_end (pos 0) 378 (table 0 [] 21) (table 0 [] 63)
 
-abbrev pub firstEnd : Tables
-firstEnd = atEnd (pos 1) 182 (table 3 (held 1 40 200 ∷ held 2 40 200 ∷ held 3 20 100 ∷ []) 0) (table 3 (doneFor 1 3 ∷ doneFor 2 5 ∷ doneFor 3 4 ∷ []) 36)
+abbrev pub first_end : Tables
+first_end = at_end (pos 1) 182 (table 3 (held 1 40 200 ∷ held 2 40 200 ∷ held 3 20 100 ∷ []) 0) (table 3 (done_for 1 3 ∷ done_for 2 5 ∷ done_for 3 4 ∷ []) 36)
 
-abbrev pub secondEnd : Tables
-secondEnd =
-    atEnd (pos 2) 84 (table 3 (held 1 36 180 ∷ held 2 44 220 ∷ held 3 20 100 ∷ []) 0) (table 4 (doneFor 1 3 ∷ doneFor 2 5 ∷ doneFor 3 4 ∷ doneFor 4 18 ∷ []) 27)
+abbrev pub second_end : Tables
+second_end =
+    at_end (pos 2) 84 (table 3 (held 1 36 180 ∷ held 2 44 220 ∷ held 3 20 100 ∷ []) 0) (table 4 (done_for 1 3 ∷ done_for 2 5 ∷ done_for 3 4 ∷ done_for 4 18 ∷ []) 27)
 
-abbrev pub thirdEnd : Tables
-thirdEnd =
-    atEnd (pos 3) 0 (table 3 (held 1 0 0 ∷ held 2 80 400 ∷ held 3 20 100 ∷ []) 0)
-    (table 7 (doneFor 1 3 ∷ doneFor 2 5 ∷ doneFor 3 4 ∷ doneFor 4 18 ∷ doneFor 5 15 ∷ doneFor 6 17 ∷ doneFor 7 16 ∷ []) 0)
+abbrev pub third_end : Tables
+third_end =
+    at_end (pos 3) 0 (table 3 (held 1 0 0 ∷ held 2 80 400 ∷ held 3 20 100 ∷ []) 0)
+    (table 7 (done_for 1 3 ∷ done_for 2 5 ∷ done_for 3 4 ∷ done_for 4 18 ∷ done_for 5 15 ∷ done_for 6 17 ∷ done_for 7 16 ∷ []) 0)
 
 -- The trade, its separation into four, the give-ups of 3, 5 and 4, and the transfer of what was taken up as 11.
-abbrev pub firstDay : Example
-firstDay = record {
+abbrev pub first_day : Example
+first_day = record {
   start = empty;
   requests =
-      newDay (pos 1)
+      new_day (pos 1)
       ∷ trade (pos 123456) (pos 1) (pos 1) (pos 1) (pos 100) (pos 5)
       ∷ separate (pos 123456) (pos 0) (pos 1) (pos 1) (pos 40 ∷ pos 30 ∷ pos 20 ∷ pos 10 ∷ [])
       ∷ steps (pos 1) (pos 3) ++ steps (pos 2) (pos 5) ++ steps (pos 3) (pos 4)
       ++ (transfer (pos 123456) (pos 11) (pos 2) (pos 3) (pos 1) ∷ []);
   replies = Booked (pos 0) (pos 0) ∷ Booked (pos 1) (pos 0) ∷ Booked (pos 5) (pos 0) ∷ stepped ++ stepped ++ stepped ++ (Booked (pos 2) (pos 0) ∷ []);
-  finish = firstEnd;
+  finish = first_end;
 }
 
 -- The separation of 2 into four, and the give-up of 18.
-abbrev pub secondDay : Example
-secondDay = record {
-  start = firstEnd;
-  requests = newDay (pos 2) ∷ separate (pos 123456) (pos 2) (pos 1) (pos 1) (pos 16 ∷ pos 12 ∷ pos 8 ∷ pos 4 ∷ []) ∷ steps (pos 4) (pos 18);
+abbrev pub second_day : Example
+second_day = record {
+  start = first_end;
+  requests = new_day (pos 2) ∷ separate (pos 123456) (pos 2) (pos 1) (pos 1) (pos 16 ∷ pos 12 ∷ pos 8 ∷ pos 4 ∷ []) ∷ steps (pos 4) (pos 18);
   replies = Booked (pos 0) (pos 0) ∷ Booked (pos 5) (pos 0) ∷ stepped;
-  finish = secondEnd;
+  finish = second_end;
 }
 
 -- The give-ups of 15, 17 and 16.
-abbrev pub thirdDay : Example
-thirdDay = record {
-  start = secondEnd;
-  requests = newDay (pos 3) ∷ steps (pos 5) (pos 15) ++ steps (pos 6) (pos 17) ++ steps (pos 7) (pos 16);
+abbrev pub third_day : Example
+third_day = record {
+  start = second_end;
+  requests = new_day (pos 3) ∷ steps (pos 5) (pos 15) ++ steps (pos 6) (pos 17) ++ steps (pos 7) (pos 16);
   replies = Booked (pos 0) (pos 0) ∷ stepped ++ stepped ++ stepped;
-  finish = thirdEnd;
+  finish = third_end;
 }
 
 -- The list that is answered at a day's end, to six pairs of cells; and as it should be, its suffixes given.
-abbrev pub listAt : Tables → Answer
-listAt t = handleCall t (reportable 12)
+abbrev pub list_at : Tables → Answer
+list_at t = handle_call t (reportable 12)
 
-abbrev pub pairsOf : List ℕ → List ℤ
-pairsOf [] = []
-pairsOf (suffix ∷ rest) = pos 123456 ∷ pos suffix ∷ pairsOf rest
+abbrev pub pairs_of : List ℕ → List ℤ
+pairs_of [] = []
+pairs_of (suffix ∷ rest) = pos 123456 ∷ pos suffix ∷ pairs_of rest
 
 abbrev pub list_of : Tables → List ℕ → Answer
-list_of t suffixes = record { reply = Listed (pos (length suffixes)); output = pairsOf suffixes; tables = t }
+list_of t suffixes = record { reply = Listed (pos (length suffixes)); output = pairs_of suffixes; tables = t }

@@ -9,41 +9,41 @@ use lib.ListN.{length, take, drop, get_or, length-append, take-append-drop}
 use lib.Seq.{take-suc}
 use lib.Signed.{◌≤ℤ◌, ◌<ℤ◌}
 use Rattle.integers.proofs.Linear.{zarith}
-use Rattle.text.specs.Decimal.{minus, digitsOf, numberText}
-use Rattle.text.specs.Fields.{tab, fieldsText}
+use Rattle.text.specs.Decimal.{minus, digits_of, number_text}
+use Rattle.text.specs.Fields.{tab, fields_text}
 
-pub below-zero : (z : ℤ) → z <ℤ pos 0 → numberText z ≡ minus ∷ digitsOf (nat_abs z)
-unfolding numberText
+pub below-zero : (z : ℤ) → z <ℤ pos 0 → number_text z ≡ minus ∷ digits_of (nat_abs z)
+unfolding number_text
 below-zero (pos n) below = absurd (omega (zarith, below))
 below-zero (negsuc n) below = refl
 
-pub not-below-zero : (z : ℤ) → pos 0 ≤ℤ z → numberText z ≡ digitsOf (nat_abs z)
-unfolding numberText
+pub not-below-zero : (z : ℤ) → pos 0 ≤ℤ z → number_text z ≡ digits_of (nat_abs z)
+unfolding number_text
 not-below-zero (pos n) left = refl
 not-below-zero (negsuc n) left = absurd (omega (zarith, left))
 
-pub fields-append : (a b : List ℤ) → fieldsText (a ++ b) ≡ fieldsText a ++ fieldsText b
-unfolding fieldsText
+pub fields-append : (a b : List ℤ) → fields_text (a ++ b) ≡ fields_text a ++ fields_text b
+unfolding fields_text
 fields-append [] b = refl
 fields-append (z ∷ a) b = rw (fields-append a b) (simp append_assoc)
 
 -- The fields so far and the next one.
 pub fields-next : (figures : List ℤ) (i : ℕ) → i < length figures
-    → fieldsText (take (i + 1) figures) ≡ fieldsText (take i figures) ++ (tab ∷ numberText (get_or figures i (pos 0)))
-unfolding fieldsText
+    → fields_text (take (i + 1) figures) ≡ fields_text (take i figures) ++ (tab ∷ number_text (get_or figures i (pos 0)))
+unfolding fields_text
 fields-next figures i h = rw (add-one i, take-suc figures i (pos 0), fields-append) (simp append-nil)
 
 pub width-next : (figures : List ℤ) (i : ℕ) → i < length figures
-    → length (fieldsText (take (i + 1) figures)) ≡ length (fieldsText (take i figures)) + (1 + length (numberText (get_or figures i (pos 0))))
+    → length (fields_text (take (i + 1) figures)) ≡ length (fields_text (take i figures)) + (1 + length (number_text (get_or figures i (pos 0))))
 width-next figures i h =
     omega (
       arith,
       ap length (fields-next figures i h),
-      length-append (fieldsText (take i figures)) (tab ∷ numberText (get_or figures i (pos 0))),
+      length-append (fields_text (take i figures)) (tab ∷ number_text (get_or figures i (pos 0))),
     )
 
 -- Some of the fields are no longer than all of them.
-pub fields_within : (figures : List ℤ) (i : ℕ) → length (fieldsText (take i figures)) ≤ length (fieldsText figures)
+pub fields_within : (figures : List ℤ) (i : ℕ) → length (fields_text (take i figures)) ≤ length (fields_text figures)
 fields_within figures i =
-    let all : fieldsText figures ≡ fieldsText (take i figures) ++ fieldsText (drop i figures) = rw (← fields-append (take i figures) (drop i figures), take-append-drop i figures) in
-    omega (arith, ap length all, length-append (fieldsText (take i figures)) (fieldsText (drop i figures)))
+    let all : fields_text figures ≡ fields_text (take i figures) ++ fields_text (drop i figures) = rw (← fields-append (take i figures) (drop i figures), take-append-drop i figures) in
+    omega (arith, ap length all, length-append (fields_text (take i figures)) (fields_text (drop i figures)))

@@ -1,7 +1,7 @@
 // Numbers and fields put into a text at a place, and how many bytes they take. Who writes sums the widths first, so that a text too short stays as it was.
 ghost use Rattle.std.specs.Prelude.{◌+◌, ◌*◌, ◌≤◌, ◌≡◌, [], ◌∷◌, nat_abs, length};
-ghost use Rattle.text.specs.Decimal.{digitsOf, numberText};
-ghost use Rattle.text.specs.Fields.{fieldsText};
+ghost use Rattle.text.specs.Decimal.{digits_of, number_text};
+ghost use Rattle.text.specs.Fields.{fields_text};
 ghost use Rattle.text.specs.Written.{written};
 
 // The number without its sign.
@@ -16,7 +16,7 @@ fn magnitude(z: i64) -> u64
 }
 
 fn digits_width(n: u64) -> usize
-    ensures { (result ≡ length (digitsOf n)) × (result ≤ 20) }
+    ensures { (result ≡ length (digits_of n)) × (result ≤ 20) }
 {
     let mut width = 1;
     let mut left = n / 10;
@@ -29,7 +29,7 @@ fn digits_width(n: u64) -> usize
 
 // How many bytes a number takes.
 pub fn number_width(z: i64) -> usize
-    ensures { (result ≡ length (numberText z)) × (result ≤ 21) }
+    ensures { (result ≡ length (number_text z)) × (result ≤ 21) }
 {
     let width = digits_width(magnitude(z));
     if z < 0 { width + 1 } else { width }
@@ -38,7 +38,7 @@ pub fn number_width(z: i64) -> usize
 // How many bytes fields take, each with its tab.
 pub fn fields_width(figures: &[i64]) -> usize
     requires { length figures.now ≤ 100000 }
-    ensures { (result ≡ length (fieldsText figures.now)) × (result ≤ 22 * length figures.now) }
+    ensures { (result ≡ length (fields_text figures.now)) × (result ≤ 22 * length figures.now) }
 {
     let mut width = 0;
     let mut i = 0;
@@ -61,8 +61,8 @@ pub fn write_byte(text: &mut [u8], at: usize, b: u8) -> usize
 
 // The last digit after those before it.
 fn write_digits(text: &mut [u8], at: usize, n: u64) -> usize
-    requires { at + length (digitsOf n) ≤ length text.old }
-    ensures { (result ≡ at + length (digitsOf n)) × (text.new ≡ written (digitsOf n) at text.old) }
+    requires { at + length (digits_of n) ≤ length text.old }
+    ensures { (result ≡ at + length (digits_of n)) × (text.new ≡ written (digits_of n) at text.old) }
 {
     if n < 10 {
         return write_byte(text, at, 48 + (n as u8));
@@ -72,8 +72,8 @@ fn write_digits(text: &mut [u8], at: usize, n: u64) -> usize
 }
 
 pub fn write_number(text: &mut [u8], at: usize, z: i64) -> usize
-    requires { at + length (numberText z) ≤ length text.old }
-    ensures { (result ≡ at + length (numberText z)) × (text.new ≡ written (numberText z) at text.old) }
+    requires { at + length (number_text z) ≤ length text.old }
+    ensures { (result ≡ at + length (number_text z)) × (text.new ≡ written (number_text z) at text.old) }
 {
     let negative = z < 0;
     if negative {
@@ -85,8 +85,8 @@ pub fn write_number(text: &mut [u8], at: usize, z: i64) -> usize
 
 // Fields that follow another one, each after its tab.
 pub fn write_fields(text: &mut [u8], at: usize, figures: &[i64]) -> usize
-    requires { at + length (fieldsText figures.now) ≤ length text.old }
-    ensures { (result ≡ at + length (fieldsText figures.now)) × (text.new ≡ written (fieldsText figures.now) at text.old) }
+    requires { at + length (fields_text figures.now) ≤ length text.old }
+    ensures { (result ≡ at + length (fields_text figures.now)) × (text.new ≡ written (fields_text figures.now) at text.old) }
 {
     let mut next = at;
     let mut i = 0;

@@ -1,13 +1,13 @@
 // A line of a journal: its heading, its figures in two lists, one after the other, and the newline.
 ghost use Rattle.std.specs.Prelude.{◌+◌, ◌*◌, ◌≤◌, ◌≡◌, ◌++◌, length};
 ghost use Rattle.text.specs.Written.{written};
-ghost use Rattle.rules.specs.Line.{stepLetter, headingText, lineText};
+ghost use Rattle.rules.specs.Line.{step_letter, heading_text, line_text};
 
 use crate::fields;
 use rules::{Heading, Step};
 
 fn step_letter(step: Step) -> u8
-    ensures { result ≡ stepLetter step }
+    ensures { result ≡ step_letter step }
 {
     match step {
         Step::Open => 79,
@@ -20,7 +20,7 @@ fn step_letter(step: Step) -> u8
 }
 
 fn heading_width(heading: Heading) -> usize
-    ensures { (result ≡ length (headingText heading)) × (result ≤ 3) }
+    ensures { (result ≡ length (heading_text heading)) × (result ≤ 3) }
 {
     match heading {
         Heading::Trade => 1,
@@ -35,14 +35,14 @@ fn heading_width(heading: Heading) -> usize
 // How many bytes a line takes.
 pub fn line_width(heading: Heading, figures: &[i64], more: &[i64]) -> usize
     requires { (length figures.now ≤ 100000) × (length more.now ≤ 100000) }
-    ensures { (result ≡ length (lineText heading (figures.now ++ more.now))) × (result ≤ 4 + 22 * (length figures.now + length more.now)) }
+    ensures { (result ≡ length (line_text heading (figures.now ++ more.now))) × (result ≤ 4 + 22 * (length figures.now + length more.now)) }
 {
     heading_width(heading) + fields::fields_width(figures) + fields::fields_width(more) + 1
 }
 
 fn write_heading(text: &mut [u8], at: usize, heading: Heading) -> usize
-    requires { at + length (headingText heading) ≤ length text.old }
-    ensures { (result ≡ at + length (headingText heading)) × (text.new ≡ written (headingText heading) at text.old) }
+    requires { at + length (heading_text heading) ≤ length text.old }
+    ensures { (result ≡ at + length (heading_text heading)) × (text.new ≡ written (heading_text heading) at text.old) }
 {
     match heading {
         Heading::Trade => fields::write_byte(text, at, 84),
@@ -67,8 +67,8 @@ pub fn write_line(
     figures: &[i64],
     more: &[i64],
 ) -> usize
-    requires { at + length (lineText heading (figures.now ++ more.now)) ≤ length text.old }
-    ensures { (result ≡ at + length (lineText heading (figures.now ++ more.now))) × (text.new ≡ written (lineText heading (figures.now ++ more.now)) at text.old) }
+    requires { at + length (line_text heading (figures.now ++ more.now)) ≤ length text.old }
+    ensures { (result ≡ at + length (line_text heading (figures.now ++ more.now))) × (text.new ≡ written (line_text heading (figures.now ++ more.now)) at text.old) }
 {
     let first = write_heading(&mut *text, at, heading);
     let second = fields::write_fields(&mut *text, first, figures);

@@ -12,7 +12,7 @@ use mir.Syntax.{w64}
 use mir.Val.{to_z}
 use Rattle.rules.specs.Tables.{Tables, tables_of}
 use Rattle.rules.specs.Left.{left}
-use Rattle.rules.specs.Batch.{tradeAt, tradeCount}
+use Rattle.rules.specs.Batch.{trade_at, trade_count}
 use Rattle.rules.specs.declared.Reply.TheVariants as Reply
 use Rattle.scan.proofs.ReadBack.{read_back}
 use Rattle.batch.specs.BookedSoundly.{BookedSoundly}
@@ -26,7 +26,7 @@ abbrev invariant-loop : tie.invariant-loop
 invariant-loop records₀ positions₀ trades excess₀ count i₀ records positions excess i = BookedSoFar (tables_of records₀ positions₀) trades excess₀ records positions excess i
 
 abbrev decreases-loop : tie.decreases-loop
-decreases-loop records₀ positions₀ trades excess₀ count i₀ records positions excess i = tradeCount trades - i
+decreases-loop records₀ positions₀ trades excess₀ count i₀ records positions excess i = trade_count trades - i
 
 module _ (s : tie.Start invariant-loop decreases-loop) where
   abbrev start : Tables
@@ -35,7 +35,7 @@ module _ (s : tie.Start invariant-loop decreases-loop) where
   abbrev list : List ℤ
   list = s.args.trades.now
 
-  fits : (tradeCount list ≤ 1000) × (tradeCount list ≤ length s.args.excess.now)
+  fits : (trade_count list ≤ 1000) × (trade_count list ≤ length s.args.excess.now)
   fits = trades-fit list (length s.args.excess.now) s.pre.2
 
 abbrev turn : tie.After-book-trade invariant-loop decreases-loop → tie.In-loop invariant-loop decreases-loop
@@ -44,7 +44,7 @@ turn c = c.before.before.before
 -- What the turn's trade came to.
 abbrev Became : tie.After-book-trade invariant-loop decreases-loop → Outcome → Type 0
 Became c outcome =
-    BookedSoundly (tables_of (turn c).before.loop.records (turn c).before.loop.positions) (tradeAt (list (turn c).before.before) ((turn c).before.loop.i * 6))
+    BookedSoundly (tables_of (turn c).before.loop.records (turn c).before.loop.positions) (trade_at (list (turn c).before.before) ((turn c).before.loop.i * 6))
     outcome (tables_of c.book-trade.new.0 c.book-trade.new.1.0)
 
 became : (c : tie.After-book-trade invariant-loop decreases-loop) → Became c c.book-trade.result
@@ -114,7 +114,7 @@ returns-2 : tie.Need-returns-2 invariant-loop decreases-loop
 returns-2 c =
     let l : tie.At-loop invariant-loop decreases-loop = c.before in
     let s : tie.Start invariant-loop decreases-loop = l.before in
-    let small : tradeCount (list s) < 2 ^ 63 = omega (arith, (fits s).0) in
+    let small : trade_count (list s) < 2 ^ 63 = omega (arith, (fits s).0) in
     ap (λ (rows : ℤ). left (Reply.Booked rows (pos 0)) l.loop.excess l.loop.records l.loop.positions) (to_z_pos w64 small)
     ∙ all-booked (start s) (list s) s.args.excess.now l.loop.records l.loop.positions l.loop.excess l.loop.i l.loop.invariant c.loop-test.false l.loop.invariant.within
 

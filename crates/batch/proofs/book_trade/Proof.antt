@@ -8,9 +8,9 @@ use mir.Facts.{to_z-of_z}
 use mir.Syntax.{w64}
 use mir.Val.{SFits}
 use Rattle.rules.specs.Handle.{Answer, answered}
-use Rattle.rules.specs.Batch.{tradeAt}
+use Rattle.rules.specs.Batch.{trade_at}
 use Rattle.verdict.specs.HandledSoundly.{HandledSoundly}
-use Rattle.batch.specs.Outcome.{outcomeOf}
+use Rattle.batch.specs.Outcome.{outcome_of}
 use Rattle.batch.proofs.book_trade.Statement.{statement}
 use Rattle.batch.proofs.book_trade.Tie as tie
 
@@ -43,7 +43,7 @@ abbrev at-price : tie.After-on-sound → tie.After-price
 at-price c = c.before.before.before
 
 -- The trade's own promise, of the figures as they stand in the list.
-handled : (c : tie.After-on-sound) → HandledSoundly (s (at-price c)).args.records.now (s (at-price c)).args.positions.now (tradeAt (s (at-price c)).args.trades.now (s (at-price c)).args.at)
+handled : (c : tie.After-on-sound) → HandledSoundly (s (at-price c)).args.records.now (s (at-price c)).args.positions.now (trade_at (s (at-price c)).args.trades.now (s (at-price c)).args.at)
     (answered c.on-sound.result c.on-sound.new.0 c.on-sound.new.1.0)
 handled c =
     let p : tie.After-price = at-price c in
@@ -53,7 +53,7 @@ returns : tie.Need-returns
 returns c =
     let h = handled c.before.before.before in
     record {
-      outcome = c.outcome-of.ensures ∙ ap (λ (a : Answer). outcomeOf a.reply) h.handled;
+      outcome = c.outcome-of.ensures ∙ ap (λ (a : Answer). outcome_of a.reply) h.handled;
       tables = ap (λ (a : Answer). a.tables) h.handled;
       records-sound = h.records-sound;
       positions-sound = h.positions-sound;

@@ -7,20 +7,20 @@ use borrow.Author.Tests.{eq-eqb, ne_eqb, le-leb, lt-leb}
 use lib.Dec.{eqb, leb}
 use lib.IntN.{ℤ}
 use lib.ListN.{length, drop}
-use Rattle.rules.specs.Batch.{tradeCount, batchFigures}
+use Rattle.rules.specs.Batch.{trade_count, batch_figures}
 use Rattle.figures.proofs.Chain.{Remaining, goes_on, stops, ends}
 use Rattle.batch.proofs.figures_valid.Statement.{statement}
 use Rattle.batch.proofs.figures_valid.Tie as tie
 
 -- The tests, in the order of the code, and what remains after so many of them.
 abbrev tests : List ℤ → ℕ → List Bool
-tests trades cells = eqb (length trades % 6) 0 ∷ leb 1 (tradeCount trades) ∷ leb (tradeCount trades) 1000 ∷ leb (tradeCount trades) cells ∷ []
+tests trades cells = eqb (length trades % 6) 0 ∷ leb 1 (trade_count trades) ∷ leb (trade_count trades) 1000 ∷ leb (trade_count trades) cells ∷ []
 
 abbrev After : ℕ → tie.Start → Type 0
-After k s = Remaining (batchFigures s.args.trades.now s.args.cells) (drop k (tests s.args.trades.now s.args.cells))
+After k s = Remaining (batch_figures s.args.trades.now s.args.cells) (drop k (tests s.args.trades.now s.args.cells))
 
 all-remain : (s : tie.Start) → After 0 s
-unfolding batchFigures
+unfolding batch_figures
 all-remain s = record { is = refl }
 
 after1 : (c : tie.Else1) → After 1 c.before

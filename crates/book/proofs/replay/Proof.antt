@@ -2,21 +2,21 @@
 use mathlib.Core.Path.{sym, ◌∙◌, ap}
 use borrow.Author.Rules.{rules}
 use borrow.Author.Tests.{not-true, not-false}
-use Rattle.rules.specs.Call.{handleCall}
-use Rattle.rules.specs.Handle.{answeredBy}
-use Rattle.rules.specs.Tables.{Tables, allTables}
+use Rattle.rules.specs.Call.{handle_call}
+use Rattle.rules.specs.Handle.{answered_by}
+use Rattle.rules.specs.Tables.{Tables, all_tables}
 use Rattle.rules.specs.declared.Reply.{Reply}
 use Rattle.replaying.proofs.AtOnce.{at_once}
 use Rattle.book.proofs.replay.Statement.{statement}
 use Rattle.book.proofs.replay.Tie as tie
 
 returns : tie.Need-returns
-unfolding handleCall
+unfolding handle_call
 returns c =
     let t : tie.Then1 = c.before in
     let s : tie.Start = t.before.before.before.before in
-    let tables : Tables = allTables s.args.records.now s.args.positions.now s.args.processes.now in
-    ap (λ (r : Reply). answeredBy r tables) c.on-unsound-records.ensures
+    let tables : Tables = all_tables s.args.records.now s.args.positions.now s.args.processes.now in
+    ap (λ (r : Reply). answered_by r tables) c.on-unsound-records.ensures
     ∙ at_once tables (sym t.before.records-sound.ensures ∙ not-true t.before.records-sound.result t.if1.true) s.args.text.now
 
 on-sound-records-requires : tie.Need-on-sound-records-requires
@@ -27,7 +27,7 @@ on-sound-records-requires c κs =
     (sym e.before.records-sound.ensures ∙ not-false e.before.records-sound.result e.if1.false, p.positions-sound.ensures, q.processes-sound.ensures)
 
 returns-2 : tie.Need-returns-2
-unfolding handleCall
+unfolding handle_call
 returns-2 c = c.before.before.before.on-sound-records.ensures
 
 pub replay-spec : {M : Type 1} → statement M

@@ -1,7 +1,7 @@
 -- `book::trades` meets its contract: refused by tests 1 and 2, or the batch's own call on sound tables. Assumes nothing.
 use lib.IntN.{ℤ}
 use borrow.Author.Rules.{rules}
-use Rattle.rules.specs.Call.{handleCall}
+use Rattle.rules.specs.Call.{handle_call}
 use Rattle.scan.proofs.ReadBack.{read_back}
 use Rattle.verdict.proofs.Handled.{sound-accepted}
 use Rattle.batch.proofs.Handled.{unsound-left}
@@ -21,7 +21,7 @@ returns c =
     (unsound-left _ _ _ _ _ c.before.before.before.verdict-on-tables.ensures number place c.before.number.given.1)
 
 returns-2 : tie.Need-returns-2
-unfolding handleCall
+unfolding handle_call
 returns-2 c = c.before.before.before.on-sound.ensures
 
 pub trades-spec : {M : Type 1} → statement M

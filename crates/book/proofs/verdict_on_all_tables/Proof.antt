@@ -2,7 +2,7 @@
 use mathlib.Core.Path.{◌≡◌, sym, ◌∙◌}
 use lib.IntN.{ℤ}
 use borrow.Author.Rules.{rules}
-use Rattle.verdict.specs.Verdict.{verdictOnTables}
+use Rattle.verdict.specs.Verdict.{verdict_on_tables}
 use Rattle.verdict.specs.declared.Verdict.TheVariants.{Accepted}
 use Rattle.scan.proofs.ReadBack.{read_back}
 use Rattle.give_up_steps.proofs.OnAllTables.{two-refuse, third-refuses, third-accepts}
@@ -17,7 +17,7 @@ returns c =
     (sym (two-refuse _ _ _ number place (sym c.before.before.before.verdict-on-tables.ensures ∙ c.before.number.given.1)))
 
 module _ (c : tie.After-processes-sound) where
-  two-accept : verdictOnTables c.before.before.before.before.args.records.now c.before.before.before.before.args.positions.now ≡ Accepted
+  two-accept : verdict_on_tables c.before.before.before.before.args.records.now c.before.before.before.before.args.positions.now ≡ Accepted
   two-accept = sym c.before.before.before.verdict-on-tables.ensures ∙ c.before.enum_told.given.1
 
 returns-2 : tie.Need-returns-2

@@ -2,31 +2,31 @@
 use mathlib.Core.Path.{◌≡◌}
 use mathlib.Core.Bool.{true, false, not}
 use borrow.Author.Rules.{rules}
-use Rattle.rules.specs.Refusal.{test, firstRefusal}
-use Rattle.rules.specs.Tables.{soundRecords, soundPositions}
-use Rattle.verdict.specs.Verdict.{verdictOf, verdictOnTables}
+use Rattle.rules.specs.Refusal.{test, first_refusal}
+use Rattle.rules.specs.Tables.{sound_records, sound_positions}
+use Rattle.verdict.specs.Verdict.{verdict_of, verdict_on_tables}
 use Rattle.book.proofs.verdict_on_tables.Statement.{statement}
 use Rattle.book.proofs.verdict_on_tables.Tie as tie
 
-records-pass : (c : tie.Else1) → not (soundRecords c.before.before.args.records.now) ≡ false
+records-pass : (c : tie.Else1) → not (sound_records c.before.before.args.records.now) ≡ false
 records-pass c = cc
 
 returns : tie.Need-returns
-unfolding verdictOnTables firstRefusal test verdictOf
+unfolding verdict_on_tables first_refusal test verdict_of
 returns c =
-    let fails : not (soundRecords c.before.before.args.records.now) ≡ true = cc in
+    let fails : not (sound_records c.before.before.args.records.now) ≡ true = cc in
     rw fails
 
 returns-2 : tie.Need-returns-2
-unfolding verdictOnTables firstRefusal test verdictOf
+unfolding verdict_on_tables first_refusal test verdict_of
 returns-2 c =
-    let fails : not (soundPositions c.before.before.before.before.args.positions.now) ≡ true = cc in
+    let fails : not (sound_positions c.before.before.before.before.args.positions.now) ≡ true = cc in
     rw (records-pass c.before.before, fails)
 
 returns-3 : tie.Need-returns-3
-unfolding verdictOnTables firstRefusal test verdictOf
+unfolding verdict_on_tables first_refusal test verdict_of
 returns-3 c =
-    let passes : not (soundPositions c.before.before.before.before.args.positions.now) ≡ false = cc in
+    let passes : not (sound_positions c.before.before.before.before.args.positions.now) ≡ false = cc in
     rw (records-pass c.before.before, passes)
 
 pub verdict-on-tables-spec : {M : Type 1} → statement M

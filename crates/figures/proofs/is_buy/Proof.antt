@@ -1,16 +1,16 @@
 -- `figures::is_buy` meets its contract: side 1 or side 3.
 -- Assumes nothing.
-use Rattle.rules.specs.Figures.{isBuy}
+use Rattle.rules.specs.Figures.{is_buy}
 use Rattle.figures.proofs.Tests.{is-literal, not-literal, literal-test}
 use Rattle.figures.proofs.is_buy.Statement.{statement}
 use Rattle.figures.proofs.is_buy.Tie as tie
 
 returns : tie.Need-returns
-unfolding isBuy
+unfolding is_buy
 returns c = simp (is-literal 1 tt c.before.ranges.side c.if1.true)
 
 returns-2 : tie.Need-returns-2
-unfolding isBuy
+unfolding is_buy
 returns-2 c = simp (not-literal 1 c.before.ranges.side c.if1.false, literal-test 3 tt c.before.ranges.side)
 
 pub is-buy-spec : {M : Type 1} → statement M

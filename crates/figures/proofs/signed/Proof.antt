@@ -9,25 +9,25 @@ use mir.Syntax.{w64}
 use mir.Val.{SFits}
 use Rattle.integers.proofs.Linear.{zarith, minus-lin}
 use Rattle.integers.proofs.Order.{in_range-true}
-use Rattle.rules.specs.Figures.{magnitudeAtMost, mostQuantity, isBuy, signed}
+use Rattle.rules.specs.Figures.{magnitude_at_most, most_quantity, is_buy, signed}
 use Rattle.figures.proofs.signed.Statement.{statement}
 use Rattle.figures.proofs.signed.Tie as tie
 
-bought : (side amount : ℤ) → isBuy side ≡ true → amount ≡ signed side amount
+bought : (side amount : ℤ) → is_buy side ≡ true → amount ≡ signed side amount
 unfolding signed
 bought side amount e = sym (ap (λ (buy : Bool). cond buy amount (neg_ℤ amount)) e)
 
-sold : (side amount : ℤ) → isBuy side ≡ false → pos 0 -ℤ amount ≡ signed side amount
+sold : (side amount : ℤ) → is_buy side ≡ false → pos 0 -ℤ amount ≡ signed side amount
 unfolding signed
 sold side amount e = +ℤ_idl (neg_ℤ amount) ∙ sym (ap (λ (buy : Bool). cond buy amount (neg_ℤ amount)) e)
 
-negated_fits : (amount : ℤ) → magnitudeAtMost mostQuantity amount ≡ true → SFits w64 (pos 0 -ℤ amount)
-unfolding magnitudeAtMost
+negated_fits : (amount : ℤ) → magnitude_at_most most_quantity amount ≡ true → SFits w64 (pos 0 -ℤ amount)
+unfolding magnitude_at_most
 negated_fits amount small =
     let range : (neg_ℤ (pos 1000000) ≤ℤ amount) × (amount ≤ℤ pos 1000000) = in_range-true (neg_ℤ (pos 1000000)) (pos 1000000) amount small in
     omega (zarith, minus-lin (pos 0) amount)
 
-buys : (c : tie.After-is-buy) → c.is-buy.result ≡ isBuy c.before.args.side
+buys : (c : tie.After-is-buy) → c.is-buy.result ≡ is_buy c.before.args.side
 buys c = simp (to_z-of_z c.before.ranges.side) at c.is-buy.ensures
 
 returns : tie.Need-returns

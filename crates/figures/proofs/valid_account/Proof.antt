@@ -2,12 +2,12 @@
 -- Assumes nothing.
 use borrow.Author.Rules.{rules}
 use mir.Facts.{to_z-of_z}
-use Rattle.rules.specs.Figures.{validAccount}
+use Rattle.rules.specs.Figures.{valid_account}
 use Rattle.figures.proofs.valid_account.Statement.{statement}
 use Rattle.figures.proofs.valid_account.Tie as tie
 
 returns : tie.Need-returns
-unfolding validAccount
+unfolding valid_account
 returns c = simp (to_z-of_z c.before.ranges.z) at c.in-range.ensures
 
 pub valid-account-spec : {M : Type 1} → statement M

@@ -2,12 +2,12 @@
 -- Assumes nothing.
 use borrow.Author.Rules.{rules}
 use mir.Facts.{to_z-of_z}
-use Rattle.rules.specs.ProcessRows.{validApproval}
+use Rattle.rules.specs.ProcessRows.{valid_approval}
 use Rattle.figures.proofs.valid_approval.Statement.{statement}
 use Rattle.figures.proofs.valid_approval.Tie as tie
 
 returns : tie.Need-returns
-unfolding validApproval
+unfolding valid_approval
 returns c = simp (to_z-of_z c.before.ranges.z) at c.in-range.ensures
 
 pub valid-approval-spec : {M : Type 1} → statement M

@@ -2,13 +2,13 @@
 -- Assumes nothing.
 use borrow.Author.Rules.{rules}
 use mir.Facts.{to_z-of_z}
-use Rattle.rules.specs.Figures.{magnitudeAtMost}
-use Rattle.rules.specs.Rows.{validBooked}
+use Rattle.rules.specs.Figures.{magnitude_at_most}
+use Rattle.rules.specs.Rows.{valid_booked}
 use Rattle.figures.proofs.valid_booked.Statement.{statement}
 use Rattle.figures.proofs.valid_booked.Tie as tie
 
 returns : tie.Need-returns
-unfolding validBooked magnitudeAtMost
+unfolding valid_booked magnitude_at_most
 returns c = simp (to_z-of_z c.before.ranges.z) at c.in-range.ensures
 
 pub valid-booked-spec : {M : Type 1} → statement M

@@ -2,12 +2,12 @@
 -- Assumes nothing.
 use borrow.Author.Rules.{rules}
 use mir.Facts.{to_z-of_z}
-use Rattle.rules.specs.Figures.{validDay}
+use Rattle.rules.specs.Figures.{valid_day}
 use Rattle.figures.proofs.valid_day.Statement.{statement}
 use Rattle.figures.proofs.valid_day.Tie as tie
 
 returns : tie.Need-returns
-unfolding validDay
+unfolding valid_day
 returns c = simp (to_z-of_z c.before.ranges.z) at c.in-range.ensures
 
 pub valid-day-spec : {M : Type 1} → statement M

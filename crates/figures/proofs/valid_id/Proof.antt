@@ -2,12 +2,12 @@
 -- Assumes nothing.
 use borrow.Author.Rules.{rules}
 use mir.Facts.{to_z-of_z}
-use Rattle.rules.specs.Figures.{validId}
+use Rattle.rules.specs.Figures.{valid_id}
 use Rattle.figures.proofs.valid_id.Statement.{statement}
 use Rattle.figures.proofs.valid_id.Tie as tie
 
 returns : tie.Need-returns
-unfolding validId
+unfolding valid_id
 returns c = simp (to_z-of_z c.before.ranges.z) at c.in-range.ensures
 
 pub valid-id-spec : {M : Type 1} → statement M

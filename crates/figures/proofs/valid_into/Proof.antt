@@ -2,17 +2,17 @@
 -- Assumes nothing.
 use borrow.Author.Rules.{rules}
 use mir.Facts.{to_z-of_z}
-use Rattle.rules.specs.Rows.{validInto}
+use Rattle.rules.specs.Rows.{valid_into}
 use Rattle.figures.proofs.Tests.{is-literal, not-literal}
 use Rattle.figures.proofs.valid_into.Statement.{statement}
 use Rattle.figures.proofs.valid_into.Tie as tie
 
 returns : tie.Need-returns
-unfolding validInto
+unfolding valid_into
 returns c = simp (is-literal 0 tt c.before.ranges.z c.if1.true)
 
 returns-2 : tie.Need-returns-2
-unfolding validInto
+unfolding valid_into
 returns-2 c =
     let s : tie.Start = c.before.before in
     simp (not-literal 0 s.ranges.z c.before.if1.false) (simp (to_z-of_z s.ranges.z) at c.valid-id.ensures)

@@ -2,12 +2,12 @@
 -- Assumes nothing.
 use borrow.Author.Rules.{rules}
 use mir.Facts.{to_z-of_z}
-use Rattle.rules.specs.Figures.{validPrice, magnitudeAtMost}
+use Rattle.rules.specs.Figures.{valid_price, magnitude_at_most}
 use Rattle.figures.proofs.valid_price.Statement.{statement}
 use Rattle.figures.proofs.valid_price.Tie as tie
 
 returns : tie.Need-returns
-unfolding validPrice magnitudeAtMost
+unfolding valid_price magnitude_at_most
 returns c = simp (to_z-of_z c.before.ranges.z) at c.in-range.ensures
 
 pub valid-price-spec : {M : Type 1} → statement M

@@ -2,12 +2,12 @@
 -- Assumes nothing.
 use borrow.Author.Rules.{rules}
 use mir.Facts.{to_z-of_z}
-use Rattle.rules.specs.Figures.{validQuantity}
+use Rattle.rules.specs.Figures.{valid_quantity}
 use Rattle.figures.proofs.valid_quantity.Statement.{statement}
 use Rattle.figures.proofs.valid_quantity.Tie as tie
 
 returns : tie.Need-returns
-unfolding validQuantity
+unfolding valid_quantity
 returns c = simp (to_z-of_z c.before.ranges.z) at c.in-range.ensures
 
 pub valid-quantity-spec : {M : Type 1} → statement M

@@ -2,12 +2,12 @@
 -- Assumes nothing.
 use borrow.Author.Rules.{rules}
 use mir.Facts.{to_z-of_z}
-use Rattle.rules.specs.Figures.{validSeries}
+use Rattle.rules.specs.Figures.{valid_series}
 use Rattle.figures.proofs.valid_series.Statement.{statement}
 use Rattle.figures.proofs.valid_series.Tie as tie
 
 returns : tie.Need-returns
-unfolding validSeries
+unfolding valid_series
 returns c = simp (to_z-of_z c.before.ranges.z) at c.in-range.ensures
 
 pub valid-series-spec : {M : Type 1} → statement M

@@ -2,12 +2,12 @@
 -- Assumes nothing.
 use borrow.Author.Rules.{rules}
 use mir.Facts.{to_z-of_z}
-use Rattle.rules.specs.Figures.{validSide}
+use Rattle.rules.specs.Figures.{valid_side}
 use Rattle.figures.proofs.valid_side.Statement.{statement}
 use Rattle.figures.proofs.valid_side.Tie as tie
 
 returns : tie.Need-returns
-unfolding validSide
+unfolding valid_side
 returns c = simp (to_z-of_z c.before.ranges.z) at c.in-range.ensures
 
 pub valid-side-spec : {M : Type 1} → statement M

@@ -2,12 +2,12 @@
 -- Assumes nothing.
 use borrow.Author.Rules.{rules}
 use mir.Facts.{to_z-of_z}
-use Rattle.rules.specs.Rows.{validStatus}
+use Rattle.rules.specs.Rows.{valid_status}
 use Rattle.figures.proofs.valid_status.Statement.{statement}
 use Rattle.figures.proofs.valid_status.Tie as tie
 
 returns : tie.Need-returns
-unfolding validStatus
+unfolding valid_status
 returns c = simp (to_z-of_z c.before.ranges.z) at c.in-range.ensures
 
 pub valid-status-spec : {M : Type 1} → statement M

@@ -2,12 +2,12 @@
 -- Assumes nothing.
 use borrow.Author.Rules.{rules}
 use mir.Facts.{to_z-of_z}
-use Rattle.rules.specs.Figures.{validSuffix}
+use Rattle.rules.specs.Figures.{valid_suffix}
 use Rattle.figures.proofs.valid_suffix.Statement.{statement}
 use Rattle.figures.proofs.valid_suffix.Tie as tie
 
 returns : tie.Need-returns
-unfolding validSuffix
+unfolding valid_suffix
 returns c = simp (to_z-of_z c.before.ranges.z) at c.in-range.ensures
 
 pub valid-suffix-spec : {M : Type 1} → statement M

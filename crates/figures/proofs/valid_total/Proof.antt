@@ -2,13 +2,13 @@
 -- Assumes nothing.
 use borrow.Author.Rules.{rules}
 use mir.Facts.{to_z-of_z}
-use Rattle.rules.specs.Figures.{magnitudeAtMost}
-use Rattle.rules.specs.Rows.{validTotal}
+use Rattle.rules.specs.Figures.{magnitude_at_most}
+use Rattle.rules.specs.Rows.{valid_total}
 use Rattle.figures.proofs.valid_total.Statement.{statement}
 use Rattle.figures.proofs.valid_total.Tie as tie
 
 returns : tie.Need-returns
-unfolding validTotal magnitudeAtMost
+unfolding valid_total magnitude_at_most
 returns c = simp (to_z-of_z c.before.ranges.z) at c.in-range.ensures
 
 pub valid-total-spec : {M : Type 1} → statement M

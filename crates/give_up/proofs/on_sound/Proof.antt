@@ -1,7 +1,7 @@
 -- `give_up::on_sound` meets its contract: each step by its own call. Assumes nothing.
 use mathlib.Core.Path.{sym, subst}
 use borrow.Author.Rules.{rules}
-use Rattle.rules.specs.Tables.{allTables}
+use Rattle.rules.specs.Tables.{all_tables}
 use Rattle.rules.specs.Handle.{Answer}
 use Rattle.rules.specs.declared.Step.{Step}
 use Rattle.give_up_steps.specs.HandledIn.{HandledIn}
@@ -12,7 +12,7 @@ use Rattle.give_up.proofs.on_sound.Tie as tie
 -- What was asked, for a step.
 module _ (s : tie.Start) (a : Answer) where
   abbrev Handled : Step → Type 0
-  Handled step = HandledIn (allTables s.args.records.now s.args.positions.now s.args.processes.now) (step_of step s.args.g) a
+  Handled step = HandledIn (all_tables s.args.records.now s.args.positions.now s.args.processes.now) (step_of step s.args.g) a
 
 returns : tie.Need-returns
 returns c =

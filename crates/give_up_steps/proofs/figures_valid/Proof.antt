@@ -3,27 +3,27 @@ use mathlib.Core.Path.{◌≡◌, sym, ◌∙◌, ap}
 use mathlib.Core.Bool.{true, false}
 use borrow.Author.Rules.{rules}
 use borrow.Author.Tests.{not-true, not-false}
-use Rattle.rules.specs.Figures.{validId}
-use Rattle.rules.specs.GiveUp.{giveUpFigures}
+use Rattle.rules.specs.Figures.{valid_id}
+use Rattle.rules.specs.GiveUp.{give_up_figures}
 use Rattle.scan.proofs.ReadBack.{read_back}
 use Rattle.give_up_steps.proofs.figures_valid.Statement.{statement}
 use Rattle.give_up_steps.proofs.figures_valid.Tie as tie
 
-process-test : (c : tie.After-valid-id) → c.valid-id.result ≡ validId c.before.before.args.g.process
-process-test c = c.valid-id.ensures ∙ ap validId (read_back c.before.before.args.g.process c.before.struct_told.given.0.1)
+process-test : (c : tie.After-valid-id) → c.valid-id.result ≡ valid_id c.before.before.args.g.process
+process-test c = c.valid-id.ensures ∙ ap valid_id (read_back c.before.before.args.g.process c.before.struct_told.given.0.1)
 
 returns : tie.Need-returns
-unfolding giveUpFigures
+unfolding give_up_figures
 returns c =
-    let fails : validId c.before.before.before.args.g.process ≡ false = sym (process-test c.before) ∙ not-true _ c.if1.true in
+    let fails : valid_id c.before.before.before.args.g.process ≡ false = sym (process-test c.before) ∙ not-true _ c.if1.true in
     rw fails
 
 returns-2 : tie.Need-returns-2
-unfolding giveUpFigures
+unfolding give_up_figures
 returns-2 c =
     let e : tie.Else1 = c.before.before.before.before.before.before in
     let s : tie.Start = e.before.before.before in
-    let passes : validId s.args.g.process ≡ true = sym (process-test e.before) ∙ not-false _ e.if1.false in
+    let passes : valid_id s.args.g.process ≡ true = sym (process-test e.before) ∙ not-false _ e.if1.false in
     rw passes
     (simp (
       read_back s.args.g.id e.before.before.struct_told.given.1.0.1,

@@ -6,7 +6,7 @@ use lib.IntN.{◌-ℤ◌, ◌*ℤ◌}
 use mir.Facts.{to_z-of_z}
 use mir.Syntax.{w64}
 use mir.Val.{SFits, to_z, of_z}
-use Rattle.integers.specs.Average.{averageOf}
+use Rattle.integers.specs.Average.{average_of}
 use Rattle.integers.proofs.AverageLaws.{residual-buy}
 use Rattle.integers.proofs.Rounding.{product-fits, above-fits, below-fits, sells}
 use Rattle.integers.proofs.residual.Statement.{statement}
@@ -20,21 +20,21 @@ module _ (a : tie.After-average) where
   q : to_z w64 (of_z w64 a.before.args.quantity) ≡ a.before.args.quantity
   q = to_z-of_z a.before.fits.quantity
 
-  r : to_z w64 (of_z w64 a.average.result) ≡ averageOf a.before.args.value a.before.args.quantity
+  r : to_z w64 (of_z w64 a.average.result) ≡ average_of a.before.args.value a.before.args.quantity
   r =
       let f : SFits w64 a.average.result = sfits_of a.average.ok in
       to_z-of_z f ∙ simp (v, q) at a.average.ensures
 
-  product : to_z w64 (of_z w64 (a.before.args.quantity *ℤ averageOf a.before.args.value a.before.args.quantity))
-      ≡ a.before.args.quantity *ℤ averageOf a.before.args.value a.before.args.quantity
+  product : to_z w64 (of_z w64 (a.before.args.quantity *ℤ average_of a.before.args.value a.before.args.quantity))
+      ≡ a.before.args.quantity *ℤ average_of a.before.args.value a.before.args.quantity
   product = to_z-of_z (product-fits _ _ a.before.pre)
 
-  above : to_z w64 (of_z w64 (a.before.args.quantity *ℤ averageOf a.before.args.value a.before.args.quantity -ℤ a.before.args.value))
-      ≡ a.before.args.quantity *ℤ averageOf a.before.args.value a.before.args.quantity -ℤ a.before.args.value
+  above : to_z w64 (of_z w64 (a.before.args.quantity *ℤ average_of a.before.args.value a.before.args.quantity -ℤ a.before.args.value))
+      ≡ a.before.args.quantity *ℤ average_of a.before.args.value a.before.args.quantity -ℤ a.before.args.value
   above = to_z-of_z (above-fits _ _ a.before.pre)
 
-  below : to_z w64 (of_z w64 (a.before.args.value -ℤ a.before.args.quantity *ℤ averageOf a.before.args.value a.before.args.quantity))
-      ≡ a.before.args.value -ℤ a.before.args.quantity *ℤ averageOf a.before.args.value a.before.args.quantity
+  below : to_z w64 (of_z w64 (a.before.args.value -ℤ a.before.args.quantity *ℤ average_of a.before.args.value a.before.args.quantity))
+      ≡ a.before.args.value -ℤ a.before.args.quantity *ℤ average_of a.before.args.value a.before.args.quantity
   below = to_z-of_z (below-fits _ _ a.before.pre)
 
 average-requires : tie.Need-average-requires

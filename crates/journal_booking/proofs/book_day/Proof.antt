@@ -5,13 +5,13 @@ use lib.ListN.{get_or}
 use mir.Facts.{to_z-of_z}
 use mir.Syntax.{w64}
 use mir.Val.{SFits}
-use Rattle.rules.specs.Reader.{requestNamed}
+use Rattle.rules.specs.Reader.{request_named}
 use Rattle.journal_booking.proofs.Booked.{day-booked}
 use Rattle.journal_booking.proofs.book_day.Statement.{statement}
 use Rattle.journal_booking.proofs.book_day.Tie as tie
 
 returns : tie.Need-returns
-unfolding requestNamed
+unfolding request_named
 returns c =
     let a : tie.After-on-sound = c.before.before in
     let d : tie.After-day = a.before.before in

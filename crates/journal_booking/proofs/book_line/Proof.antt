@@ -2,7 +2,7 @@
 use mathlib.Core.Path.{◌≡◌, sym, ◌∙◌}
 use borrow.Author.Rules.{rules}
 use borrow.Author.Tests.{eqb-true}
-use Rattle.rules.specs.Reader.{hasItsFigures}
+use Rattle.rules.specs.Reader.{has_its_figures}
 use Rattle.rules.specs.declared.Heading.TheVariants.{Day}
 use Rattle.journal_booking.proofs.Booked.{day-beside, its-figures}
 use Rattle.journal_booking.proofs.UnsoundPositions.{day-named, line_refused}
@@ -20,7 +20,7 @@ is-day : (c : tie.Then2) → c.before.before.before.args.heading ≡ Day
 is-day c = day-named c.before.before.before.args.heading (sym c.before.is-day.ensures ∙ c.if2.true)
 
 book-day-requires : tie.Need-book-day-requires
-unfolding hasItsFigures
+unfolding has_its_figures
 book-day-requires c κs =
     let t : tie.Then2 = c.before in
     let s : tie.Start = t.before.before.before in

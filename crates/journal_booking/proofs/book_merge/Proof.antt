@@ -9,7 +9,7 @@ use mir.Facts.{to_z-of_z}
 use mir.Syntax.{w64}
 use mir.Val.{SFits}
 use Rattle.rules.specs.Request.{merge}
-use Rattle.rules.specs.Reader.{requestNamed}
+use Rattle.rules.specs.Reader.{request_named}
 use Rattle.rules.specs.Handle.{answered}
 use Rattle.verdict.specs.HandledSoundly.{HandledSoundly}
 use Rattle.journal_reading.proofs.ValidLines.{figures-from}
@@ -53,7 +53,7 @@ module _ (c : tie.After-on-sound) where
   handled = subst Handled (figures-from 3 (figures p)) lent
 
 returns : tie.Need-returns
-unfolding requestNamed
+unfolding request_named
 returns c = let a : tie.After-on-sound = c.before.before.before in two-booked (s (p a)).pre.1 (handled a) c.verdict-of.ensures
 
 pub book-merge-spec : {M : Type 1} → statement M

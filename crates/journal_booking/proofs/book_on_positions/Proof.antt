@@ -2,9 +2,9 @@
 use mathlib.Core.Path.{refl, sym, subst}
 use borrow.Author.Rules.{rules}
 use borrow.Author.Tests.{eqb-true, leb-true}
-use Rattle.rules.specs.Request.{isStep}
-use Rattle.rules.specs.Reader.{hasItsFigures, requestNamed}
-use Rattle.rules.specs.Tables.{allTables}
+use Rattle.rules.specs.Request.{is_step}
+use Rattle.rules.specs.Reader.{has_its_figures, request_named}
+use Rattle.rules.specs.Tables.{all_tables}
 use Rattle.rules.specs.declared.Heading.{Heading}
 use Rattle.rules.specs.declared.Heading.TheVariants.{Trade, Separation, Transfer, Merge, GiveUp, Day}
 use Rattle.journal_booking.specs.RequestBooked.{RequestBooked}
@@ -13,14 +13,14 @@ use Rattle.journal_booking.proofs.book_on_positions.Statement.{statement}
 use Rattle.journal_booking.proofs.book_on_positions.Tie as tie
 
 book-trade-requires : tie.Need-book-trade-requires
-unfolding hasItsFigures
+unfolding has_its_figures
 book-trade-requires c κs =
     let told : tie.After-enum-told = c.before.before in
     let s : tie.Start = told.before.before in
     (s.requires.0, s.requires.1, eqb-true _ 6 (its-figures Trade _ told.enum_told.given.1 s.requires.3))
 
 returns : tie.Need-returns
-unfolding isStep requestNamed
+unfolding is_step request_named
 returns c =
     let b : tie.After-book-trade = c.before.before in
     let told : tie.After-enum-told = b.before.before.before in
@@ -28,14 +28,14 @@ returns c =
     line-beside s.args.processes.now Trade s.args.figures.now told.enum_told.given.1 refl b.book-trade.ensures
 
 book-separation-requires : tie.Need-book-separation-requires
-unfolding hasItsFigures
+unfolding has_its_figures
 book-separation-requires c κs =
     let told : tie.After-enum-told2 = c.before.before in
     let s : tie.Start = told.before.before in
     (s.requires.0, s.requires.1, leb-true 4 _ (its-figures Separation _ told.enum-told2.given.1 s.requires.3))
 
 returns-2 : tie.Need-returns-2
-unfolding isStep requestNamed
+unfolding is_step request_named
 returns-2 c =
     let b : tie.After-book-separation = c.before.before in
     let told : tie.After-enum-told2 = b.before.before.before in
@@ -43,14 +43,14 @@ returns-2 c =
     line-beside s.args.processes.now Separation s.args.figures.now told.enum-told2.given.1 refl b.book-separation.ensures
 
 book-transfer-requires : tie.Need-book-transfer-requires
-unfolding hasItsFigures
+unfolding has_its_figures
 book-transfer-requires c κs =
     let told : tie.After-enum-told3 = c.before.before in
     let s : tie.Start = told.before.before in
     (s.requires.0, s.requires.1, eqb-true _ 5 (its-figures Transfer _ told.enum-told3.given.1 s.requires.3))
 
 returns-3 : tie.Need-returns-3
-unfolding isStep requestNamed
+unfolding is_step request_named
 returns-3 c =
     let b : tie.After-book-transfer = c.before.before in
     let told : tie.After-enum-told3 = b.before.before.before in
@@ -58,14 +58,14 @@ returns-3 c =
     line-beside s.args.processes.now Transfer s.args.figures.now told.enum-told3.given.1 refl b.book-transfer.ensures
 
 book-merge-requires : tie.Need-book-merge-requires
-unfolding hasItsFigures
+unfolding has_its_figures
 book-merge-requires c κs =
     let told : tie.After-enum-told4 = c.before.before in
     let s : tie.Start = told.before.before in
     (s.requires.0, s.requires.1, leb-true 3 _ (its-figures Merge _ told.enum-told4.given.1 s.requires.3))
 
 returns-4 : tie.Need-returns-4
-unfolding isStep requestNamed
+unfolding is_step request_named
 returns-4 c =
     let b : tie.After-book-merge = c.before.before in
     let told : tie.After-enum-told4 = b.before.before.before in
@@ -73,7 +73,7 @@ returns-4 c =
     line-beside s.args.processes.now Merge s.args.figures.now told.enum-told4.given.1 refl b.book-merge.ensures
 
 book-step-requires : tie.Need-book-step-requires
-unfolding hasItsFigures
+unfolding has_its_figures
 book-step-requires c κs =
     let h : tie.After-heading = c.before.before.before.before in
     let s : tie.Start = h.before.before in
@@ -85,12 +85,12 @@ returns-5 c =
     let h : tie.After-heading = b.before.before.before.before.before in
     let s : tie.Start = h.before.before in
     subst
-    (λ (k : Heading). RequestBooked (allTables s.args.records.now s.args.positions.now s.args.processes.now) (requestNamed k s.args.figures.now) b.book-step.result
-    (allTables b.book-step.new.0 b.book-step.new.1.0 b.book-step.new.1.1.0))
+    (λ (k : Heading). RequestBooked (all_tables s.args.records.now s.args.positions.now s.args.processes.now) (request_named k s.args.figures.now) b.book-step.result
+    (all_tables b.book-step.new.0 b.book-step.new.1.0 b.book-step.new.1.1.0))
     (sym h.heading.given.1) b.book-step.ensures
 
 book-day-requires : tie.Need-book-day-requires
-unfolding hasItsFigures
+unfolding has_its_figures
 book-day-requires c κs =
     let told : tie.After-enum-told5 = c.before in
     let s : tie.Start = told.before.before in

@@ -9,23 +9,23 @@ use lib.ListN.{get_or}
 use mir.Facts.{to_z-of_z}
 use mir.Syntax.{w64}
 use mir.Val.{SFits}
-use Rattle.rules.specs.Reader.{requestNamed}
-use Rattle.rules.specs.Tables.{allTables, soundProcesses}
+use Rattle.rules.specs.Reader.{request_named}
+use Rattle.rules.specs.Tables.{all_tables, sound_processes}
 use Rattle.soundness.specs.SoundTables.{SoundTables}
 use Rattle.journal_booking.proofs.Booked.{step-booked, step-refused}
 use Rattle.journal_booking.proofs.book_step.Statement.{statement}
 use Rattle.journal_booking.proofs.book_step.Tie as tie
 
 returns : tie.Need-returns
-unfolding requestNamed
+unfolding request_named
 returns c =
     let s : tie.Start = c.before in
     step-refused _ _ _ s.args.step _ _ _ _ _ _ s.requires.0 s.requires.1 (sym s.requires.2 ∙ not-true s.args.sound c.if1.true)
 
-processes-sound : (c : tie.Else1) → soundProcesses c.before.args.processes.now ≡ true
+processes-sound : (c : tie.Else1) → sound_processes c.before.args.processes.now ≡ true
 processes-sound c = sym c.before.requires.2 ∙ not-false c.before.args.sound c.if1.false
 
-all_sound : (c : tie.Else1) → SoundTables (allTables c.before.args.records.now c.before.args.positions.now c.before.args.processes.now)
+all_sound : (c : tie.Else1) → SoundTables (all_tables c.before.args.records.now c.before.args.positions.now c.before.args.processes.now)
 all_sound c = record { records = c.before.requires.0; positions = c.before.requires.1; processes = processes-sound c }
 
 -- Each figure that was read fits 64 bits.
@@ -60,7 +60,7 @@ on-sound-requires c κs =
     all_sound (e p)
 
 returns-2 : tie.Need-returns-2
-unfolding requestNamed
+unfolding request_named
 returns-2 c =
     let p : tie.After-series = c.before.before.before.before.before.before.before.before in
     step-booked (all_sound (e p))

@@ -6,7 +6,7 @@ use lib.ListN.{get_or}
 use mir.Facts.{to_z-of_z}
 use mir.Syntax.{w64}
 use mir.Val.{SFits}
-use Rattle.rules.specs.Reader.{requestNamed}
+use Rattle.rules.specs.Reader.{request_named}
 use Rattle.journal_booking.proofs.Booked.{two-booked}
 use Rattle.journal_booking.proofs.book_trade.Statement.{statement}
 use Rattle.journal_booking.proofs.book_trade.Tie as tie
@@ -38,7 +38,7 @@ module _ (c : tie.After-price) where
   price-fits = sfits_of c.price.given
 
 returns : tie.Need-returns
-unfolding requestNamed
+unfolding request_named
 returns c =
     let p : tie.After-price = c.before.before.before.before.before.before in
     two-booked (s p).requires.1 (simp (to_z-of_z (id-fits p), to_z-of_z (account-fits p), to_z-of_z (series-fits p), to_z-of_z (side-fits p), to_z-of_z (quantity-fits p), to_z-of_z (price-fits p)) at c.before.before.before.on-sound.ensures) c.verdict-of.ensures

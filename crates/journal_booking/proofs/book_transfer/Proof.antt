@@ -6,7 +6,7 @@ use lib.ListN.{get_or}
 use mir.Facts.{to_z-of_z}
 use mir.Syntax.{w64}
 use mir.Val.{SFits}
-use Rattle.rules.specs.Reader.{requestNamed}
+use Rattle.rules.specs.Reader.{request_named}
 use Rattle.journal_booking.proofs.Booked.{two-booked}
 use Rattle.journal_booking.proofs.book_transfer.Statement.{statement}
 use Rattle.journal_booking.proofs.book_transfer.Tie as tie
@@ -35,7 +35,7 @@ module _ (c : tie.After-series) where
   series-fits = sfits_of c.series.given
 
 returns : tie.Need-returns
-unfolding requestNamed
+unfolding request_named
 returns c =
     let p : tie.After-series = c.before.before.before.before.before.before in
     two-booked (s p).requires.1 (simp (to_z-of_z (id-fits p), to_z-of_z (suffix-fits p), to_z-of_z (from-fits p), to_z-of_z (to-fits p), to_z-of_z (series-fits p)) at c.before.before.before.on-sound.ensures) c.verdict-of.ensures

@@ -3,13 +3,13 @@ use mathlib.Core.Path.{sym, ap, ap₂, ◌∙◌}
 use borrow.Author.Rules.{rules, sfits_of}
 use mir.Facts.{to_z-of_z}
 use Rattle.verdict.specs.declared.Verdict.TheVariants.{Refused}
-use Rattle.journal_booking.specs.RequestBooked.{verdictOfReply}
+use Rattle.journal_booking.specs.RequestBooked.{verdict_of_reply}
 use Rattle.journal_booking.proofs.verdict_of.Statement.{statement}
 use Rattle.journal_booking.proofs.verdict_of.Tie as tie
 
 returns-4 : tie.Need-returns-4
 returns-4 c =
-    ap₂ (λ n p. Refused n p) (to_z-of_z (sfits_of c.known-told4.given.0.1)) (to_z-of_z (sfits_of c.known-told4.given.1.0.1)) ∙ sym (ap verdictOfReply c.before.reply4.given.1)
+    ap₂ (λ n p. Refused n p) (to_z-of_z (sfits_of c.known-told4.given.0.1)) (to_z-of_z (sfits_of c.known-told4.given.1.0.1)) ∙ sym (ap verdict_of_reply c.before.reply4.given.1)
 
 pub verdict-of-spec : {M : Type 1} → statement M
 verdict-of-spec =

@@ -3,12 +3,12 @@ use mathlib.Core.Path.{◌≡◌, sym, ◌∙◌, ap}
 use mathlib.Core.List.{List}
 use lib.IntN.{ℤ}
 use borrow.Author.Rules.{rules}
-use Rattle.rules.specs.Keyed.{upsertAll}
-use Rattle.rules.specs.Rows.{recordKey}
-use Rattle.rules.specs.ProcessRows.{rowOfProcess}
-use Rattle.rules.specs.GiveUp.{recordAfter}
+use Rattle.rules.specs.Keyed.{upsert_all}
+use Rattle.rules.specs.Rows.{record_key}
+use Rattle.rules.specs.ProcessRows.{row_of_process}
+use Rattle.rules.specs.GiveUp.{record_after}
 use Rattle.rules.specs.Layout.{rows_of, write}
-use Rattle.rules.specs.Tables.{recordsLayout}
+use Rattle.rules.specs.Tables.{records_layout}
 use Rattle.rules.specs.declared.Record.{Record}
 use Rattle.cells.proofs.SoundCells.{record-rows-sound}
 use Rattle.later_steps.proofs.LaterSteps.{later-advanced}
@@ -43,11 +43,11 @@ replace-process-requires c κs =
 
 -- The records, by the record that was found.
 records-left : (c : tie.After-restate) → (let s : tie.Start = c.before.before.before in
-    c.restate.new.0 ≡ write recordsLayout (rs s) (upsertAll recordKey (recordAfter s.args.step s.args.named.record) (rows_of recordsLayout (rs s))))
+    c.restate.new.0 ≡ write records_layout (rs s) (upsert_all record_key (record_after s.args.step s.args.named.record) (rows_of records_layout (rs s))))
 records-left c =
     let s : tie.Start = c.before.before.before in
     c.restate.ensures
-    ∙ ap (λ (r : Record). write recordsLayout (rs s) (upsertAll recordKey (recordAfter s.args.step r) (rows_of recordsLayout (rs s)))) (sym s.requires.0.record-known.row_is)
+    ∙ ap (λ (r : Record). write records_layout (rs s) (upsert_all record_key (record_after s.args.step r) (rows_of records_layout (rs s)))) (sym s.requires.0.record-known.row_is)
 
 returns : tie.Need-returns
 returns c =
@@ -57,9 +57,9 @@ returns c =
     let k = s.requires.0 in
     later-advanced (rs s) (ps s) (qs s) k.ready.sound
     s.args.g.process s.args.g.id s.args.g.suffix s.args.g.giving s.args.g.taking s.args.g.series
-    s.args.step k.ready.later k.ready.figures (rowOfProcess s.args.p) k.ready.known.found k.ready.turn
+    s.args.step k.ready.later k.ready.figures (row_of_process s.args.p) k.ready.known.found k.ready.turn
     s.args.named.record k.record-known.found k.passed
-    s.requires.1 (rowOfProcess e.stepped.result) e.stepped.ensures _ _ (records-left w) c.before.replace-process.ensures.0
+    s.requires.1 (row_of_process e.stepped.result) e.stepped.ensures _ _ (records-left w) c.before.replace-process.ensures.0
 
 pub advance-spec : {M : Type 1} → statement M
 advance-spec =

@@ -4,15 +4,15 @@ use mathlib.Core.Path.{◌≡◌, sym, ◌∙◌, ap}
 use mathlib.Core.List.{List}
 use lib.IntN.{ℤ}
 use borrow.Author.Rules.{rules}
-use Rattle.rules.specs.Figures.{giveUpKind, takeUpKind}
-use Rattle.rules.specs.ProcessRows.{rowOfProcess}
+use Rattle.rules.specs.Figures.{give_up_kind, take_up_kind}
+use Rattle.rules.specs.ProcessRows.{row_of_process}
 use Rattle.rules.specs.GiveUp.{stepped, finished}
 use Rattle.rules.specs.declared.ProcessRow.{ProcessRow}
 use Rattle.rules.specs.declared.Record.{Record}
 use Rattle.cells.proofs.SoundCells.{record-rows-sound}
 use Rattle.scan.proofs.ReadBack.{read_back}
 use Rattle.requests.specs.KnownPosition.{KnownPosition}
-use Rattle.verdict.specs.Moving.{movingEffects, movingVerdict, recordsAfter, positionsAfter}
+use Rattle.verdict.specs.Moving.{moving_effects, moving_verdict, records_after, positions_after}
 use Rattle.transfer.specs.MovingReady.{MovingReady}
 use Rattle.give_up_steps.specs.declared.Terms.{Terms}
 use Rattle.later_steps.proofs.LaterSteps.{later-not-moved, later-completed}
@@ -87,7 +87,7 @@ abbrev start3 : tie.After-verdict-on-positions → tie.Start
 start3 c = start2 (held c)
 
 judged : (c : tie.After-verdict-on-positions)
-    → c.verdict-on-positions.result ≡ movingVerdict (rs (start3 c)) (ps (start3 c)) (r (start3 c)) (g (start3 c)).id (g (start3 c)).giving (g (start3 c)).taking (g (start3 c)).series
+    → c.verdict-on-positions.result ≡ moving_verdict (rs (start3 c)) (ps (start3 c)) (r (start3 c)) (g (start3 c)).id (g (start3 c)).giving (g (start3 c)).taking (g (start3 c)).series
 judged c =
     let s : tie.Start = start3 c in
     let f : tie.After-struct-told = told (first (held c)) in
@@ -107,14 +107,14 @@ returns c =
     let place : ℤ = c.before.number.given.0.1.0 in
     simp (read_back number c.known-told.given.0.1, read_back place c.known-told.given.1.0.1)
     (later-not-moved (rs s) (ps s) (qs s) k.ready.sound (g s).process (g s).id (g s).suffix (g s).giving (g s).taking (g s).series
-    s.args.step k.ready.later k.ready.figures (rowOfProcess s.args.p) k.ready.known.found k.ready.turn (r s) k.record-known.found k.passed s.pre.1
+    s.args.step k.ready.later k.ready.figures (row_of_process s.args.p) k.ready.known.found k.ready.turn (r s) k.record-known.found k.passed s.pre.1
     number place (sym (judged v) ∙ c.before.number.given.1))
 
 -- ---- the booking
 
 ready : (c : tie.After-enum-told) → (let v : tie.After-verdict-on-positions = c.before.before in
     let s : tie.Start = start3 v in
-    MovingReady (rs s) (ps s) s.args.named (first (held v)).position-held.result (held v).position-held2.result (g s).id (g s).suffix (g s).giving (g s).taking (g s).series giveUpKind takeUpKind)
+    MovingReady (rs s) (ps s) s.args.named (first (held v)).position-held.result (held v).position-held2.result (g s).id (g s).suffix (g s).giving (g s).taking (g s).series give_up_kind take_up_kind)
 ready c =
     let v : tie.After-verdict-on-positions = c.before.before in
     let s : tie.Start = start3 v in
@@ -154,8 +154,8 @@ abbrev start4 : tie.After-book-moved → tie.Start
 start4 c = start3 (told-so c).before.before
 
 moved : (c : tie.After-book-moved) → (let s : tie.Start = start4 c in
-    (c.book-moved.new.0 ≡ recordsAfter (movingEffects giveUpKind takeUpKind (rs s) (ps s) (r s) (g s).id (g s).giving (g s).taking (g s).series) (rs s))
-    × (c.book-moved.new.1.0 ≡ positionsAfter (movingEffects giveUpKind takeUpKind (rs s) (ps s) (r s) (g s).id (g s).giving (g s).taking (g s).series) (ps s)))
+    (c.book-moved.new.0 ≡ records_after (moving_effects give_up_kind take_up_kind (rs s) (ps s) (r s) (g s).id (g s).giving (g s).taking (g s).series) (rs s))
+    × (c.book-moved.new.1.0 ≡ positions_after (moving_effects give_up_kind take_up_kind (rs s) (ps s) (r s) (g s).id (g s).giving (g s).taking (g s).series) (ps s)))
 moved c =
     let s : tie.Start = start4 c in
     let f : tie.After-struct-told = told (first (held (told-so c).before.before)) in
@@ -171,7 +171,7 @@ moved c =
 abbrev booked : tie.After-finished → tie.After-book-moved
 booked c = c.before.before.before.before
 
-is-finished : (c : tie.After-finished) → (let s : tie.Start = start4 (booked c) in rowOfProcess c.finished.result ≡ finished (stepped s.args.step (rowOfProcess s.args.p)))
+is-finished : (c : tie.After-finished) → (let s : tie.Start = start4 (booked c) in row_of_process c.finished.result ≡ finished (stepped s.args.step (row_of_process s.args.p)))
 is-finished c = c.finished.ensures ∙ ap (λ (p : ProcessRow). finished p) c.before.stepped.ensures
 
 replace-process-requires : tie.Need-replace-process-requires
@@ -187,8 +187,8 @@ returns-2 c =
     let s : tie.Start = start4 b in
     let k = s.pre.0 in
     later-completed (rs s) (ps s) (qs s) k.ready.sound (g s).process (g s).id (g s).suffix (g s).giving (g s).taking (g s).series
-    s.args.step k.ready.later k.ready.figures (rowOfProcess s.args.p) k.ready.known.found k.ready.turn (r s) k.record-known.found k.passed s.pre.1
-    (ready (told-so b)).accepted (rowOfProcess e.finished.result) (is-finished e) _ _ _ (moved b).0 (moved b).1 c.before.replace-process.ensures.0
+    s.args.step k.ready.later k.ready.figures (row_of_process s.args.p) k.ready.known.found k.ready.turn (r s) k.record-known.found k.passed s.pre.1
+    (ready (told-so b)).accepted (row_of_process e.finished.result) (is-finished e) _ _ _ (moved b).0 (moved b).1 c.before.replace-process.ensures.0
 
 pub complete-spec : {M : Type 1} → statement M
 complete-spec =

@@ -7,15 +7,15 @@ use lib.IntN.{ℤ}
 use borrow.Author.Rules.{rules}
 use borrow.Author.Tests.{not-true, not-false}
 use Rattle.rules.specs.Rows.{key_of}
-use Rattle.rules.specs.ProcessRows.{processKey, rowOfProcess}
-use Rattle.rules.specs.Tables.{processesLayout}
+use Rattle.rules.specs.ProcessRows.{process_key, row_of_process}
+use Rattle.rules.specs.Tables.{processes_layout}
 use Rattle.rules.specs.declared.Process.{Process}
-use Rattle.lookup.specs.Lookup.{soughtIn}
+use Rattle.lookup.specs.Lookup.{sought_in}
 use Rattle.lookup.specs.SoughtRows.{PresentAt, AbsentAt}
 use Rattle.lookup.proofs.TableSought.{table-present, table-lacks}
 use Rattle.processes.proofs.ProcessTable.{processes-first}
 use Rattle.scan.proofs.ReadBack.{read_back}
-use Rattle.give_up_steps.specs.Terms.{termsValid}
+use Rattle.give_up_steps.specs.Terms.{terms_valid}
 use Rattle.give_up_steps.specs.declared.Terms.{Terms}
 use Rattle.later_steps.specs.LaterReady.{KnownProcess}
 use Rattle.later_steps.proofs.LaterSteps.{later-figures, later-unknown, later-out}
@@ -56,18 +56,18 @@ module _ (c : tie.After-look-up) where
   abbrev start : tie.Start
   start = else1.before.before
 
-  figures : termsValid (g start) ≡ true
+  figures : terms_valid (g start) ≡ true
   figures = sym else1.before.figures-valid.ensures ∙ not-false _ else1.if1.left
 
-  looked : c.look_up.result ≡ soughtIn processesLayout (key_of (g start).process (g start).id) (qs start)
+  looked : c.look_up.result ≡ sought_in processes_layout (key_of (g start).process (g start).id) (qs start)
   looked = simp (read_back (g start).process told.struct_told.given.0.1, read_back (g start).id told.struct_told.given.1.0.1) at c.look_up.ensures
 
 returns-2 : tie.Need-returns-2
 returns-2 c =
     let l : tie.After-look-up = c.before.before in
     let s : tie.Start = start l in
-    let lacks : AbsentAt processesLayout processKey (qs s) (key_of (g s).process (g s).id) c.enum_told.given.0.0 c.enum_told.given.0.1.0 =
-    table-lacks processesLayout processKey processes-first (qs s) (key_of (g s).process (g s).id) _ _ (sym (looked l) ∙ c.enum_told.given.1) in
+    let lacks : AbsentAt processes_layout process_key (qs s) (key_of (g s).process (g s).id) c.enum_told.given.0.0 c.enum_told.given.0.1.0 =
+    table-lacks processes_layout process_key processes-first (qs s) (key_of (g s).process (g s).id) _ _ (sym (looked l) ∙ c.enum_told.given.1) in
     later-unknown (rs s) (ps s) (qs s) s.pre.0 (g s).process (g s).id (g s).suffix (g s).giving (g s).taking (g s).series s.args.step s.pre.1 (figures l) lacks.absent
 
 module _ (c : tie.After-known-told) where
@@ -77,9 +77,9 @@ module _ (c : tie.After-known-told) where
   abbrev start2 : tie.Start
   start2 = start by-lookup
 
-  there : PresentAt processesLayout processKey (qs start2) (key_of (g start2).process (g start2).id) c.before.at.given.0.0 c.before.at.given.0.1.0 c.before.at.given.0.1.1.0
+  there : PresentAt processes_layout process_key (qs start2) (key_of (g start2).process (g start2).id) c.before.at.given.0.0 c.before.at.given.0.1.0 c.before.at.given.0.1.1.0
   there =
-      table-present processesLayout processKey processes-first (qs start2) (key_of (g start2).process (g start2).id) _ _ _ (sym (looked by-lookup) ∙ c.before.at.given.1)
+      table-present processes_layout process_key processes-first (qs start2) (key_of (g start2).process (g start2).id) _ _ _ (sym (looked by-lookup) ∙ c.before.at.given.1)
 
 read-process-requires : tie.Need-read-process-requires
 read-process-requires c κs =
@@ -106,7 +106,7 @@ returns-3 c =
     let r : tie.After-read-process = m.before in
     let s : tie.Start = start3 r in
     later-out (rs s) (ps s) (qs s) s.pre.0 (g s).process (g s).id (g s).suffix (g s).giving (g s).taking (g s).series s.args.step s.pre.1
-    (figures (by-lookup (at-found r))) (rowOfProcess r.read-process.result) (known r).found (sym m.may-step.ensures ∙ not-true _ c.if2.true)
+    (figures (by-lookup (at-found r))) (row_of_process r.read-process.result) (known r).found (sym m.may-step.ensures ∙ not-true _ c.if2.true)
 
 -- ---- the record
 

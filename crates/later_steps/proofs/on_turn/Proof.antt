@@ -3,21 +3,21 @@ use mathlib.Core.Path.{◌≡◌, sym, ◌∙◌, ap}
 use mathlib.Core.List.{List}
 use lib.IntN.{ℤ}
 use borrow.Author.Rules.{rules}
-use Rattle.rules.specs.Rows.{key_of, recordKey}
-use Rattle.rules.specs.ProcessRows.{rowOfProcess}
-use Rattle.rules.specs.Refusal.{firstRefusal}
+use Rattle.rules.specs.Rows.{key_of, record_key}
+use Rattle.rules.specs.ProcessRows.{row_of_process}
+use Rattle.rules.specs.Refusal.{first_refusal}
 use Rattle.rules.specs.GiveUp.{stepped, is_complete}
-use Rattle.rules.specs.Tables.{recordsLayout}
+use Rattle.rules.specs.Tables.{records_layout}
 use Rattle.rules.specs.declared.ProcessRow.{ProcessRow}
 use Rattle.cells.proofs.SoundCells.{record-rows-sound}
-use Rattle.lookup.specs.Lookup.{recordSought}
+use Rattle.lookup.specs.Lookup.{record_sought}
 use Rattle.lookup.proofs.TableLookup.{records-first}
 use Rattle.lookup.specs.SoughtRows.{AbsentAt}
 use Rattle.lookup.proofs.TableSought.{table-lacks}
 use Rattle.requests.specs.KnownRecord.{KnownRecord}
 use Rattle.scan.proofs.ReadBack.{read_back}
-use Rattle.verdict.specs.Verdict.{verdictOf}
-use Rattle.give_up_steps.specs.StepTests.{laterTests}
+use Rattle.verdict.specs.Verdict.{verdict_of}
+use Rattle.give_up_steps.specs.StepTests.{later_tests}
 use Rattle.give_up_steps.specs.declared.Terms.{Terms}
 use Rattle.later_steps.specs.LaterReady.{RecordReady}
 use Rattle.later_steps.proofs.LaterSteps.{later-missing, later-refused}
@@ -46,7 +46,7 @@ module _ (c : tie.After-look-up) where
   abbrev start : tie.Start
   start = told.before.before
 
-  looked : c.look_up.result ≡ recordSought (rs start) (g start).id (g start).suffix
+  looked : c.look_up.result ≡ record_sought (rs start) (g start).id (g start).suffix
   looked = simp (read_back (g start).id told.struct_told.given.1.0.1, read_back (g start).suffix told.struct_told.given.1.1.0.1) at c.look_up.ensures
 
 returns : tie.Need-returns
@@ -54,10 +54,10 @@ returns c =
     let l : tie.After-look-up = c.before.before in
     let s : tie.Start = start l in
     let k = s.pre in
-    let lacks : AbsentAt recordsLayout recordKey (rs s) (key_of (g s).id (g s).suffix) c.enum_told.given.0.0 c.enum_told.given.0.1.0 =
-    table-lacks recordsLayout recordKey records-first (rs s) (key_of (g s).id (g s).suffix) _ _ (sym (looked l) ∙ c.enum_told.given.1) in
+    let lacks : AbsentAt records_layout record_key (rs s) (key_of (g s).id (g s).suffix) c.enum_told.given.0.0 c.enum_told.given.0.1.0 =
+    table-lacks records_layout record_key records-first (rs s) (key_of (g s).id (g s).suffix) _ _ (sym (looked l) ∙ c.enum_told.given.1) in
     later-missing (rs s) (ps s) (qs s) k.sound (g s).process (g s).id (g s).suffix (g s).giving (g s).taking (g s).series
-    s.args.step k.later k.figures (rowOfProcess s.args.p) k.known.found k.turn lacks.absent
+    s.args.step k.later k.figures (row_of_process s.args.p) k.known.found k.turn lacks.absent
 
 -- ---- tests 6 to 8
 
@@ -90,7 +90,7 @@ module _ (c : tie.After-verdict) where
   abbrev start3 : tie.Start
   start3 = start2 at_named
 
-  judged : c.verdict.result ≡ verdictOf (firstRefusal (laterTests at_named.record-named.result.record (g start3).giving (g start3).series))
+  judged : c.verdict.result ≡ verdict_of (first_refusal (later_tests at_named.record-named.result.record (g start3).giving (g start3).series))
   judged =
       simp (
         read_back (g start3).giving (told (found at_named)).struct_told.given.1.1.1.0.1,
@@ -106,7 +106,7 @@ returns-2 c =
     let place : ℤ = c.before.number.given.0.1.0 in
     simp (read_back number c.known-told2.given.0.1, read_back place c.known-told2.given.1.0.1)
     (later-refused (rs s) (ps s) (qs s) k.sound (g s).process (g s).id (g s).suffix (g s).giving (g s).taking (g s).series
-    s.args.step k.later k.figures (rowOfProcess s.args.p) k.known.found k.turn
+    s.args.step k.later k.figures (row_of_process s.args.p) k.known.found k.turn
     (at_named v).record-named.result.record (known (at_named v)).found number place (sym (judged v) ∙ c.before.number.given.1))
 
 -- ---- the booking
@@ -124,7 +124,7 @@ module _ (c : tie.After-is-complete) where
   ready : RecordReady (rs start4) (ps start4) (qs start4) start4.args.step (g start4) start4.args.at start4.args.p (at_named by-verdict).record-named.result
   ready = record { ready = start4.pre; record-known = known (at_named by-verdict); passed = sym (judged by-verdict) ∙ accepted.enum-told2.given.1 }
 
-  completed : c.is-complete.result ≡ is_complete (stepped start4.args.step (rowOfProcess start4.args.p))
+  completed : c.is-complete.result ≡ is_complete (stepped start4.args.step (row_of_process start4.args.p))
   completed = c.is-complete.ensures ∙ ap (λ (p : ProcessRow). is_complete p) c.before.stepped.ensures
 
 complete-requires : tie.Need-complete-requires

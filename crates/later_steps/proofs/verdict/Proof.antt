@@ -7,16 +7,16 @@ use mir.Facts.{to_z-of_z}
 use mir.Syntax.{w64}
 use mir.Val.{SFits}
 use borrow.Author.Rules.{rules, sfits_of}
-use Rattle.integers.specs.Order.{eqZ}
-use Rattle.rules.specs.Figures.{isToClose, underGiveUp}
-use Rattle.rules.specs.NamedRecord.{isElsewhere}
-use Rattle.rules.specs.Refusal.{Test, test, firstRefusal}
+use Rattle.integers.specs.Order.{eq_z}
+use Rattle.rules.specs.Figures.{is_to_close, under_give_up}
+use Rattle.rules.specs.NamedRecord.{is_elsewhere}
+use Rattle.rules.specs.Refusal.{Test, test, first_refusal}
 use Rattle.rules.specs.declared.Record.{Record}
 use Rattle.figures.proofs.Tests.{is-literal, not-literal}
 use Rattle.scan.proofs.ReadBack.{read_back}
-use Rattle.verdict.specs.Verdict.{verdictOf}
+use Rattle.verdict.specs.Verdict.{verdict_of}
 use Rattle.verdict.proofs.Remaining.{Remaining, ◌past◌, stops, ends}
-use Rattle.give_up_steps.specs.StepTests.{laterTests}
+use Rattle.give_up_steps.specs.StepTests.{later_tests}
 use Rattle.later_steps.proofs.verdict.Statement.{statement}
 use Rattle.later_steps.proofs.verdict.Tie as tie
 
@@ -32,12 +32,12 @@ module _ (s : tie.Start) where
 
   -- The verdict is that of these tests.
   abbrev Rest : List Test → Type 0
-  Rest tests = Remaining (verdictOf (firstRefusal (laterTests r giving series))) tests
+  Rest tests = Remaining (verdict_of (first_refusal (later_tests r giving series))) tests
 
-  at-6 : Rest (laterTests r giving series)
+  at-6 : Rest (later_tests r giving series)
   at-6 = record { is = refl }
 
-answer-6 : (c : tie.After-is-elsewhere) → c.is-elsewhere.result ≡ isElsewhere (giving c.before) (series c.before) (r c.before)
+answer-6 : (c : tie.After-is-elsewhere) → c.is-elsewhere.result ≡ is_elsewhere (giving c.before) (series c.before) (r c.before)
 answer-6 c = simp (to_z-of_z c.before.ranges.giving, to_z-of_z c.before.ranges.series) at c.is-elsewhere.ensures
 
 returns : tie.Need-returns
@@ -48,7 +48,7 @@ module _ (c : tie.After-struct-told) where
   abbrev start : tie.Start
   start = c.before.before.before.before
 
-  at_7 : Rest start (test 7 (not (eqZ (r start).status underGiveUp)) ∷ test 8 (isToClose (r start).side) ∷ [])
+  at_7 : Rest start (test 7 (not (eq_z (r start).status under_give_up)) ∷ test 8 (is_to_close (r start).side) ∷ [])
   unfolding test
   at_7 = at-6 start past sym (answer-6 c.before.before.before) ∙ c.before.before.if1.false
 
@@ -63,11 +63,11 @@ module _ (c : tie.After-is-to-close) where
   abbrev else2 : tie.Else2
   else2 = c.before.before
 
-  at_8 : Rest (start else2.before) (test 8 (isToClose (r (start else2.before)).side) ∷ [])
+  at_8 : Rest (start else2.before) (test 8 (is_to_close (r (start else2.before)).side) ∷ [])
   unfolding test
   at_8 = at_7 else2.before past ap not (is-literal 3 tt (status-fits else2.before) else2.if2.left)
 
-  answer-8 : c.is-to-close.result ≡ isToClose (r (start else2.before)).side
+  answer-8 : c.is-to-close.result ≡ is_to_close (r (start else2.before)).side
   answer-8 = simp (read_back (r (start else2.before)).side c.before.struct-told2.given.1.1.1.1.1.1.1.0.1) at c.is-to-close.ensures
 
 returns-3 : tie.Need-returns-3

@@ -13,20 +13,20 @@ use mir.Val.{SFits}
 use borrow.Author.Rules.{rules}
 use borrow.Fn.Kinds.{In}
 use borrow.Fn.PlainCycle.{Measures, is, falls, and}
-use Rattle.integers.specs.Order.{eqZ}
+use Rattle.integers.specs.Order.{eq_z}
 use Rattle.integers.proofs.Linear.{zarith, +-lin}
-use Rattle.rules.specs.Figures.{validSuffix, greatestOfSuffixes}
-use Rattle.rules.specs.Rows.{key_of, recordKey}
-use Rattle.rules.specs.Tables.{recordsLayout, soundRecordRows}
+use Rattle.rules.specs.Figures.{valid_suffix, greatest_of_suffixes}
+use Rattle.rules.specs.Rows.{key_of, record_key}
+use Rattle.rules.specs.Tables.{records_layout, sound_record_rows}
 use Rattle.figures.proofs.Tests.{is-literal, not-literal}
-use Rattle.lookup.specs.Lookup.{recordSought}
+use Rattle.lookup.specs.Lookup.{record_sought}
 use Rattle.lookup.proofs.TableLookup.{records-first}
 use Rattle.lookup.specs.SoughtRows.{PresentAt}
 use Rattle.lookup.proofs.TableSought.{table-present, table-lacks}
 use Rattle.scan.proofs.ReadBack.{read_back}
 use Rattle.soundness.proofs.FigureRanges.{suffix-range}
-use Rattle.verdict.proofs.LineageAnswer.{recordsOfId, parent-valid}
-use Rattle.lineage.specs.Origin.{originFound}
+use Rattle.verdict.proofs.LineageAnswer.{records_of_id, parent-valid}
+use Rattle.lineage.specs.Origin.{origin_found}
 use Rattle.lineage.specs.declared.Traced.TheVariants.{From}
 use Rattle.lineage.proofs.Steps.{step-missing, step-first, step_from, step-onward-missing, parent-nearer, links-few}
 use Rattle.lineage.proofs.origin.Reads as origin
@@ -84,10 +84,10 @@ module _ (t : ℕ) where
     abbrev suffix : ℤ
     suffix = s.args.suffix
 
-    sound : soundRecordRows cells ≡ true
+    sound : sound_record_rows cells ≡ true
     sound = s.pre.1.0
 
-  looked : (c : Looked) → c.look_up.result ≡ recordSought (cells c.before) (id c.before) (suffix c.before)
+  looked : (c : Looked) → c.look_up.result ≡ record_sought (cells c.before) (id c.before) (suffix c.before)
   looked c = simp (to_z-of_z c.before.ranges.id, to_z-of_z c.before.ranges.suffix) at c.look_up.ensures
 
   -- The row that the lookup answered.
@@ -95,13 +95,13 @@ module _ (t : ℕ) where
     abbrev start : Start
     start = c.before.before.before.before
 
-    there : PresentAt recordsLayout recordKey (cells start) (key_of (id start) (suffix start)) c.before.row.given.0.0 c.before.row.given.0.1.0 c.before.row.given.0.1.1.0
+    there : PresentAt records_layout record_key (cells start) (key_of (id start) (suffix start)) c.before.row.given.0.0 c.before.row.given.0.1.0 c.before.row.given.0.1.1.0
     there =
-        table-present recordsLayout recordKey records-first (cells start) (key_of (id start) (suffix start)) _ _ _
+        table-present records_layout record_key records-first (cells start) (key_of (id start) (suffix start)) _ _ _
         (sym (looked c.before.before.before) ∙ c.before.row.given.1)
 
   -- The record that was read.
-  named : (c : Read) → recordsOfId (cells (start c.before)) (id (start c.before)) (suffix (start c.before)) ≡ some c.read-record.result
+  named : (c : Read) → records_of_id (cells (start c.before)) (id (start c.before)) (suffix (start c.before)) ≡ some c.read-record.result
   named c = (there c.before).found ∙ ap some (sym c.read-record.ensures)
 
   -- Past suffix 0: the origin of the parent.
@@ -112,17 +112,17 @@ module _ (t : ℕ) where
     abbrev parent : ℤ
     parent = c.before.read-record.result.parent
 
-    not-zero : eqZ (suffix from) (pos 0) ≡ false
+    not-zero : eq_z (suffix from) (pos 0) ≡ false
     not-zero = not-literal 0 from.fits.suffix c.if1.false
 
-    parent-is-valid : validSuffix parent ≡ true
+    parent-is-valid : valid_suffix parent ≡ true
     parent-is-valid = parent-valid (cells from) (sound from) (id from) (suffix from) c.before.read-record.result (named c.before)
 
     parent-fits : SFits w64 parent
-    parent-fits = let range : (pos 0 ≤ℤ parent) × (parent ≤ℤ greatestOfSuffixes) = suffix-range parent parent-is-valid in omega zarith
+    parent-fits = let range : (pos 0 ≤ℤ parent) × (parent ≤ℤ greatest_of_suffixes) = suffix-range parent parent-is-valid in omega zarith
 
   followed : (c : Followed)
-      → c.origin.result ≡ originFound (cells (from c.before.before)) (id (from c.before.before)) (parent c.before.before)
+      → c.origin.result ≡ origin_found (cells (from c.before.before)) (id (from c.before.before)) (parent c.before.before)
   followed c = simp (to_z-of_z (from c.before.before).fits.id, to_z-of_z (parent-fits c.before.before)) at c.origin.ensures
 
   module _ (c : Linked) where
@@ -135,17 +135,17 @@ module _ (t : ℕ) where
     abbrev links : ℤ
     links = c.price.given.0.1.0
 
-    origin-is : originFound (cells (from onward)) (id (from onward)) (parent onward) ≡ From price links
+    origin-is : origin_found (cells (from onward)) (id (from onward)) (parent onward) ≡ From price links
     origin-is = sym (followed c.before.before) ∙ c.price.given.1
 
-    links-range : (pos 0 ≤ℤ links) × (links ≤ℤ greatestOfSuffixes)
+    links-range : (pos 0 ≤ℤ links) × (links ≤ℤ greatest_of_suffixes)
     links-range = links-few (cells (from onward)) (sound (from onward)) (id (from onward)) (parent onward) price links (parent-is-valid onward) origin-is
 
     links-fit : SFits w64 links
-    links-fit = let range : (pos 0 ≤ℤ links) × (links ≤ℤ greatestOfSuffixes) = links-range in omega zarith
+    links-fit = let range : (pos 0 ≤ℤ links) × (links ≤ℤ greatest_of_suffixes) = links-range in omega zarith
 
     next_fits : SFits w64 (links +ℤ pos 1)
-    next_fits = let range : (pos 0 ≤ℤ links) × (links ≤ℤ greatestOfSuffixes) = links-range in omega (zarith, +-lin links (pos 1))
+    next_fits = let range : (pos 0 ≤ℤ links) × (links ≤ℤ greatest_of_suffixes) = links-range in omega (zarith, +-lin links (pos 1))
 
 origin-look-up-requires : (t : ℕ) → origin-lts.Need-look-up-requires (claims t) (origin-at t) origin.Post
 origin-look-up-requires t c κs = sound t c
@@ -154,7 +154,7 @@ origin-returns : (t : ℕ) → origin-lts.Need-returns (claims t) (origin-at t) 
 origin-returns t c =
     let s : Start t = c.before.before.before in
     step-missing (cells t s) (id t s) (suffix t s)
-    (table-lacks recordsLayout recordKey records-first (cells t s) (key_of (id t s) (suffix t s)) _ _ (sym (looked t c.before.before) ∙ c.enum_told.given.1)).absent
+    (table-lacks records_layout record_key records-first (cells t s) (key_of (id t s) (suffix t s)) _ _ (sym (looked t c.before.before) ∙ c.enum_told.given.1)).absent
 
 origin-read-record-requires : (t : ℕ) → origin-lts.Need-read-record-requires (claims t) (origin-at t) origin.Post
 origin-read-record-requires t c κs = (sound t (start t c), (there t c).row_within)

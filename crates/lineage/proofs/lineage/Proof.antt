@@ -5,16 +5,16 @@ use mathlib.Core.List.{List, []}
 use lib.IntN.{ℤ}
 use mir.Facts.{to_z-of_z}
 use borrow.Author.Rules.{rules}
-use Rattle.rules.specs.Figures.{validId, validSuffix}
+use Rattle.rules.specs.Figures.{valid_id, valid_suffix}
 use Rattle.rules.specs.Handle.{Answer}
 use Rattle.rules.specs.Request as Request
-use Rattle.rules.specs.Tables.{soundRecords}
+use Rattle.rules.specs.Tables.{sound_records}
 use Rattle.figures.proofs.Tests.{failed, passed}
 use Rattle.scan.proofs.ReadBack.{read_back}
 use Rattle.cells.proofs.SoundCells.{record-rows-sound}
 use Rattle.verdict.proofs.Handled.{unsound-records}
 use Rattle.verdict.proofs.LineageAnswer.{lineage-refused-id, lineage-refused-suffix, lineage-refused-missing, lineage-answered}
-use Rattle.lineage.specs.Origin.{originFound}
+use Rattle.lineage.specs.Origin.{origin_found}
 use Rattle.lineage.proofs.Steps.{found-missing, found_from}
 use Rattle.lineage.proofs.lineage.Statement.{statement}
 use Rattle.lineage.proofs.lineage.Tie as tie
@@ -31,25 +31,25 @@ module _ (s : tie.Start) where
   abbrev suffix : ℤ
   suffix = s.args.suffix
 
-sound : (c : tie.Else1) → soundRecords (cells c.before.before) ≡ true
+sound : (c : tie.Else1) → sound_records (cells c.before.before) ≡ true
 sound c = passed c.before.records-sound.ensures c.if1.false
 
-id-answer : (c : tie.After-valid-id) → c.valid-id.result ≡ validId (id c.before.before.before)
+id-answer : (c : tie.After-valid-id) → c.valid-id.result ≡ valid_id (id c.before.before.before)
 id-answer c = simp (to_z-of_z c.before.before.before.ranges.id) at c.valid-id.ensures
 
-id-valid : (c : tie.Else2) → validId (id c.before.before.before.before) ≡ true
+id-valid : (c : tie.Else2) → valid_id (id c.before.before.before.before) ≡ true
 id-valid c = passed (id-answer c.before) c.if2.false
 
-suffix-answer : (c : tie.After-valid-suffix) → c.valid-suffix.result ≡ validSuffix (suffix c.before.before.before.before.before)
+suffix-answer : (c : tie.After-valid-suffix) → c.valid-suffix.result ≡ valid_suffix (suffix c.before.before.before.before.before)
 suffix-answer c = simp (to_z-of_z c.before.before.before.before.before.ranges.suffix) at c.valid-suffix.ensures
 
 abbrev start : tie.Else3 → tie.Start
 start c = c.before.before.before.before.before.before
 
-suffix-valid : (c : tie.Else3) → validSuffix (suffix (start c)) ≡ true
+suffix-valid : (c : tie.Else3) → valid_suffix (suffix (start c)) ≡ true
 suffix-valid c = passed (suffix-answer c.before) c.if3.false
 
-traced : (c : tie.After-origin) → c.origin.result ≡ originFound (cells (start c.before)) (id (start c.before)) (suffix (start c.before))
+traced : (c : tie.After-origin) → c.origin.result ≡ origin_found (cells (start c.before)) (id (start c.before)) (suffix (start c.before))
 traced c = simp (to_z-of_z (start c.before).ranges.id, to_z-of_z (start c.before).ranges.suffix) at c.origin.ensures
 
 -- ---- the needs

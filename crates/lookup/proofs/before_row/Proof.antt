@@ -7,7 +7,7 @@ use lib.ListN.{get_or}
 use mir.Facts.{to_z-of_z}
 use mir.Syntax.{w64}
 use mir.Val.{SFits, of_z}
-use Rattle.integers.proofs.Bits.{ofZ-inj}
+use Rattle.integers.proofs.Bits.{of_z-inj}
 use Rattle.lookup.proofs.KeyTests.{below-by-major, not-below-by-major, below-by-minor}
 use Rattle.lookup.proofs.before_row.Statement.{statement}
 use Rattle.lookup.proofs.before_row.Tie as tie
@@ -44,7 +44,7 @@ returns-3 c =
     let s : tie.Start = f.before in
     let g : SFits w64 (second s) = sfits_of c.result.given in
     simp (to_z-of_z s.ranges.minor, to_z-of_z g)
-    (sym (below-by-minor s.args.major s.args.minor (first s) (second s) (ofZ-inj s.ranges.major (first_fits f) c.before.if3.false)))
+    (sym (below-by-minor s.args.major s.args.minor (first s) (second s) (of_z-inj s.ranges.major (first_fits f) c.before.if3.false)))
 
 returns-4 : tie.Need-returns-4
 returns-4 c =

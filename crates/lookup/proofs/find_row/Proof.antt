@@ -10,7 +10,7 @@ use mir.Syntax.{w64}
 use mir.Val.{SFits}
 use Rattle.rules.specs.Keyed.{Key, same}
 use Rattle.rules.specs.Rows.{key_of}
-use Rattle.lookup.specs.Lookup.{key_at, rowPlace}
+use Rattle.lookup.specs.Lookup.{key_at, row_place}
 use Rattle.lookup.specs.declared.Found.TheVariants as Found
 use Rattle.lookup.proofs.Halving.{row_within, place-at-most}
 use Rattle.lookup.proofs.RowBefore.{found_at, absent-before, absent-first}
@@ -20,7 +20,7 @@ use Rattle.lookup.proofs.find_row.Tie as tie
 abbrev sought : tie.Start → Key
 sought s = key_of s.args.major s.args.minor
 
-placed : (c : tie.After-place-of) → c.place_of.result ≡ rowPlace c.before.args.header c.before.args.width (sought c.before) c.before.args.count c.before.args.cells.now
+placed : (c : tie.After-place-of) → c.place_of.result ≡ row_place c.before.args.header c.before.args.width (sought c.before) c.before.args.count c.before.args.cells.now
 placed c = simp (to_z-of_z c.before.ranges.major, to_z-of_z c.before.ranges.minor) at c.place_of.ensures
 
 -- The row before the place.
@@ -31,7 +31,7 @@ module _ (c : tie.Else1) where
   abbrev row : ℕ
   row = c.before.place_of.result - 1
 
-  row_before : rowPlace start.args.header start.args.width (sought start) start.args.count start.args.cells.now ≡ suc row
+  row_before : row_place start.args.header start.args.width (sought start) start.args.count start.args.cells.now ≡ suc row
   row_before = omega (arith, placed c.before)
 
   one_of : row < start.args.count

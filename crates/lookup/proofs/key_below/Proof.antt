@@ -4,7 +4,7 @@ use mathlib.Core.Path.{◌≡◌, ap}
 use mir.Facts.{to_z-of_z}
 use mir.Syntax.{w64}
 use mir.Val.{to_z, of_z}
-use Rattle.integers.proofs.Bits.{ofZ-inj}
+use Rattle.integers.proofs.Bits.{of_z-inj}
 use Rattle.lookup.proofs.KeyTests.{below-by-major, not-below-by-major, below-by-minor}
 use Rattle.lookup.proofs.key_below.Statement.{statement}
 use Rattle.lookup.proofs.key_below.Tie as tie
@@ -36,7 +36,7 @@ returns-2 c =
 returns-3 : tie.Need-returns-3
 returns-3 c =
     let s : tie.Start = c.before.before in
-    rw (below-by-minor _ _ _ _ (ofZ-inj s.ranges.major s.ranges.major2 c.if2.false)) (simp (b s, b2 s))
+    rw (below-by-minor _ _ _ _ (of_z-inj s.ranges.major s.ranges.major2 c.if2.false)) (simp (b s, b2 s))
 
 pub key-below-spec : {M : Type 1} → statement M
 key-below-spec = tie.close (tie.spec returns returns-2 returns-3)

@@ -3,7 +3,7 @@
 use mathlib.Core.Path.{ap}
 use mir.Syntax.{w64}
 use mir.Val.{of_z}
-use Rattle.integers.proofs.Bits.{ofZ-inj, eqb-ofZ}
+use Rattle.integers.proofs.Bits.{of_z-inj, eqb-of_z}
 use Rattle.lookup.proofs.KeyTests.{not-same-by-major, same-by-minor}
 use Rattle.lookup.proofs.key_same.Statement.{statement}
 use Rattle.lookup.proofs.key_same.Tie as tie
@@ -14,7 +14,7 @@ returns c = rw (not-same-by-major _ _ _ _ (λ e. c.if1.true (ap (of_z w64) e)))
 returns-2 : tie.Need-returns-2
 returns-2 c =
     let s : tie.Start = c.before in
-    rw (same-by-minor _ _ _ _ (ofZ-inj s.ranges.major s.ranges.major2 c.if1.false)) (eqb-ofZ s.ranges.minor s.ranges.minor2)
+    rw (same-by-minor _ _ _ _ (of_z-inj s.ranges.major s.ranges.major2 c.if1.false)) (eqb-of_z s.ranges.minor s.ranges.minor2)
 
 pub key-same-spec : {M : Type 1} → statement M
 key-same-spec = tie.close (tie.spec returns returns-2)

@@ -10,20 +10,20 @@ use lib.ListN.{length, get_or}
 use mir.Facts.{to_z-of_z}
 use mir.Syntax.{w64}
 use mir.Val.{SFits, of_z}
-use Rattle.integers.proofs.Bits.{ofZ-inj}
+use Rattle.integers.proofs.Bits.{of_z-inj}
 use Rattle.rules.specs.Rows.{key_of}
-use Rattle.lookup.specs.Lookup.{rowPlace, rowFound}
+use Rattle.lookup.specs.Lookup.{row_place, row_found}
 use Rattle.lookup.specs.declared.Greatest.TheVariants.{Suffix, Nothing}
 use Rattle.lookup.specs.declared.Sought.TheVariants as Sought
 use Rattle.lookup.proofs.Halving.{row_within, place-at-most}
-use Rattle.lookup.proofs.RowBefore.{lastKey}
+use Rattle.lookup.proofs.RowBefore.{last_key}
 use Rattle.lookup.proofs.LookedUp.{front-searchable, said-first, said-nothing, said-present, said-absent}
 use Rattle.lookup.proofs.look_up.Statement.{statement}
 use Rattle.lookup.proofs.look_up.Tie as tie
 
 -- Where the rows of the first figure sought end.
 abbrev end_of : tie.Start → ℕ
-end_of s = rowPlace s.args.header s.args.width (lastKey s.args.major) s.args.count s.args.cells.now
+end_of s = row_place s.args.header s.args.width (last_key s.args.major) s.args.count s.args.cells.now
 
 placed : (c : tie.After-place-of) → c.place_of.result ≡ end_of c.before
 placed c = simp (to_z-of_z c.before.ranges.major) at c.place_of.ensures
@@ -64,7 +64,7 @@ module _ (c : tie.Else2) where
   row_before = omega (arith, placed c.before.before)
 
   end-within : c.before.before.place_of.result ≤ start.args.count
-  end-within = omega (arith, placed c.before.before, place-at-most start.args.cells.now start.args.header start.args.width start.args.count (lastKey start.args.major))
+  end-within = omega (arith, placed c.before.before, place-at-most start.args.cells.now start.args.header start.args.width start.args.count (last_key start.args.major))
 
   within : start.args.header + row * start.args.width + 1 < length start.args.cells.now
   within = row_in start row (omega (arith, row_before, end-within))
@@ -95,15 +95,15 @@ module _ (c : tie.After-find-by-distance) where
   s = start there
 
   own : first there ≡ s.args.major
-  own = ofZ-inj (first_fits c.before.before) s.fits.major c.before.if3.false
+  own = of_z-inj (first_fits c.before.before) s.fits.major c.before.if3.false
 
   greatest-fits : SFits w64 (second there)
   greatest-fits = sfits_of c.before.before.before.greatest.given
 
-  found : c.find-by-distance.result ≡ rowFound s.args.header s.args.width (key_of s.args.major s.args.minor) (end_of s) s.args.cells.now
+  found : c.find-by-distance.result ≡ row_found s.args.header s.args.width (key_of s.args.major s.args.minor) (end_of s) s.args.cells.now
   found =
       (simp (to_z-of_z s.fits.major, to_z-of_z s.fits.minor) at c.find-by-distance.ensures)
-      ∙ ap (λ (n : ℕ). rowFound s.args.header s.args.width (key_of s.args.major s.args.minor) n s.args.cells.now) (placed there.before.before)
+      ∙ ap (λ (n : ℕ). row_found s.args.header s.args.width (key_of s.args.major s.args.minor) n s.args.cells.now) (placed there.before.before)
 
 find-by-distance-requires : tie.Need-find-by-distance-requires
 find-by-distance-requires c κs =

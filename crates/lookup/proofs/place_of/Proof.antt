@@ -12,7 +12,7 @@ use mir.Syntax.{w64}
 use mir.Val.{Fits, to_z, of_z}
 use Rattle.rules.specs.Keyed.{Key, below}
 use Rattle.rules.specs.Rows.{key_of}
-use Rattle.lookup.specs.Lookup.{key_at, rowPlace}
+use Rattle.lookup.specs.Lookup.{key_at, row_place}
 use Rattle.lookup.specs.Steps.{halvings}
 use Rattle.lookup.proofs.Halving.{row_within, place-at-most, place-to, place-past}
 use Rattle.lookup.proofs.Steps.{halvings-step, fuel-suffices}
@@ -21,7 +21,7 @@ use Rattle.lookup.proofs.place_of.Tie as tie
 
 abbrev invariant-loop : tie.invariant-loop
 invariant-loop cells header width count major minor few low₀ left₀ fuel₀ low left fuel =
-    let place : ℕ = rowPlace header width (key_of (to_z w64 major) (to_z w64 minor)) count cells in
+    let place : ℕ = row_place header width (key_of (to_z w64 major) (to_z w64 minor)) count cells in
     (halvings left ≤ fuel) × (low ≤ place) × (place ≤ low + left) × (low + left ≤ count)
 
 abbrev decreases-loop : tie.decreases-loop
@@ -33,7 +33,7 @@ module _ (s : tie.Start invariant-loop decreases-loop) where
   sought = key_of (to_z w64 (of_z w64 s.args.major)) (to_z w64 (of_z w64 s.args.minor))
 
   abbrev place : ℕ
-  place = rowPlace s.args.header s.args.width sought s.args.count s.args.cells.now
+  place = row_place s.args.header s.args.width sought s.args.count s.args.cells.now
 
   -- Of any row: its key lies within the table, and says whether the place lies up to the row or past it. Which row a turn looks at is told by the code alone.
   within : {row : ℕ} → row < s.args.count → s.args.header + row * s.args.width + 1 < length s.args.cells.now
@@ -84,7 +84,7 @@ module _ (c : tie.After-loop invariant-loop decreases-loop) where
   none_left : c.before.loop.left ≡ 0
   none_left = omega (arith, c.loop-test.false)
 
-  placed : c.before.loop.low ≡ rowPlace begun.args.header begun.args.width (key_of begun.args.major begun.args.minor) begun.args.count begun.args.cells.now
+  placed : c.before.loop.low ≡ row_place begun.args.header begun.args.width (key_of begun.args.major begun.args.minor) begun.args.count begun.args.cells.now
   placed =
       let e : c.before.loop.low ≡ place begun = omega (arith, none_left, c.before.loop.invariant) in
       simp (to_z-of_z begun.fits.major, to_z-of_z begun.fits.minor) at e

@@ -11,8 +11,8 @@ use mir.Facts.{to_z-of_z}
 use mir.Syntax.{w64}
 use mir.Val.{to_z, of_z}
 use Rattle.integers.proofs.Linear.{zarith}
-use Rattle.rules.specs.Figures.{validDay}
-use Rattle.rules.specs.Tables.{recordsLayout, currentDay}
+use Rattle.rules.specs.Figures.{valid_day}
+use Rattle.rules.specs.Tables.{records_layout, current_day}
 use Rattle.cells.proofs.SoundCells.{record-rows-sound, records-known}
 use Rattle.figures.proofs.Tests.{failed, passed}
 use Rattle.scan.proofs.ReadBack.{read_back}
@@ -24,10 +24,10 @@ module _ (s : tie.Start) where
   abbrev rs : List ℤ
   rs = s.args.records.now
 
-  headed : recordsLayout.header ≤ length rs
+  headed : records_layout.header ≤ length rs
   headed = (records-known rs (record-rows-sound rs s.pre)).header-within
 
-range : (c : tie.After-valid-day) → c.valid-day.result ≡ validDay c.before.args.day
+range : (c : tie.After-valid-day) → c.valid-day.result ≡ valid_day c.before.args.day
 range c = simp (to_z-of_z c.before.ranges.day) at c.valid-day.ensures
 
 returns : tie.Need-returns
@@ -38,22 +38,22 @@ module _ (c : tie.After-today) where
   abbrev s : tie.Start
   s = c.before.before.before
 
-  valid : validDay s.args.day ≡ true
+  valid : valid_day s.args.day ≡ true
   valid = passed (range c.before.before) c.before.if1.false
 
-  read : to_z w64 (of_z w64 (currentDay (rs s))) ≡ currentDay (rs s)
-  read = read_back (currentDay (rs s)) c.today.given
+  read : to_z w64 (of_z w64 (current_day (rs s))) ≡ current_day (rs s)
+  read = read_back (current_day (rs s)) c.today.given
 
 returns-2 : tie.Need-returns-2
 returns-2 c =
     let s : tie.Start = s c.before in
-    let h : lt_z (currentDay (rs s)) s.args.day ≡ false = omega (zarith, simp (to_z-of_z s.fits.day, read c.before) at c.if2.true) in
+    let h : lt_z (current_day (rs s)) s.args.day ≡ false = omega (zarith, simp (to_z-of_z s.fits.day, read c.before) at c.if2.true) in
     not-later (rs s) s.args.day s.pre (valid c.before) h
 
 returns-3 : tie.Need-returns-3
 returns-3 c =
     let s : tie.Start = s c.before in
-    let h : lt_z (currentDay (rs s)) s.args.day ≡ true = omega (zarith, simp (to_z-of_z s.fits.day, read c.before) at c.if2.false) in
+    let h : lt_z (current_day (rs s)) s.args.day ≡ true = omega (zarith, simp (to_z-of_z s.fits.day, read c.before) at c.if2.false) in
     later (rs s) s.args.day s.pre (valid c.before) h _
     (simp (to_z-of_z s.fits.day) (day-set s.args.day (rs s) (headed s)))
 

@@ -4,14 +4,14 @@ use mathlib.Core.List.{List}
 use lib.IntN.{ℤ}
 use borrow.Author.Rules.{rules}
 use Rattle.rules.specs.Keyed.{greatest, upsert}
-use Rattle.rules.specs.ProcessRows.{processKey, soundProcess, rowOfProcess, openedProcess}
+use Rattle.rules.specs.ProcessRows.{process_key, sound_process, row_of_process, opened_process}
 use Rattle.rules.specs.Layout.{rows_of, write}
-use Rattle.rules.specs.Tables.{processesLayout}
+use Rattle.rules.specs.Tables.{processes_layout}
 use Rattle.rules.specs.declared.ProcessRow.{ProcessRow}
 use Rattle.lookup.specs.Lookup.{place_in}
 use Rattle.processes.specs.Ready.{InsertReady}
 use Rattle.scan.proofs.ReadBack.{read_back}
-use Rattle.give_up_steps.specs.Terms.{openedRow}
+use Rattle.give_up_steps.specs.Terms.{opened_row}
 use Rattle.give_up_steps.specs.declared.Terms.{Terms}
 use Rattle.opening.proofs.book.Statement.{statement}
 use Rattle.opening.proofs.book.Tie as tie
@@ -29,7 +29,7 @@ module _ (c : tie.After-opened) where
   abbrev qs : List ℤ
   qs = start.args.processes.now
 
-  opened-is : rowOfProcess c.opened.result ≡ openedRow g
+  opened-is : row_of_process c.opened.result ≡ opened_row g
   opened-is = simp (
     read_back g.process at_first.struct_told.given.0.1,
     read_back g.id at_first.struct_told.given.1.0.1,
@@ -40,13 +40,13 @@ module _ (c : tie.After-opened) where
   ) at c.opened.ensures
 
   ready : InsertReady qs start.args.place c.opened.result
-  unfolding openedProcess
+  unfolding opened_process
   ready = record {
     sound = start.pre.processes-sound;
-    row-sound = ap soundProcess opened-is ∙ start.pre.opened-sound;
-    unused = ap (λ (p : ProcessRow). greatest processKey p.process (rows_of processesLayout qs)) opened-is ∙ start.pre.unused;
+    row-sound = ap sound_process opened-is ∙ start.pre.opened-sound;
+    unused = ap (λ (p : ProcessRow). greatest process_key p.process (rows_of processes_layout qs)) opened-is ∙ start.pre.unused;
     room = start.pre.room;
-    place_is = start.pre.place_is ∙ ap (λ (p : ProcessRow). place_in processesLayout (processKey p) qs) (sym opened-is);
+    place_is = start.pre.place_is ∙ ap (λ (p : ProcessRow). place_in processes_layout (process_key p) qs) (sym opened-is);
   }
 
 insert-process-requires : tie.Need-insert-process-requires
@@ -57,7 +57,7 @@ returns c =
     let o : tie.After-opened = c.before.before.before.before.before.before in (
       c.before.before.before.before.set-status.ensures.0,
       c.before.insert-process.ensures.0
-          ∙ ap (λ (p : ProcessRow). write processesLayout (qs o) (upsert processKey p (rows_of processesLayout (qs o)))) (opened-is o),
+          ∙ ap (λ (p : ProcessRow). write processes_layout (qs o) (upsert process_key p (rows_of processes_layout (qs o)))) (opened-is o),
     )
 
 pub book-spec : {M : Type 1} → statement M

@@ -7,15 +7,15 @@ use mathlib.Core.Option.{none}
 use lib.IntN.{ℤ}
 use borrow.Author.Rules.{rules}
 use Rattle.rules.specs.Keyed.{greatest}
-use Rattle.rules.specs.Rows.{key_of, recordKey}
-use Rattle.rules.specs.ProcessRows.{processKey}
-use Rattle.rules.specs.Refusal.{firstRefusal}
+use Rattle.rules.specs.Rows.{key_of, record_key}
+use Rattle.rules.specs.ProcessRows.{process_key}
+use Rattle.rules.specs.Refusal.{first_refusal}
 use Rattle.rules.specs.Layout.{row_at, rows_of}
-use Rattle.rules.specs.Tables.{recordsLayout, processesLayout}
+use Rattle.rules.specs.Tables.{records_layout, processes_layout}
 use Rattle.rules.specs.declared.Record.{Record}
 use Rattle.cells.proofs.SoundCells.{record-rows-sound}
 use Rattle.figures.proofs.Tests.{failed, passed}
-use Rattle.lookup.specs.Lookup.{soughtIn, recordSought}
+use Rattle.lookup.specs.Lookup.{sought_in, record_sought}
 use Rattle.lookup.specs.declared.Greatest.{Greatest}
 use Rattle.lookup.proofs.RowFound.{nothing-none, suffix-some}
 use Rattle.lookup.proofs.TableLookup.{records-first}
@@ -24,10 +24,10 @@ use Rattle.lookup.proofs.TableSought.{table-present, table-lacks}
 use Rattle.processes.proofs.ProcessTable.{processes-first}
 use Rattle.scan.proofs.ReadBack.{read_back}
 use Rattle.soundness.proofs.GiveUp.{give-up-figures, sound-process}
-use Rattle.verdict.specs.Verdict.{verdictOf}
+use Rattle.verdict.specs.Verdict.{verdict_of}
 use Rattle.verdict.specs.declared.Verdict.TheVariants.{Accepted}
-use Rattle.give_up_steps.specs.StepTests.{openingTests}
-use Rattle.give_up_steps.specs.Terms.{termsValid}
+use Rattle.give_up_steps.specs.StepTests.{opening_tests}
+use Rattle.give_up_steps.specs.Terms.{terms_valid}
 use Rattle.give_up_steps.specs.declared.Terms.{Terms}
 use Rattle.opening.specs.OpeningReady.{OpeningReady}
 use Rattle.opening.proofs.OpeningStep.{opening-figures, opening-used, opening-missing, opening-refused, opening-booked}
@@ -65,10 +65,10 @@ module _ (c : tie.After-look-up) where
   abbrev start : tie.Start
   start = first.before.before.before.before
 
-  figures : termsValid (g start) ≡ true
+  figures : terms_valid (g start) ≡ true
   figures = passed first.before.before.before.figures-valid.ensures first.before.before.if1.left
 
-  process-is : c.look_up.result ≡ soughtIn processesLayout (key_of (g start).process (g start).id) (qs start)
+  process-is : c.look_up.result ≡ sought_in processes_layout (key_of (g start).process (g start).id) (qs start)
   process-is = simp (
     read_back (g start).process first.struct_told.given.0.1,
     read_back (g start).id first.struct_told.given.1.0.1,
@@ -81,7 +81,7 @@ returns-2 c =
     let g : Terms = g s in
     let w = c.enum_told.given.0 in
     opening-used (rs s) (ps s) (qs s) s.pre g.process g.id g.suffix g.giving g.taking g.series (figures l) w.1.0
-    (table-present processesLayout processKey processes-first (qs s) (key_of g.process g.id) w.0 w.1.0 w.1.1.0 (sym (process-is l) ∙ c.enum_told.given.1)).greatest-is
+    (table-present processes_layout process_key processes-first (qs s) (key_of g.process g.id) w.0 w.1.0 w.1.1.0 (sym (process-is l) ∙ c.enum_told.given.1)).greatest-is
 
 -- What was said of a process id that names no such transaction.
 module _ (c : tie.After-known-told) where
@@ -97,8 +97,8 @@ module _ (c : tie.After-known-told) where
   abbrev said : Greatest
   said = c.before.place.given.0.1.0
 
-  lacks : AbsentAt processesLayout processKey (qs start18) (key_of (g start18).process (g start18).id) place said
-  lacks = table-lacks processesLayout processKey processes-first (qs start18) (key_of (g start18).process (g start18).id) place said (sym (process-is look) ∙ c.before.place.given.1)
+  lacks : AbsentAt processes_layout process_key (qs start18) (key_of (g start18).process (g start18).id) place said
+  lacks = table-lacks processes_layout process_key processes-first (qs start18) (key_of (g start18).process (g start18).id) place said (sym (process-is look) ∙ c.before.place.given.1)
 
 returns-3 : tie.Need-returns-3
 returns-3 c =
@@ -120,10 +120,10 @@ module _ (c : tie.After-look-up2) where
   abbrev start5 : tie.Start
   start5 = start18 known
 
-  unused : greatest processKey (g start5).process (rows_of processesLayout (qs start5)) ≡ none
-  unused = nothing-none (greatest processKey (g start5).process (rows_of processesLayout (qs start5))) ((lacks known).greatest-is ∙ second.before.before.enum-told2.given.1)
+  unused : greatest process_key (g start5).process (rows_of processes_layout (qs start5)) ≡ none
+  unused = nothing-none (greatest process_key (g start5).process (rows_of processes_layout (qs start5))) ((lacks known).greatest-is ∙ second.before.before.enum-told2.given.1)
 
-  record_is : c.look-up2.result ≡ recordSought (rs start5) (g start5).id (g start5).suffix
+  record_is : c.look-up2.result ≡ record_sought (rs start5) (g start5).id (g start5).suffix
   record_is = simp (
     read_back (g start5).id second.struct-told3.given.1.0.1,
     read_back (g start5).suffix second.struct-told3.given.1.1.0.1,
@@ -134,8 +134,8 @@ returns-4 c =
     let l : tie.After-look-up2 = c.before.before in
     let s : tie.Start = start5 l in
     let g : Terms = g s in
-    let absent : AbsentAt recordsLayout recordKey (rs s) (key_of g.id g.suffix) c.enum-told4.given.0.0 c.enum-told4.given.0.1.0 =
-    table-lacks recordsLayout recordKey records-first (rs s) (key_of g.id g.suffix) _ _ (sym (record_is l) ∙ c.enum-told4.given.1) in
+    let absent : AbsentAt records_layout record_key (rs s) (key_of g.id g.suffix) c.enum-told4.given.0.0 c.enum-told4.given.0.1.0 =
+    table-lacks records_layout record_key records-first (rs s) (key_of g.id g.suffix) _ _ (sym (record_is l) ∙ c.enum-told4.given.1) in
     opening-missing (rs s) (ps s) (qs s) s.pre g.process g.id g.suffix g.giving g.taking g.series (figures (look (known l))) (unused l) absent.absent
 
 -- ---- the record
@@ -150,8 +150,8 @@ module _ (c : tie.After-known-told2) where
   abbrev row : ℕ
   row = c.before.row.given.0.0
 
-  there : PresentAt recordsLayout recordKey (rs s) (key_of (g s).id (g s).suffix) row c.before.row.given.0.1.0 c.before.row.given.0.1.1.0
-  there = table-present recordsLayout recordKey records-first (rs s) (key_of (g s).id (g s).suffix) row _ _ (sym (record_is found) ∙ c.before.row.given.1)
+  there : PresentAt records_layout record_key (rs s) (key_of (g s).id (g s).suffix) row c.before.row.given.0.1.0 c.before.row.given.0.1.1.0
+  there = table-present records_layout record_key records-first (rs s) (key_of (g s).id (g s).suffix) row _ _ (sym (record_is found) ∙ c.before.row.given.1)
 
 read-record-requires : tie.Need-read-record-requires
 read-record-requires c κs =
@@ -179,9 +179,9 @@ module _ (v : tie.After-verdict) where
   s6 = s named
 
   abbrev r : Record
-  r = row_at recordsLayout (rs s6) (row named)
+  r = row_at records_layout (rs s6) (row named)
 
-  judged : v.verdict.result ≡ verdictOf (firstRefusal (openingTests (qs s6) r (g s6).giving (g s6).series))
+  judged : v.verdict.result ≡ verdict_of (first_refusal (opening_tests (qs s6) r (g s6).giving (g s6).series))
   judged = simp (
     read.read-record.ensures,
     read_back (g s6).giving third.struct-told5.given.1.1.1.0.1,
@@ -211,7 +211,7 @@ module _ (c : tie.After-enum-told5) where
   abbrev terms : Terms
   terms = g s7
 
-  accepted : verdictOf (firstRefusal (openingTests (qs s7) (r at) terms.giving terms.series)) ≡ Accepted
+  accepted : verdict_of (first_refusal (opening_tests (qs s7) (r at) terms.giving terms.series)) ≡ Accepted
   accepted = sym (judged at) ∙ c.enum-told5.given.1
 
   ready : OpeningReady (rs s7) (qs s7) (row (named at)) (place (known (found (named at)))) terms

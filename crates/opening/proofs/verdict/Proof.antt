@@ -11,11 +11,11 @@ use mir.Facts.{to_z-of_z}
 use mir.Syntax.{w64}
 use mir.Val.{SFits}
 use borrow.Author.Rules.{rules, sfits_of}
-use Rattle.rules.specs.Figures.{isToClose}
-use Rattle.rules.specs.NamedRecord.{isElsewhere, isNotAdjustable, statusTest}
+use Rattle.rules.specs.Figures.{is_to_close}
+use Rattle.rules.specs.NamedRecord.{is_elsewhere, is_not_adjustable, status_test}
 use Rattle.rules.specs.Refusal.{Test, test}
-use Rattle.rules.specs.Layout.{roomOf, rows_of}
-use Rattle.rules.specs.Tables.{processesLayout}
+use Rattle.rules.specs.Layout.{room_of, rows_of}
+use Rattle.rules.specs.Tables.{processes_layout}
 use Rattle.rules.specs.declared.Record.{Record}
 use Rattle.cells.proofs.Count.{room_most}
 use Rattle.cells.proofs.SoundCells.{processes-known}
@@ -24,7 +24,7 @@ use Rattle.requests.proofs.StatusRefusal.{status-number}
 use Rattle.scan.proofs.ReadBack.{read_back}
 use Rattle.verdict.specs.declared.Verdict.TheVariants.{Refused}
 use Rattle.verdict.proofs.Remaining.{◌past◌, stops, ends}
-use Rattle.opening.proofs.OpeningTests.{Judged, roomTest, at-6}
+use Rattle.opening.proofs.OpeningTests.{Judged, room_test, at-6}
 use Rattle.opening.proofs.verdict.Statement.{statement}
 use Rattle.opening.proofs.verdict.Tie as tie
 
@@ -46,7 +46,7 @@ module _ (s : tie.Start) where
   By tests = Judged qs r giving series tests
 
   abbrev room : Test
-  room = roomTest qs r giving series
+  room = room_test qs r giving series
 
 -- ---- what the calls answered
 
@@ -57,19 +57,19 @@ module _ (c : tie.After-count) where
   abbrev start : tie.Start
   start = told.before.before
 
-  elsewhere : told.before.is-elsewhere.result ≡ isElsewhere (giving start) (series start) (r start)
+  elsewhere : told.before.is-elsewhere.result ≡ is_elsewhere (giving start) (series start) (r start)
   elsewhere = simp (to_z-of_z start.fits.giving, to_z-of_z start.fits.series) at told.before.is-elsewhere.ensures
 
   status-fits : SFits w64 (r start).status
   status-fits = sfits_of {w = w64} {z = (r start).status} told.struct_told.given.1.1.1.1.0.1
 
-  full : ltb c.before.room.result (c.count.result + 1) ≡ ltb (roomOf processesLayout (qs start)) (length (rows_of processesLayout (qs start)) + 1)
+  full : ltb c.before.room.result (c.count.result + 1) ≡ ltb (room_of processes_layout (qs start)) (length (rows_of processes_layout (qs start)) + 1)
   full = ap₂ (λ (room count : ℕ). ltb room (count + 1)) c.before.room.ensures c.count.ensures
 
 add-full : tie.Need-overflow-add-full
 add-full c =
     let s : tie.Start = start c in
-    omega (arith, c.count.ensures, (processes-known (qs s) s.pre).rows_fit, room_most processesLayout (qs s))
+    omega (arith, c.count.ensures, (processes-known (qs s) s.pre).rows_fit, room_most processes_layout (qs s))
 
 -- ---- test 6
 
@@ -81,14 +81,14 @@ returns c =
 
 -- ---- test 7 or 17
 
-at_7 : (c : tie.Else1) → let s = start c.before in By s (statusTest (r s) ∷ test 8 (isToClose (r s).side) ∷ room s ∷ [])
+at_7 : (c : tie.Else1) → let s = start c.before in By s (status_test (r s) ∷ test 8 (is_to_close (r s).side) ∷ room s ∷ [])
 unfolding test
 at_7 c =
     let s : tie.Start = start c.before in
     at-6 (qs s) (r s) (giving s) (series s) past sym (elsewhere c.before) ∙ c.if1.false
 
 returns-2 : tie.Need-returns-2
-unfolding test statusTest isNotAdjustable
+unfolding test status_test is_not_adjustable
 returns-2 c =
     let e : tie.Else1 = c.before.before in
     ap (λ (n : ℤ). Refused n (pos 0)) (status-number (sfits_of c.status-refusal.type-inv) (status-fits e.before) c.status-refusal.ensures)
@@ -103,11 +103,11 @@ module _ (c : tie.After-is-to-close) where
   abbrev start8 : tie.Start
   start8 = start else2.before.before
 
-  at_8 : By start8 (test 8 (isToClose (r start8).side) ∷ room start8 ∷ [])
-  unfolding test statusTest isNotAdjustable
+  at_8 : By start8 (test 8 (is_to_close (r start8).side) ∷ room start8 ∷ [])
+  unfolding test status_test is_not_adjustable
   at_8 = at_7 else2.before past ap not (is-literal 0 tt (status-fits else2.before.before) else2.if2.left)
 
-  to-close : c.is-to-close.result ≡ isToClose (r start8).side
+  to-close : c.is-to-close.result ≡ is_to_close (r start8).side
   to-close = simp (read_back (r start8).side c.before.struct-told2.given.1.1.1.1.1.1.1.0.1) at c.is-to-close.ensures
 
 returns-3 : tie.Need-returns-3

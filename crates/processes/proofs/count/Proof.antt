@@ -4,8 +4,8 @@ use lib.IntN.{nat_abs}
 use mir.Syntax.{w64}
 use mir.Val.{to_z, of_z}
 use Rattle.rules.specs.Layout.{count_of}
-use Rattle.rules.specs.Tables.{processesLayout}
-use Rattle.cells.proofs.Count.{length-rowsOf}
+use Rattle.rules.specs.Tables.{processes_layout}
+use Rattle.cells.proofs.Count.{length-rows_of}
 use Rattle.cells.proofs.RowCells.{processes-lawful}
 use Rattle.cells.proofs.SoundCells.{processes-known}
 use Rattle.scan.proofs.ReadBack.{read_back}
@@ -17,15 +17,15 @@ cell : (c : tie.After-result) → to_z w64 (of_z w64 (count_of c.before.args.cel
 cell c = read_back (count_of c.before.args.cells.now) c.result.given
 
 shared-slice-copy-out-result : tie.Need-shared-slice-copy-out-result
-shared-slice-copy-out-result c = count-there processesLayout processes-lawful c.args.cells.now (processes-known c.args.cells.now c.requires).count-sound
+shared-slice-copy-out-result c = count-there processes_layout processes-lawful c.args.cells.now (processes-known c.args.cells.now c.requires).count-sound
 
 cast-result : tie.Need-overflow-cast-result
 cast-result c =
     simp (cell c)
-    (count-casts processesLayout processes-lawful c.before.args.cells.now (processes-known c.before.args.cells.now c.before.requires).count-sound c.result.given)
+    (count-casts processes_layout processes-lawful c.before.args.cells.now (processes-known c.before.args.cells.now c.before.requires).count-sound c.result.given)
 
 returns : tie.Need-returns
-returns c = ap nat_abs (cell c) ∙ sym (length-rowsOf processesLayout c.before.args.cells.now)
+returns c = ap nat_abs (cell c) ∙ sym (length-rows_of processes_layout c.before.args.cells.now)
 
 pub count_spec : {M : Type 1} → statement M
 count_spec = tie.close (tie.spec shared-slice-copy-out-result cast-result returns)

@@ -1,8 +1,8 @@
 -- `processes::insert_process` meets its contract: the row's cells go in at the place of its key, where no row has the process id. Assumes nothing.
 use native.Mathlib.Omega.{arith}
 use borrow.Author.Rules.{rules}
-use Rattle.rules.specs.ProcessRows.{processKey, soundProcess, rowOfProcess}
-use Rattle.rules.specs.Tables.{processesLayout, soundProcesses}
+use Rattle.rules.specs.ProcessRows.{process_key, sound_process, row_of_process}
+use Rattle.rules.specs.Tables.{processes_layout, sound_processes}
 use Rattle.cells.proofs.RowCells.{processes-lawful}
 use Rattle.cells.proofs.SoundCells.{processes-known}
 use Rattle.tables.proofs.RowFits.{insertion-fits}
@@ -18,18 +18,18 @@ insert-row-requires c κs =
     let s : tie.Start = n.before.before in
     omega (
       arith,
-      insertion-fits processesLayout processes-lawful processKey processes-first soundProcess s.args.cells.now (processes-by-key s.args.cells.now s.requires.sound) n.count.result n.count.ensures
-          (processKey (rowOfProcess s.args.p)) r.process-cells.result (rowOfProcess s.args.p) r.process-cells.ensures (omega arith) s.requires.room s.args.place s.requires.place_is,
+      insertion-fits processes_layout processes-lawful process_key processes-first sound_process s.args.cells.now (processes-by-key s.args.cells.now s.requires.sound) n.count.result n.count.ensures
+          (process_key (row_of_process s.args.p)) r.process-cells.result (row_of_process s.args.p) r.process-cells.ensures (omega arith) s.requires.room s.args.place s.requires.place_is,
     )
 
 returns : tie.Need-returns
-unfolding soundProcesses
+unfolding sound_processes
 returns c =
     let r : tie.After-process-cells = c.before.before.before.before in
     let n : tie.After-count = r.before in
     let s : tie.Start = n.before.before in
-    number-inserted processesLayout processes-lawful processKey processes-first soundProcess s.args.cells.now (processes-known s.args.cells.now s.requires.sound)
-    (rowOfProcess s.args.p) s.requires.row-sound r.process-cells.result r.process-cells.ensures c.before.insert-row.new.0
+    number-inserted processes_layout processes-lawful process_key processes-first sound_process s.args.cells.now (processes-known s.args.cells.now s.requires.sound)
+    (row_of_process s.args.p) s.requires.row-sound r.process-cells.result r.process-cells.ensures c.before.insert-row.new.0
     s.requires.unused s.requires.room n.count.result n.count.ensures s.args.place s.requires.place_is c.before.insert-row.ensures
 
 pub insert-process-spec : {M : Type 1} → statement M

@@ -1,7 +1,7 @@
 -- `processes::process_of` meets its contract: each figure is the row's, read back from its bits, and the stage is that of its number. Assumes nothing.
 use mathlib.Core.Path.{◌≡◌, ◌∙◌}
 use borrow.Author.Rules.{rules}
-use Rattle.rules.specs.ProcessRows.{stageNumber}
+use Rattle.rules.specs.ProcessRows.{stage_number}
 use Rattle.rules.specs.declared.ProcessRow.{ProcessRow}
 use Rattle.scan.proofs.ReadBack.{read_back}
 use Rattle.processes.proofs.process_of.Statement.{statement}
@@ -11,7 +11,7 @@ returns : tie.Need-returns
 returns c =
     let r : ProcessRow = c.before.before.before.args.r in
     let known = c.before.before.struct_told.given in
-    let stage : stageNumber c.before.stage-of.result ≡ r.stage = c.before.stage-of.ensures ∙ read_back r.stage known.1.1.1.1.1.1.1.1.0.1 in
+    let stage : stage_number c.before.stage-of.result ≡ r.stage = c.before.stage-of.ensures ∙ read_back r.stage known.1.1.1.1.1.1.1.1.0.1 in
     simp (
       read_back r.process known.0.1,
       read_back r.id known.1.0.1,

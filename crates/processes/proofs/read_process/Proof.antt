@@ -4,23 +4,23 @@ use Prim.Native.Nat.{suc, ◌≤◌}
 use mathlib.Core.Path.{◌≡◌, ap, ◌∙◌}
 use mathlib.Core.Bool.{true}
 use lib.ListN.{length}
-use Rattle.rules.specs.ProcessRows.{validStage}
+use Rattle.rules.specs.ProcessRows.{valid_stage}
 use Rattle.rules.specs.Layout.{start_of, row_at}
-use Rattle.rules.specs.Tables.{processesLayout}
+use Rattle.rules.specs.Tables.{processes_layout}
 use Rattle.rules.specs.declared.ProcessRow.{ProcessRow}
 use Rattle.processes.proofs.ProcessTable.{process-cells-within, process-row-sound, sound-stage}
 use Rattle.processes.proofs.read_process.Statement.{statement}
 use Rattle.processes.proofs.read_process.Tie as tie
 
 module _ (s : tie.Start) where
-  within : start_of processesLayout (suc s.args.row) ≤ length s.args.cells.now
+  within : start_of processes_layout (suc s.args.row) ≤ length s.args.cells.now
   within = process-cells-within s.args.cells.now s.requires.0 s.args.row s.requires.1
 
-  stage-valid : validStage (row_at processesLayout s.args.cells.now s.args.row).stage ≡ true
-  stage-valid = sound-stage (row_at processesLayout s.args.cells.now s.args.row) (process-row-sound s.args.cells.now s.pre.0 s.args.row s.pre.1)
+  stage-valid : valid_stage (row_at processes_layout s.args.cells.now s.args.row).stage ≡ true
+  stage-valid = sound-stage (row_at processes_layout s.args.cells.now s.args.row) (process-row-sound s.args.cells.now s.pre.0 s.args.row s.pre.1)
 
 process-of-requires : tie.Need-process-of-requires
-process-of-requires c κs = ap (λ (r : ProcessRow). validStage r.stage) c.process-at.ensures ∙ stage-valid c.before
+process-of-requires c κs = ap (λ (r : ProcessRow). valid_stage r.stage) c.process-at.ensures ∙ stage-valid c.before
 
 returns : tie.Need-returns
 returns c = c.process-of.ensures ∙ c.before.process-at.ensures

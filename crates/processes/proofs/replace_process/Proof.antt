@@ -3,9 +3,9 @@ use native.Mathlib.Omega.{arith}
 use mathlib.Core.Path.{refl}
 use borrow.Author.Rules.{rules}
 use lib.ListN.{length}
-use Rattle.rules.specs.ProcessRows.{processKey, soundProcess, rowOfProcess}
+use Rattle.rules.specs.ProcessRows.{process_key, sound_process, row_of_process}
 use Rattle.rules.specs.Layout.{rows_of}
-use Rattle.rules.specs.Tables.{processesLayout, soundProcesses}
+use Rattle.rules.specs.Tables.{processes_layout, sound_processes}
 use Rattle.cells.proofs.RowCells.{processes-lawful}
 use Rattle.cells.proofs.SoundCells.{processes-known}
 use Rattle.tables.proofs.RowFits.{replacement-fits}
@@ -20,19 +20,19 @@ replace-row-requires c κs =
     let s : tie.Start = r.before in
     omega (
       arith,
-      replacement-fits processesLayout processes-lawful processKey processes-first soundProcess s.args.cells.now (processes-by-key s.args.cells.now s.requires.sound)
-          (length (rows_of processesLayout s.args.cells.now)) refl (processKey (rowOfProcess s.args.p))
-          r.process-cells.result (rowOfProcess s.args.p) r.process-cells.ensures
+      replacement-fits processes_layout processes-lawful process_key processes-first sound_process s.args.cells.now (processes-by-key s.args.cells.now s.requires.sound)
+          (length (rows_of processes_layout s.args.cells.now)) refl (process_key (row_of_process s.args.p))
+          r.process-cells.result (row_of_process s.args.p) r.process-cells.ensures
           s.args.row (replaced-there s.args.cells.now s.args.row s.args.p s.requires),
     )
 
 returns : tie.Need-returns
-unfolding soundProcesses
+unfolding sound_processes
 returns c =
     let r : tie.After-process-cells = c.before.before.before.before in
     let s : tie.Start = r.before in
-    number-replaced processesLayout processes-lawful processKey processes-first soundProcess s.args.cells.now (processes-known s.args.cells.now s.requires.sound)
-    (rowOfProcess s.args.p) s.requires.row-sound r.process-cells.result r.process-cells.ensures c.before.replace-row.new.0
+    number-replaced processes_layout processes-lawful process_key processes-first sound_process s.args.cells.now (processes-known s.args.cells.now s.requires.sound)
+    (row_of_process s.args.p) s.requires.row-sound r.process-cells.result r.process-cells.ensures c.before.replace-row.new.0
     s.args.row (replaced-there s.args.cells.now s.args.row s.args.p s.requires) c.before.replace-row.ensures
 
 pub replace-process-spec : {M : Type 1} → statement M

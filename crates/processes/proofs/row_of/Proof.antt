@@ -4,7 +4,7 @@ use borrow.Author.Rules.{rules}
 use lib.IntN.{ℤ}
 use mir.Syntax.{w64}
 use mir.Val.{to_z, of_z}
-use Rattle.rules.specs.ProcessRows.{stageNumber}
+use Rattle.rules.specs.ProcessRows.{stage_number}
 use Rattle.rules.specs.declared.Process.{Process}
 use Rattle.rules.specs.declared.Stage.{Stage}
 use Rattle.rules.specs.declared.Stage.TheVariants.{Pending, Claimed, Refused, Cancelled, Done}
@@ -12,8 +12,8 @@ use Rattle.scan.proofs.ReadBack.{read_back}
 use Rattle.processes.proofs.row_of.Statement.{statement}
 use Rattle.processes.proofs.row_of.Tie as tie
 
-number-back : (s : Stage) → to_z w64 (of_z w64 (stageNumber s)) ≡ stageNumber s
-unfolding stageNumber
+number-back : (s : Stage) → to_z w64 (of_z w64 (stage_number s)) ≡ stage_number s
+unfolding stage_number
 number-back Pending = refl
 number-back Claimed = refl
 number-back Refused = refl
@@ -24,7 +24,7 @@ returns : tie.Need-returns
 returns c =
     let p : Process = c.before.before.args.p in
     let known = c.struct_told.given in
-    let stage : to_z w64 (of_z w64 c.before.stage-number.result) ≡ stageNumber p.stage
+    let stage : to_z w64 (of_z w64 c.before.stage-number.result) ≡ stage_number p.stage
     = ap (λ (z : ℤ). to_z w64 (of_z w64 z)) c.before.stage-number.ensures ∙ number-back p.stage in
     simp (
       read_back p.process known.0.1,

@@ -10,11 +10,11 @@ use mir.Facts.{to_z-of_z}
 use mir.Syntax.{w64}
 use mir.Val.{to_z, of_z}
 use Rattle.rules.specs.Layout.{rows_of}
-use Rattle.rules.specs.Tables.{recordsLayout}
+use Rattle.rules.specs.Tables.{records_layout}
 use Rattle.rules.specs.declared.Record.{Record}
 use Rattle.cells.proofs.Count.{room_most}
 use Rattle.cells.proofs.SoundCells.{records-known}
-use Rattle.reportable.specs.Listing.{countedOf}
+use Rattle.reportable.specs.Listing.{counted_of}
 use Rattle.reportable.specs.declared.Counted.{Counted}
 use Rattle.reportable.proofs.Listing.{CountedSoFar, none-counted, row-lacks, row-counted, all-counted}
 use Rattle.reportable.proofs.count_pairs.Statement.{statement}
@@ -31,17 +31,17 @@ module _ (s : tie.Start invariant-loop decreases-loop) where
   cells = s.args.records.now
 
   abbrev rows : List Record
-  rows = rows_of recordsLayout cells
+  rows = rows_of records_layout cells
 
   -- The current day, as the loop has it.
   abbrev day : ℤ
   day = to_z w64 (of_z w64 s.args.today)
 
   few : length rows ≤ 4096
-  few = omega (arith, (records-known cells s.pre).rows_fit, room_most recordsLayout cells)
+  few = omega (arith, (records-known cells s.pre).rows_fit, room_most records_layout cells)
 
-  as-asked : {a : Counted} → a ≡ countedOf day rows rows → a ≡ countedOf s.args.today rows rows
-  as-asked e = e ∙ ap (λ (z : ℤ). countedOf z rows rows) (to_z-of_z s.fits.today)
+  as-asked : {a : Counted} → a ≡ counted_of day rows rows → a ≡ counted_of s.args.today rows rows
+  as-asked e = e ∙ ap (λ (z : ℤ). counted_of z rows rows) (to_z-of_z s.fits.today)
 
 module _ (k : tie.In-loop invariant-loop decreases-loop) where
   abbrev a : tie.At-loop invariant-loop decreases-loop

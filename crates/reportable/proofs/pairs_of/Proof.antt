@@ -9,19 +9,19 @@ use borrow.Author.Rules.{rules, sfits_of}
 use mir.Facts.{to_z-of_z}
 use mir.Syntax.{w64}
 use mir.Val.{SFits, to_z, of_z}
-use Rattle.integers.specs.Order.{eqZ}
-use Rattle.integers.proofs.Parts.{eqZ-true, true-eqZ, false-eqZ}
-use Rattle.integers.proofs.Bits.{ofZ-inj}
-use Rattle.rules.specs.Figures.{adjustable, inverse, underGiveUp}
+use Rattle.integers.specs.Order.{eq_z}
+use Rattle.integers.proofs.Parts.{eq_z-true, true-eq_z, false-eq_z}
+use Rattle.integers.proofs.Bits.{of_z-inj}
+use Rattle.rules.specs.Figures.{adjustable, inverse, under_give_up}
 use Rattle.rules.specs.Layout.{row_at, rows_of}
 use Rattle.rules.specs.Reportable.{parent_of}
-use Rattle.rules.specs.Tables.{recordsLayout}
+use Rattle.rules.specs.Tables.{records_layout}
 use Rattle.rules.specs.declared.Record.{Record}
 use Rattle.figures.proofs.Tests.{is-literal, not-literal}
 use Rattle.lookup.specs.declared.Found.{Found}
 use Rattle.scan.proofs.ReadBack.{read_back}
 use Rattle.tables.specs.Parent.{ParentAt}
-use Rattle.reportable.specs.Listing.{pairsOfRow}
+use Rattle.reportable.specs.Listing.{pairs_of_row}
 use Rattle.reportable.proofs.RowPairs.{other-day, adjustable-row, under-row, adjusted-row, missing-parent, earlier-parent, same-day-parent}
 use Rattle.reportable.proofs.pairs_of.Statement.{statement}
 use Rattle.reportable.proofs.pairs_of.Tie as tie
@@ -35,7 +35,7 @@ module _ (c : tie.After-read-record) where
   cells = s.args.records.now
 
   abbrev rows : List Record
-  rows = rows_of recordsLayout cells
+  rows = rows_of records_layout cells
 
   abbrev today : ℤ
   today = s.args.today
@@ -43,8 +43,8 @@ module _ (c : tie.After-read-record) where
   abbrev r : Record
   r = c.read-record.result
 
-  as_row : pairsOfRow today rows r ≡ pairsOfRow today rows (row_at recordsLayout cells s.args.row)
-  as_row = ap (pairsOfRow today rows) c.read-record.ensures
+  as_row : pairs_of_row today rows r ≡ pairs_of_row today rows (row_at records_layout cells s.args.row)
+  as_row = ap (pairs_of_row today rows) c.read-record.ensures
 
 -- ---- the day
 
@@ -54,13 +54,13 @@ read1 c = c.before.before
 returns : tie.Need-returns
 returns c =
     let a : tie.After-read-record = read1 c.before in
-    other-day (today a) (rows a) (r a) (false-eqZ (r a).day (today a) (λ e. c.if1.true (ap (of_z w64) e))) ∙ as_row a
+    other-day (today a) (rows a) (r a) (false-eq_z (r a).day (today a) (λ e. c.if1.true (ap (of_z w64) e))) ∙ as_row a
 
-own-day : (c : tie.Else1) → eqZ (r (read1 c.before)).day (today (read1 c.before)) ≡ true
+own-day : (c : tie.Else1) → eq_z (r (read1 c.before)).day (today (read1 c.before)) ≡ true
 own-day c =
     let a : tie.After-read-record = read1 c.before in
     let fits : SFits w64 (r a).day = sfits_of {w = w64} {z = (r a).day} c.before.struct_told.given.1.1.1.1.1.1.1.1.1.1.1.1.1.0.1 in
-    true-eqZ (r a).day (today a) (ofZ-inj fits (s a).fits.today c.if1.false)
+    true-eq_z (r a).day (today a) (of_z-inj fits (s a).fits.today c.if1.false)
 
 -- ---- the status
 
@@ -68,7 +68,7 @@ module _ (c : tie.After-struct-told2) where
   abbrev read2 : tie.After-read-record
   read2 = read1 c.before.before.before
 
-  own2 : eqZ (r read2).day (today read2) ≡ true
+  own2 : eq_z (r read2).day (today read2) ≡ true
   own2 = own-day c.before.before
 
   status-fits : SFits w64 (r read2).status
@@ -77,7 +77,7 @@ module _ (c : tie.After-struct-told2) where
 returns-2 : tie.Need-returns-2
 returns-2 c =
     let a : tie.After-read-record = read2 c.before in
-    adjustable-row (today a) (rows a) (r a) (own2 c.before) (eqZ-true (r a).status adjustable (is-literal 0 tt (status-fits c.before) c.if2.true)) ∙ as_row a
+    adjustable-row (today a) (rows a) (r a) (own2 c.before) (eq_z-true (r a).status adjustable (is-literal 0 tt (status-fits c.before) c.if2.true)) ∙ as_row a
 
 abbrev told2 : tie.After-struct-told3 → tie.After-struct-told2
 told2 c = c.before.before.before
@@ -86,7 +86,7 @@ returns-3 : tie.Need-returns-3
 returns-3 c =
     let t : tie.After-struct-told2 = told2 c.before in
     let a : tie.After-read-record = read2 t in
-    under-row (today a) (rows a) (r a) (own2 t) (eqZ-true (r a).status underGiveUp (is-literal 3 tt (status-fits t) c.if3.true)) ∙ as_row a
+    under-row (today a) (rows a) (r a) (own2 t) (eq_z-true (r a).status under_give_up (is-literal 3 tt (status-fits t) c.if3.true)) ∙ as_row a
 
 abbrev told3 : tie.After-struct-told4 → tie.After-struct-told3
 told3 c = c.before.before.before
@@ -110,7 +110,7 @@ module _ (c : tie.After-find-parent) where
   read4 = read2 told4
 
   inverted : (r read4).status ≡ inverse
-  inverted = eqZ-true (r read4).status inverse (is-literal 2 tt (status-fits told4) c.before.if4.false)
+  inverted = eq_z-true (r read4).status inverse (is-literal 2 tt (status-fits told4) c.before.if4.false)
 
   sought : (f : Found) → c.find-parent.result ≡ f → ParentAt (cells read4) (r read4) f
   sought f e = subst (ParentAt (cells read4) (r read4)) e c.find-parent.ensures

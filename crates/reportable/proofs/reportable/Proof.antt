@@ -12,15 +12,15 @@ use mir.Syntax.{w64}
 use mir.Val.{to_z, of_z}
 use Rattle.rules.specs.Layout.{rows_of}
 use Rattle.rules.specs.Left.{left}
-use Rattle.rules.specs.Reportable.{reportableRecords}
-use Rattle.rules.specs.Tables.{recordsLayout, currentDay, soundRecords}
+use Rattle.rules.specs.Reportable.{reportable_records}
+use Rattle.rules.specs.Tables.{records_layout, current_day, sound_records}
 use Rattle.rules.specs.declared.Record.{Record}
 use Rattle.rules.specs.declared.Reply.TheVariants.{Listed}
 use Rattle.cells.proofs.Count.{room_most}
 use Rattle.cells.proofs.SoundCells.{record-rows-sound, records-known}
 use Rattle.figures.proofs.Tests.{failed, passed}
 use Rattle.scan.proofs.ReadBack.{read_back}
-use Rattle.reportable.specs.Listing.{countedOf}
+use Rattle.reportable.specs.Listing.{counted_of}
 use Rattle.reportable.specs.declared.Counted.TheVariants.{Pairs}
 use Rattle.reportable.proofs.Listing.{two-cells-each, fewer-reported}
 use Rattle.reportable.proofs.Answers.{refused-unsound, refused-missing, refused-short, listed-all, counted-all}
@@ -32,12 +32,12 @@ module _ (s : tie.Start) where
   rs = s.args.records.now
 
   abbrev rows : List Record
-  rows = rows_of recordsLayout rs
+  rows = rows_of records_layout rs
 
   abbrev pairs : List ℤ
   pairs = s.args.pairs.now
 
-sound : (c : tie.Else1) → soundRecords (rs c.before.before) ≡ true
+sound : (c : tie.Else1) → sound_records (rs c.before.before) ≡ true
 sound c = passed c.before.records-sound.ensures c.if1.false
 
 returns : tie.Need-returns
@@ -49,7 +49,7 @@ module _ (c : tie.After-today) where
   abbrev s1 : tie.Start
   s1 = c.before.before.before
 
-  today-is : to_z w64 (of_z w64 c.today.result) ≡ currentDay (rs s1)
+  today-is : to_z w64 (of_z w64 c.today.result) ≡ current_day (rs s1)
   today-is = read_back c.today.result c.today.type-inv ∙ c.today.ensures
 
 -- ---- the count
@@ -58,11 +58,11 @@ module _ (c : tie.After-count-pairs) where
   abbrev s2 : tie.Start
   s2 = s1 c.before
 
-  rows-sound : soundRecords (rs s2) ≡ true
+  rows-sound : sound_records (rs s2) ≡ true
   rows-sound = sound c.before.before
 
-  counted : c.count-pairs.result ≡ countedOf (currentDay (rs s2)) (rows s2) (rows s2)
-  counted = c.count-pairs.ensures ∙ ap (λ (z : ℤ). countedOf z (rows s2) (rows s2)) (today-is c.before)
+  counted : c.count-pairs.result ≡ counted_of (current_day (rs s2)) (rows s2) (rows s2)
+  counted = c.count-pairs.ensures ∙ ap (λ (z : ℤ). counted_of z (rows s2) (rows s2)) (today-is c.before)
 
 returns-2 : tie.Need-returns-2
 returns-2 c =
@@ -79,7 +79,7 @@ module _ (c : tie.After-known-told) where
   abbrev count : ℕ
   count = c.before.count.given.0.0
 
-  is-count : countedOf (currentDay (rs s3)) (rows s3) (rows s3) ≡ Pairs count
+  is-count : counted_of (current_day (rs s3)) (rows s3) (rows s3) ≡ Pairs count
   is-count = sym (counted k) ∙ c.before.count.given.1
 
   few : count ≤ 4096
@@ -87,9 +87,9 @@ module _ (c : tie.After-known-told) where
       omega (
         arith,
         (counted-all (rs s3) (pairs s3) (rows-sound k) count is-count).1,
-        fewer-reported (currentDay (rs s3)) (rows s3) (rows s3),
+        fewer-reported (current_day (rs s3)) (rows s3) (rows s3),
         (records-known (rs s3) (record-rows-sound (rs s3) (rows-sound k))).rows_fit,
-        room_most recordsLayout (rs s3),
+        room_most records_layout (rs s3),
       )
 
 returns-3 : tie.Need-returns-3
@@ -101,7 +101,7 @@ write-pairs-requires : tie.Need-write-pairs-requires
 write-pairs-requires c κs =
     let t : tie.After-known-told = c.before.before in
     let all = counted-all (rs (s3 t)) (pairs (s3 t)) (rows-sound (k t)) (count t) (is-count t) in
-    simp (today-is (k t).before) (record-rows-sound (rs (s3 t)) (rows-sound (k t)), all.0, omega (arith, two-cells-each (reportableRecords (currentDay (rs (s3 t))) (rows (s3 t))), all.1, c.before.if2.false))
+    simp (today-is (k t).before) (record-rows-sound (rs (s3 t)) (rows-sound (k t)), all.0, omega (arith, two-cells-each (reportable_records (current_day (rs (s3 t))) (rows (s3 t))), all.1, c.before.if2.false))
 
 returns-4 : tie.Need-returns-4
 returns-4 c =

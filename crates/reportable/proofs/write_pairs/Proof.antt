@@ -11,10 +11,10 @@ use mir.Facts.{to_z-of_z}
 use mir.Syntax.{w64}
 use mir.Val.{to_z, of_z}
 use Rattle.rules.specs.Layout.{rows_of}
-use Rattle.rules.specs.Left.{writtenTo}
+use Rattle.rules.specs.Left.{written_to}
 use Rattle.rules.specs.Refusal.{any_of}
-use Rattle.rules.specs.Reportable.{lacksParent, reportableAmong, idsAndSuffixes}
-use Rattle.rules.specs.Tables.{recordsLayout}
+use Rattle.rules.specs.Reportable.{lacks_parent, reportable_among, ids_and_suffixes}
+use Rattle.rules.specs.Tables.{records_layout}
 use Rattle.rules.specs.declared.Record.{Record}
 use Rattle.cells.proofs.Count.{room_most}
 use Rattle.cells.proofs.SoundCells.{records-known}
@@ -33,19 +33,19 @@ module _ (s : tie.Start invariant-loop decreases-loop) where
   cells = s.args.records.now
 
   abbrev rows : List Record
-  rows = rows_of recordsLayout cells
+  rows = rows_of records_layout cells
 
   -- The current day, as the loop has it.
   abbrev day : ℤ
   day = to_z w64 (of_z w64 s.args.today)
 
   few : length rows ≤ 4096
-  few = omega (arith, (records-known cells s.pre.0).rows_fit, room_most recordsLayout cells)
+  few = omega (arith, (records-known cells s.pre.0).rows_fit, room_most records_layout cells)
 
-  has-parents : any_of (map (lacksParent day rows) rows) ≡ false
+  has-parents : any_of (map (lacks_parent day rows) rows) ≡ false
   has-parents = simp (to_z-of_z s.fits.today) s.pre.1
 
-  room : length (idsAndSuffixes (reportableAmong day rows rows)) ≤ length s.args.pairs.now
+  room : length (ids_and_suffixes (reportable_among day rows rows)) ≤ length s.args.pairs.now
   room = simp (to_z-of_z s.fits.today) s.pre.2
 
 module _ (k : tie.In-loop invariant-loop decreases-loop) where
@@ -99,4 +99,4 @@ write-pairs-spec =
     (λ c.
     all-written (day (s2 c)) (cells (s2 c)) (s2 c).args.pairs.now (room (s2 c)) (l c).loop.pairs (l c).loop.at (l c).loop.row (l c).loop.invariant
     (omega (arith, c.loop-test.false, (l c).before.count.ensures))
-    ∙ ap (λ (z : ℤ). writtenTo (s2 c).args.pairs.now (idsAndSuffixes (reportableAmong z (rows (s2 c)) (rows (s2 c))))) (to_z-of_z (s2 c).ranges.today)))
+    ∙ ap (λ (z : ℤ). written_to (s2 c).args.pairs.now (ids_and_suffixes (reportable_among z (rows (s2 c)) (rows (s2 c))))) (to_z-of_z (s2 c).ranges.today)))

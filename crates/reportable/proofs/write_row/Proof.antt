@@ -10,11 +10,11 @@ use mir.Facts.{to_z-of_z}
 use Rattle.text.specs.Written.{written}
 use Rattle.text.proofs.WrittenLaws.{Wrote, written-nothing}
 use Rattle.rules.specs.Layout.{row_at, rows_of}
-use Rattle.rules.specs.Reportable.{reportableAmong, idsAndSuffixes}
-use Rattle.rules.specs.Tables.{recordsLayout}
+use Rattle.rules.specs.Reportable.{reportable_among, ids_and_suffixes}
+use Rattle.rules.specs.Tables.{records_layout}
 use Rattle.rules.specs.declared.Record.{Record}
 use Rattle.scan.proofs.ReadBack.{read_back}
-use Rattle.reportable.specs.Listing.{pairsOfRow}
+use Rattle.reportable.specs.Listing.{pairs_of_row}
 use Rattle.reportable.proofs.RowPairs.{one-reported, none-reported}
 use Rattle.reportable.proofs.Listing.{one-pair, no-pair, two-stores}
 use Rattle.reportable.proofs.write_row.Statement.{statement}
@@ -22,21 +22,21 @@ use Rattle.reportable.proofs.write_row.Tie as tie
 
 module _ (s : tie.Start) where
   abbrev rows : List Record
-  rows = rows_of recordsLayout s.args.records.now
+  rows = rows_of records_layout s.args.records.now
 
   abbrev r : Record
-  r = row_at recordsLayout s.args.records.now s.args.row
+  r = row_at records_layout s.args.records.now s.args.row
 
   abbrev given : List ℤ
-  given = idsAndSuffixes (reportableAmong s.args.today rows (r ∷ []))
+  given = ids_and_suffixes (reportable_among s.args.today rows (r ∷ []))
 
-answer : (c : tie.After-pairs-of) → c.pairs_of.result ≡ pairsOfRow c.before.args.today (rows c.before) (r c.before)
+answer : (c : tie.After-pairs-of) → c.pairs_of.result ≡ pairs_of_row c.before.args.today (rows c.before) (r c.before)
 answer c = simp (to_z-of_z c.before.ranges.today) at c.pairs_of.ensures
 
 returns : tie.Need-returns
 returns c =
     let s : tie.Start = c.before.before in
-    let nothing : given s ≡ [] = ap idsAndSuffixes (none-reported s.args.today (rows s) (r s) s.requires.2 (λ e. c.if1.true (answer c.before ∙ e))) ∙ no-pair in
+    let nothing : given s ≡ [] = ap ids_and_suffixes (none-reported s.args.today (rows s) (r s) s.requires.2 (λ e. c.if1.true (answer c.before ∙ e))) ∙ no-pair in
     subst (λ (l : List ℤ). Wrote l s.args.at s.args.pairs.now s.args.at s.args.pairs.now) (sym nothing)
     (omega arith, sym (written-nothing s.args.at s.args.pairs.now))
 
@@ -46,7 +46,7 @@ module _ (c : tie.Else1) where
   s = c.before.before
 
   pair : given s ≡ (r s).id ∷ (r s).suffix ∷ []
-  pair = ap idsAndSuffixes (one-reported s.args.today (rows s) (r s) s.pre.2 (sym (answer c.before) ∙ c.if1.false)) ∙ one-pair (r s)
+  pair = ap ids_and_suffixes (one-reported s.args.today (rows s) (r s) s.pre.2 (sym (answer c.before) ∙ c.if1.false)) ∙ one-pair (r s)
 
   room : s.args.at + 2 ≤ length s.args.pairs.now
   room = omega (arith, s.pre.3, ap length pair)

@@ -1,20 +1,20 @@
 -- `requests::adjust_named` meets its contract: the record adjusted, then its rows inserted. Assumes nothing.
 use mathlib.Core.Path.{sym, ap, ◌∙◌}
 use borrow.Author.Rules.{rules}
-use Rattle.rules.specs.Rows.{soundRecord, adjustedRecord}
+use Rattle.rules.specs.Rows.{sound_record, adjusted_record}
 use Rattle.rules.specs.declared.Record.{Record}
 use Rattle.requests.proofs.Adjusting.{rows-ready, adjusted-with-rows}
 use Rattle.requests.proofs.adjust_named.Statement.{statement}
 use Rattle.requests.proofs.adjust_named.Tie as tie
 
 set-status-requires : tie.Need-set-status-requires
-unfolding adjustedRecord
+unfolding adjusted_record
 set-status-requires c κs =
     let s : tie.Start = c.before in
-    (s.requires.sound, s.requires.known.row_within, ap (λ (r : Record). soundRecord (adjustedRecord r)) (sym s.requires.known.row_is) ∙ s.requires.adjusted-sound)
+    (s.requires.sound, s.requires.known.row_within, ap (λ (r : Record). sound_record (adjusted_record r)) (sym s.requires.known.row_is) ∙ s.requires.adjusted-sound)
 
 insert-rows-requires : tie.Need-insert-rows-requires
-unfolding adjustedRecord
+unfolding adjusted_record
 insert-rows-requires c κs =
     let a : tie.After-set-status = c.before.before in
     let s : tie.Start = a.before.before in
@@ -22,7 +22,7 @@ insert-rows-requires c κs =
     a.set-status.new.0 a.set-status.ensures.0 a.set-status.ensures.1
 
 returns : tie.Need-returns
-unfolding adjustedRecord
+unfolding adjusted_record
 returns c =
     let a : tie.After-set-status = c.before.before.before.before in
     let s : tie.Start = a.before.before in

@@ -1,12 +1,12 @@
 -- `requests::adjustable_record` meets its contract: the figures are those given, each read back from its bits. Assumes nothing.
 use mir.Facts.{to_z-of_z}
-use Rattle.rules.specs.Rows.{adjustableRecord}
+use Rattle.rules.specs.Rows.{adjustable_record}
 use Rattle.scan.proofs.ReadBack.{read_back}
 use Rattle.requests.proofs.adjustable_record.Statement.{statement}
 use Rattle.requests.proofs.adjustable_record.Tie as tie
 
 returns : tie.Need-returns
-unfolding adjustableRecord
+unfolding adjustable_record
 returns c =
     let s : tie.Start = c.before in
     let r = s.args.r in

@@ -4,10 +4,10 @@ use mathlib.Core.Bool.{true, false}
 use borrow.Author.Rules.{sfits_of}
 use mir.Syntax.{w64}
 use mir.Val.{SFits, of_z}
-use Rattle.integers.specs.Order.{eqZ}
-use Rattle.integers.proofs.Parts.{true-eqZ, false-eqZ}
-use Rattle.integers.proofs.Bits.{ofZ-inj, eqb-ofZ}
-use Rattle.rules.specs.NamedRecord.{isElsewhere}
+use Rattle.integers.specs.Order.{eq_z}
+use Rattle.integers.proofs.Parts.{true-eq_z, false-eq_z}
+use Rattle.integers.proofs.Bits.{of_z-inj, eqb-of_z}
+use Rattle.rules.specs.NamedRecord.{is_elsewhere}
 use Rattle.requests.proofs.is_elsewhere.Statement.{statement}
 use Rattle.requests.proofs.is_elsewhere.Tie as tie
 
@@ -16,20 +16,20 @@ account-fits : (c : tie.After-struct-told) → SFits w64 c.before.before.args.r.
 account-fits c = sfits_of {w = w64} {z = c.before.before.args.r.account} c.struct_told.given.1.1.1.1.1.0.1
 
 returns : tie.Need-returns
-unfolding isElsewhere
+unfolding is_elsewhere
 returns c =
     let s : tie.Start = c.before.before.before in
-    let other : eqZ s.args.r.account s.args.account ≡ false = false-eqZ s.args.r.account s.args.account (λ e. c.if1.true (ap (of_z w64) e)) in
+    let other : eq_z s.args.r.account s.args.account ≡ false = false-eq_z s.args.r.account s.args.account (λ e. c.if1.true (ap (of_z w64) e)) in
     simp other
 
 returns-2 : tie.Need-returns-2
-unfolding isElsewhere
+unfolding is_elsewhere
 returns-2 c =
     let s : tie.Start = c.before.before.before.before.before in
-    let here : eqZ s.args.r.account s.args.account ≡ true
-    = true-eqZ s.args.r.account s.args.account (ofZ-inj (account-fits c.before.before.before) s.ranges.account c.before.before.if1.false) in
+    let here : eq_z s.args.r.account s.args.account ≡ true
+    = true-eq_z s.args.r.account s.args.account (of_z-inj (account-fits c.before.before.before) s.ranges.account c.before.before.if1.false) in
     let series : SFits w64 s.args.r.series = sfits_of {w = w64} {z = s.args.r.series} c.struct-told2.given.1.1.1.1.1.1.0.1 in
-    simp (here, eqb-ofZ series s.ranges.series)
+    simp (here, eqb-of_z series s.ranges.series)
 
 pub is-elsewhere-spec : {M : Type 1} → statement M
 is-elsewhere-spec = tie.close (tie.spec returns returns-2)

@@ -4,7 +4,7 @@ use mathlib.Core.Path.{ap₂}
 use Prim.Native.Nat.{ℕ, ◌+◌}
 use lib.Dec.{ltb}
 use borrow.Author.Rules.{rules}
-use Rattle.rules.specs.Tables.{positionsLayout}
+use Rattle.rules.specs.Tables.{positions_layout}
 use Rattle.cells.proofs.Count.{room_most}
 use Rattle.cells.proofs.SoundCells.{positions-known}
 use Rattle.requests.proofs.lacks_positions_room.Statement.{statement}
@@ -19,7 +19,7 @@ count-requires c κs = search rules
 add-result : tie.Need-overflow-add-result
 add-result c =
     let s : tie.Start = c.before.before in
-    omega (arith, c.count.ensures, (positions-known s.args.cells.now s.requires.0).rows_fit, room_most positionsLayout s.args.cells.now)
+    omega (arith, c.count.ensures, (positions-known s.args.cells.now s.requires.0).rows_fit, room_most positions_layout s.args.cells.now)
 
 returns : tie.Need-returns
 returns c =

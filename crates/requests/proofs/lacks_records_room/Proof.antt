@@ -4,7 +4,7 @@ use mathlib.Core.Path.{ap₂}
 use Prim.Native.Nat.{ℕ, ◌+◌}
 use lib.Dec.{ltb}
 use borrow.Author.Rules.{rules}
-use Rattle.rules.specs.Tables.{recordsLayout}
+use Rattle.rules.specs.Tables.{records_layout}
 use Rattle.cells.proofs.Count.{room_most}
 use Rattle.cells.proofs.SoundCells.{records-known}
 use Rattle.requests.proofs.lacks_records_room.Statement.{statement}
@@ -19,7 +19,7 @@ count-requires c κs = search rules
 add-result : tie.Need-overflow-add-result
 add-result c =
     let s : tie.Start = c.before.before in
-    omega (arith, c.count.ensures, (records-known s.args.cells.now s.requires.0).rows_fit, room_most recordsLayout s.args.cells.now)
+    omega (arith, c.count.ensures, (records-known s.args.cells.now s.requires.0).rows_fit, room_most records_layout s.args.cells.now)
 
 returns : tie.Need-returns
 returns c =

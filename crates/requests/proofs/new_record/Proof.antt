@@ -1,11 +1,11 @@
 -- `requests::new_record` meets its contract: the figures are those given, each read back from its bits. Assumes nothing.
 use mir.Facts.{to_z-of_z}
-use Rattle.rules.specs.Rows.{newRecord}
+use Rattle.rules.specs.Rows.{new_record}
 use Rattle.requests.proofs.new_record.Statement.{statement}
 use Rattle.requests.proofs.new_record.Tie as tie
 
 returns : tie.Need-returns
-unfolding newRecord
+unfolding new_record
 returns s = simp (
   to_z-of_z s.ranges.today,
   to_z-of_z s.ranges.id,

@@ -7,10 +7,10 @@ use mir.Syntax.{w64}
 use mir.Val.{SFits, to_z, of_z}
 use mathlib.Core.Option.{some}
 use Rattle.integers.proofs.Linear.{zarith, +-lin}
-use Rattle.rules.specs.Figures.{greatestOfSuffixes}
-use Rattle.rules.specs.Rows.{key_of, recordKey}
-use Rattle.rules.specs.NamedRecord.{nextSuffix}
-use Rattle.rules.specs.Tables.{recordsLayout}
+use Rattle.rules.specs.Figures.{greatest_of_suffixes}
+use Rattle.rules.specs.Rows.{key_of, record_key}
+use Rattle.rules.specs.NamedRecord.{next_suffix}
+use Rattle.rules.specs.Tables.{records_layout}
 use Rattle.lookup.specs.Lookup.{place_in}
 use Rattle.lookup.proofs.TableLookup.{records-first}
 use Rattle.lookup.specs.SoughtRows.{PresentAt}
@@ -20,14 +20,14 @@ use Rattle.requests.proofs.record_named.Statement.{statement}
 use Rattle.requests.proofs.record_named.Tie as tie
 
 module _ (s : tie.Start) where
-  there : PresentAt recordsLayout recordKey s.args.cells.now (key_of s.args.id s.args.suffix) s.args.row s.args.greatest s.args.place
+  there : PresentAt records_layout record_key s.args.cells.now (key_of s.args.id s.args.suffix) s.args.row s.args.greatest s.args.place
   there =
-      table-present recordsLayout recordKey records-first s.args.cells.now (key_of s.args.id s.args.suffix) s.args.row s.args.greatest s.args.place
+      table-present records_layout record_key records-first s.args.cells.now (key_of s.args.id s.args.suffix) s.args.row s.args.greatest s.args.place
       s.requires.1
 
   next_fits : SFits w64 (s.args.greatest +ℤ pos 1)
   next_fits =
-      let range : (pos 0 ≤ℤ s.args.greatest) × (s.args.greatest ≤ℤ greatestOfSuffixes)
+      let range : (pos 0 ≤ℤ s.args.greatest) × (s.args.greatest ≤ℤ greatest_of_suffixes)
       = greatest-range s.args.cells.now s.pre.0 s.args.id s.args.greatest there.greatest-is in
       omega (zarith, +-lin s.args.greatest (pos 1))
 
@@ -42,15 +42,15 @@ add-next : tie.Need-overflow-add-next
 add-next c = let s : tie.Start = c.before in simp (to_z-of_z s.ranges.greatest) (next_fits s)
 
 returns : tie.Need-returns
-unfolding nextSuffix
+unfolding next_suffix
 returns c =
     let s : tie.Start = c.before in
     record {
       row_within = (there s).row_within;
       row_is = c.read-record.ensures;
       found = (there s).found ∙ ap some (sym c.read-record.ensures);
-      next-is = next s ∙ ap nextSuffix (sym (there s).greatest-is);
-      place_is = (there s).next-is ∙ ap (λ (z : ℤ). place_in recordsLayout (key_of s.args.id z) s.args.cells.now) (sym (next s));
+      next-is = next s ∙ ap next_suffix (sym (there s).greatest-is);
+      place_is = (there s).next-is ∙ ap (λ (z : ℤ). place_in records_layout (key_of s.args.id z) s.args.cells.now) (sym (next s));
     }
 
 pub record-named-spec : {M : Type 1} → statement M

@@ -5,26 +5,26 @@ use lib.IntN.{pos}
 use mir.Facts.{sfits_lit}
 use mir.Syntax.{w64}
 use mir.Val.{of_z}
-use Rattle.integers.specs.Order.{eqZ}
-use Rattle.integers.proofs.Parts.{true-eqZ, false-eqZ}
-use Rattle.integers.proofs.Bits.{ofZ-inj}
-use Rattle.rules.specs.Figures.{underGiveUp}
-use Rattle.rules.specs.NamedRecord.{statusRefusal}
+use Rattle.integers.specs.Order.{eq_z}
+use Rattle.integers.proofs.Parts.{true-eq_z, false-eq_z}
+use Rattle.integers.proofs.Bits.{of_z-inj}
+use Rattle.rules.specs.Figures.{under_give_up}
+use Rattle.rules.specs.NamedRecord.{status_refusal}
 use Rattle.requests.proofs.status_refusal.Statement.{statement}
 use Rattle.requests.proofs.status_refusal.Tie as tie
 
 returns : tie.Need-returns
-unfolding statusRefusal
+unfolding status_refusal
 returns c =
     let s : tie.Start = c.before in
-    let e : eqZ s.args.status underGiveUp ≡ true = true-eqZ s.args.status underGiveUp (ofZ-inj s.ranges.status (sfits_lit {z = pos 3} tt) c.if1.true) in
+    let e : eq_z s.args.status under_give_up ≡ true = true-eq_z s.args.status under_give_up (of_z-inj s.ranges.status (sfits_lit {z = pos 3} tt) c.if1.true) in
     simp e
 
 returns-2 : tie.Need-returns-2
-unfolding statusRefusal
+unfolding status_refusal
 returns-2 c =
     let s : tie.Start = c.before in
-    let e : eqZ s.args.status underGiveUp ≡ false = false-eqZ s.args.status underGiveUp (λ h. c.if1.false (ap (of_z w64) h)) in
+    let e : eq_z s.args.status under_give_up ≡ false = false-eq_z s.args.status under_give_up (λ h. c.if1.false (ap (of_z w64) h)) in
     simp e
 
 pub status-refusal-spec : {M : Type 1} → statement M

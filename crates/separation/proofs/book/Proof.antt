@@ -12,10 +12,10 @@ use mir.Syntax.{w64}
 use mir.Val.{SFits, to_z, of_z}
 use borrow.Author.Rules.{rules}
 use Rattle.integers.proofs.Linear.{zarith, +-lin}
-use Rattle.rules.specs.Figures.{greatestOfSuffixes}
-use Rattle.rules.specs.Rows.{key_of, recordKey, adjustedRecord, inverseRecord, adjustableRecord}
+use Rattle.rules.specs.Figures.{greatest_of_suffixes}
+use Rattle.rules.specs.Rows.{key_of, record_key, adjusted_record, inverse_record, adjustable_record}
 use Rattle.rules.specs.Layout.{rows_of}
-use Rattle.rules.specs.Tables.{currentDay, recordsLayout}
+use Rattle.rules.specs.Tables.{current_day, records_layout}
 use Rattle.rules.specs.Handle.{answered}
 use Rattle.rules.specs.declared.Record.{Record}
 use Rattle.rules.specs.declared.Reply.TheVariants.{Booked}
@@ -25,9 +25,9 @@ use Rattle.soundness.proofs.NamedRecord.{next_of}
 use Rattle.cells.proofs.SoundCells.{record-rows-sound}
 use Rattle.verdict.proofs.Puts.{put_all}
 use Rattle.verdict.proofs.SoundReads.{FoundRecord, found-record}
-use Rattle.verdict.proofs.Separation.{separationInverse, separationRows}
+use Rattle.verdict.proofs.Separation.{separation_inverse, separation_rows}
 use Rattle.verdict.proofs.SeparationReady.{separation-next, separation-adjusted, separation-room, separation-returns}
-use Rattle.separation.proofs.PartRows.{firstPart, separation-rows}
+use Rattle.separation.proofs.PartRows.{first_part, separation-rows}
 use Rattle.separation.proofs.book.Statement.{statement}
 use Rattle.separation.proofs.book.Tie as tie
 
@@ -44,9 +44,9 @@ module _ (s : tie.Start) where
   r = s.args.named.record
 
   abbrev next : ℤ
-  next = next_of (rows_of recordsLayout rs) s.args.id
+  next = next_of (rows_of records_layout rs) s.args.id
 
-  suffixes : (pos 0 ≤ℤ next) × ((next +ℤ pos (length parts)) ≤ℤ greatestOfSuffixes)
+  suffixes : (pos 0 ≤ℤ next) × ((next +ℤ pos (length parts)) ≤ℤ greatest_of_suffixes)
   suffixes = separation-next rs s.args.positions.now s.args.id s.args.suffix s.args.account s.args.series parts s.pre.0 s.pre.1 s.pre.2
 
   found : FoundRecord s.args.id s.args.suffix r
@@ -81,14 +81,14 @@ module _ (c : tie.After-today) where
   abbrev told : tie.After-struct-told
   told = c.before.before
 
-  today-is : to_z w64 (of_z w64 c.today.result) ≡ currentDay (rs (start told))
+  today-is : to_z w64 (of_z w64 c.today.result) ≡ current_day (rs (start told))
   today-is = read_back c.today.result c.today.type-inv ∙ c.today.ensures
 
 module _ (c : tie.After-inverse-record) where
   abbrev s : tie.Start
   s = start (told c.before)
 
-  inverse : c.inverse-record.result ≡ separationInverse (currentDay (rs s)) (r s) (next s)
+  inverse : c.inverse-record.result ≡ separation_inverse (current_day (rs s)) (r s) (next s)
   inverse = simp (today-is c.before, next-is (told c.before)) at c.inverse-record.ensures
 
   first-is : to_z w64 (of_z w64 (to_z w64 (of_z w64 s.args.named.next) +ℤ pos 1)) ≡ next s +ℤ pos 1
@@ -110,7 +110,7 @@ module _ (c : tie.After-adjustable-record) where
   abbrev s2 : tie.Start
   s2 = s inverted
 
-  first : c.adjustable-record.result ≡ firstPart (currentDay (rs s2)) (r s2) (next s2 +ℤ pos 1) (r s2).quantity
+  first : c.adjustable-record.result ≡ first_part (current_day (rs s2)) (r s2) (next s2 +ℤ pos 1) (r s2).quantity
   first =
       simp (
         today-is inverted.before,
@@ -120,9 +120,9 @@ module _ (c : tie.After-adjustable-record) where
       ) at c.adjustable-record.ensures
 
   -- The id of both rows, and the suffixes.
-  ready : (x y : Record) → x ≡ separationInverse (currentDay (rs s2)) (r s2) (next s2) → y ≡ firstPart (currentDay (rs s2)) (r s2) (next s2 +ℤ pos 1) (r s2).quantity
+  ready : (x y : Record) → x ≡ separation_inverse (current_day (rs s2)) (r s2) (next s2) → y ≡ first_part (current_day (rs s2)) (r s2) (next s2 +ℤ pos 1) (r s2).quantity
       → AdjustReady (rs s2) s2.args.id s2.args.suffix s2.args.named x y (parts s2)
-  unfolding inverseRecord adjustableRecord
+  unfolding inverse_record adjustable_record
   ready x y e f =
       let own : next s2 ≡ s2.args.named.next = sym s2.pre.3.next-is in
       record {
@@ -131,12 +131,12 @@ module _ (c : tie.After-adjustable-record) where
         adjusted-sound =
             separation-adjusted (rs s2) s2.args.positions.now s2.args.id s2.args.suffix s2.args.account s2.args.series (parts s2) s2.pre.0 s2.pre.1 s2.pre.2
             (r s2) s2.pre.3.found;
-        inverse-key = ap (λ (z : Record). recordKey z) e ∙ (λ i. key_of ((found s2).id-is i) (own i));
-        first_key = ap (λ (z : Record). recordKey z) f ∙ (λ i. key_of ((found s2).id-is i) (own i +ℤ pos 1));
+        inverse-key = ap (λ (z : Record). record_key z) e ∙ (λ i. key_of ((found s2).id-is i) (own i));
+        first_key = ap (λ (z : Record). record_key z) f ∙ (λ i. key_of ((found s2).id-is i) (own i +ℤ pos 1));
         room =
             separation-room (rs s2) s2.args.positions.now s2.args.id s2.args.suffix s2.args.account s2.args.series (parts s2) s2.pre.0 s2.pre.1 s2.pre.2
             (r s2) s2.pre.3.found;
-        last-suffix = subst (λ (z : ℤ). (z +ℤ pos (length (parts s2))) ≤ℤ greatestOfSuffixes) own (suffixes s2).1;
+        last-suffix = subst (λ (z : ℤ). (z +ℤ pos (length (parts s2))) ≤ℤ greatest_of_suffixes) own (suffixes s2).1;
       }
 
 adjust-named-requires : tie.Need-adjust-named-requires
@@ -156,10 +156,10 @@ returns c =
     let n : tie.After-adjust-named = c.before in
     let a : tie.After-adjustable-record = n.before.before in
     let s : tie.Start = s2 a in
-    let put : n.adjust-named.new.0 ≡ put_all recordsLayout recordKey (rs s) (separationRows (currentDay (rs s)) (r s) (next s) (parts s)) =
+    let put : n.adjust-named.new.0 ≡ put_all records_layout record_key (rs s) (separation_rows (current_day (rs s)) (r s) (next s) (parts s)) =
     n.adjust-named.ensures
-    ∙ ap (λ (rows : List Record). put_all recordsLayout recordKey (rs s) (adjustedRecord (r s) ∷ rows))
-    (separation-rows (currentDay (rs s)) (r s) (next s) (parts s) (inverted a).inverse-record.result a.adjustable-record.result (inverse (inverted a)) (first a)) in
+    ∙ ap (λ (rows : List Record). put_all records_layout record_key (rs s) (adjusted_record (r s) ∷ rows))
+    (separation-rows (current_day (rs s)) (r s) (next s) (parts s) (inverted a).inverse-record.result a.adjustable-record.result (inverse (inverted a)) (first a)) in
     ap (λ (z : ℤ). answered (Booked z (pos 0)) n.adjust-named.new.0 s.args.positions.now) (rows s)
     ∙ separation-returns (rs s) s.args.positions.now s.args.id s.args.suffix s.args.account s.args.series (parts s) s.pre.0 s.pre.1 (r s) s.pre.3.found
     n.adjust-named.new.0 put

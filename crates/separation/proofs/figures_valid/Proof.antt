@@ -6,9 +6,9 @@ use mathlib.Core.List.{List, [], ◌∷◌, map}
 use lib.ListN.{length, drop}
 use mir.Facts.{to_z-of_z}
 use borrow.Author.Rules.{rules}
-use Rattle.rules.specs.Figures.{validId, validSuffix, validAccount, validSeries, validQuantity, validCount}
+use Rattle.rules.specs.Figures.{valid_id, valid_suffix, valid_account, valid_series, valid_quantity, valid_count}
 use Rattle.rules.specs.Refusal.{all_of}
-use Rattle.rules.specs.Separation.{separationFigures}
+use Rattle.rules.specs.Separation.{separation_figures}
 use Rattle.figures.proofs.Chain.{Remaining, goes_on, stops, ends}
 use Rattle.separation.proofs.PartsLeft.{too_few, too_many, count-valid}
 use Rattle.separation.proofs.figures_valid.Statement.{statement}
@@ -18,26 +18,26 @@ use Rattle.separation.proofs.figures_valid.Tie as tie
 module _ (s : tie.Start) where
   abbrev tests : List Bool
   tests =
-      validId s.args.id
-      ∷ validSuffix s.args.suffix
-      ∷ validAccount s.args.account
-      ∷ validSeries s.args.series
-      ∷ validCount (length s.args.parts.now)
-      ∷ all_of (map validQuantity s.args.parts.now)
+      valid_id s.args.id
+      ∷ valid_suffix s.args.suffix
+      ∷ valid_account s.args.account
+      ∷ valid_series s.args.series
+      ∷ valid_count (length s.args.parts.now)
+      ∷ all_of (map valid_quantity s.args.parts.now)
       ∷ []
 
   abbrev After : ℕ → Type 0
-  After k = Remaining (separationFigures s.args.id s.args.suffix s.args.account s.args.series s.args.parts.now) (drop k tests)
+  After k = Remaining (separation_figures s.args.id s.args.suffix s.args.account s.args.series s.args.parts.now) (drop k tests)
 
   all-remain : After 0
-  unfolding separationFigures
+  unfolding separation_figures
   all-remain = record { is = refl }
 
 -- the id
 abbrev start1 : tie.After-valid-id → tie.Start
 start1 c = c.before
 
-answer1 : (c : tie.After-valid-id) → c.valid-id.result ≡ validId (start1 c).args.id
+answer1 : (c : tie.After-valid-id) → c.valid-id.result ≡ valid_id (start1 c).args.id
 answer1 c = simp (to_z-of_z (start1 c).ranges.id) at c.valid-id.ensures
 
 after1 : (c : tie.Else1) → After (start1 c.before) 1
@@ -53,7 +53,7 @@ returns c = stops (all-remain (start1 c.before)) (answer1 c.before) c.if1.true
 abbrev start2 : tie.After-valid-suffix → tie.Start
 start2 c = start1 c.before.before
 
-answer2 : (c : tie.After-valid-suffix) → c.valid-suffix.result ≡ validSuffix (start2 c).args.suffix
+answer2 : (c : tie.After-valid-suffix) → c.valid-suffix.result ≡ valid_suffix (start2 c).args.suffix
 answer2 c = simp (to_z-of_z (start2 c).ranges.suffix) at c.valid-suffix.ensures
 
 after2 : (c : tie.Else2) → After (start2 c.before) 2
@@ -69,7 +69,7 @@ returns-2 c = stops (after1 c.before.before) (answer2 c.before) c.if2.true
 abbrev start3 : tie.After-valid-account → tie.Start
 start3 c = start2 c.before.before
 
-answer3 : (c : tie.After-valid-account) → c.valid-account.result ≡ validAccount (start3 c).args.account
+answer3 : (c : tie.After-valid-account) → c.valid-account.result ≡ valid_account (start3 c).args.account
 answer3 c = simp (to_z-of_z (start3 c).ranges.account) at c.valid-account.ensures
 
 after3 : (c : tie.Else3) → After (start3 c.before) 3
@@ -85,7 +85,7 @@ returns-3 c = stops (after2 c.before.before) (answer3 c.before) c.if3.true
 abbrev start4 : tie.After-valid-series → tie.Start
 start4 c = start3 c.before.before
 
-answer4 : (c : tie.After-valid-series) → c.valid-series.result ≡ validSeries (start4 c).args.series
+answer4 : (c : tie.After-valid-series) → c.valid-series.result ≡ valid_series (start4 c).args.series
 answer4 c = simp (to_z-of_z (start4 c).ranges.series) at c.valid-series.ensures
 
 after4 : (c : tie.Else4) → After (start4 c.before) 4
@@ -101,7 +101,7 @@ returns-4 c = stops (after3 c.before.before) (answer4 c.before) c.if4.true
 abbrev start5 : tie.Else4 → tie.Start
 start5 c = start4 c.before
 
-counted : (c : tie.Else6) → validCount (length (start5 c.before.before).args.parts.now) ≡ true
+counted : (c : tie.Else6) → valid_count (length (start5 c.before.before).args.parts.now) ≡ true
 counted c = count-valid (length (start5 c.before.before).args.parts.now) c.before.if5.false c.if6.false
 
 after5 : (c : tie.Else6) → After (start5 c.before.before) 5

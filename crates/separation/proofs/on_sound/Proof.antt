@@ -9,21 +9,21 @@ use mir.Facts.{to_z-of_z}
 use borrow.Author.Rules.{rules}
 use Rattle.rules.specs.Keyed.{is_some}
 use Rattle.rules.specs.Request.{Request, separate}
-use Rattle.rules.specs.Rows.{key_of, recordKey}
-use Rattle.rules.specs.Separation.{separationFigures}
+use Rattle.rules.specs.Rows.{key_of, record_key}
+use Rattle.rules.specs.Separation.{separation_figures}
 use Rattle.rules.specs.Layout.{rows_of}
-use Rattle.rules.specs.Tables.{recordsLayout}
+use Rattle.rules.specs.Tables.{records_layout}
 use Rattle.rules.specs.declared.Record.{Record}
 use Rattle.cells.proofs.SoundCells.{record-rows-sound}
 use Rattle.figures.proofs.Tests.{failed, passed}
-use Rattle.lookup.specs.Lookup.{recordSought}
+use Rattle.lookup.specs.Lookup.{record_sought}
 use Rattle.lookup.proofs.TableLookup.{records-first}
 use Rattle.lookup.proofs.TableSought.{table-lacks}
 use Rattle.requests.specs.KnownRecord.{KnownRecord}
 use Rattle.requests.proofs.OnSound.{refused-soundly, booked-soundly}
 use Rattle.scan.proofs.ReadBack.{read_back}
-use Rattle.soundness.proofs.NamedRecord.{recordOf}
-use Rattle.verdict.specs.Verdict.{verdictOn}
+use Rattle.soundness.proofs.NamedRecord.{record_of}
+use Rattle.verdict.specs.Verdict.{verdict_on}
 use Rattle.verdict.proofs.Remaining.{◌past◌, stops}
 use Rattle.verdict.proofs.Separation.{SeparationFrom, separation-tests}
 use Rattle.separation.proofs.on_sound.Statement.{statement}
@@ -42,7 +42,7 @@ module _ (s : tie.Start) where
   -- The verdict is that of the tests from number n on.
   abbrev From : ℕ → Type 0
   From n =
-      SeparationFrom rs ps s.args.id s.args.suffix s.args.account s.args.series s.args.parts.now n (recordOf (rows_of recordsLayout rs) (key_of s.args.id s.args.suffix))
+      SeparationFrom rs ps s.args.id s.args.suffix s.args.account s.args.series s.args.parts.now n (record_of (rows_of records_layout rs) (key_of s.args.id s.args.suffix))
 
   at-3 : From 3
   at-3 = separation-tests rs ps s.args.id s.args.suffix s.args.account s.args.series s.args.parts.now s.pre.1 _ refl
@@ -50,7 +50,7 @@ module _ (s : tie.Start) where
 -- ---- 3: the figures
 
 answer-3 : (c : tie.After-figures-valid) → let a = c.before.args in
-    c.figures-valid.result ≡ separationFigures a.id a.suffix a.account a.series a.parts.now
+    c.figures-valid.result ≡ separation_figures a.id a.suffix a.account a.series a.parts.now
 answer-3 c =
     let s : tie.Start = c.before in
     simp (to_z-of_z s.ranges.id, to_z-of_z s.ranges.suffix, to_z-of_z s.ranges.account, to_z-of_z s.ranges.series) at c.figures-valid.ensures
@@ -66,10 +66,10 @@ module _ (c : tie.After-look-up) where
   abbrev s5 : tie.Start
   s5 = c.before.before.before.before
 
-  figures : let a = s5.args in separationFigures a.id a.suffix a.account a.series a.parts.now ≡ true
+  figures : let a = s5.args in separation_figures a.id a.suffix a.account a.series a.parts.now ≡ true
   figures = passed (answer-3 c.before.before.before) c.before.before.if1.false
 
-  answer : c.look_up.result ≡ recordSought (rs s5) s5.args.id s5.args.suffix
+  answer : c.look_up.result ≡ record_sought (rs s5) s5.args.id s5.args.suffix
   answer = simp (to_z-of_z s5.fits.id, to_z-of_z s5.fits.suffix) at c.look_up.ensures
 
 returns-2 : tie.Need-returns-2
@@ -77,7 +77,7 @@ unfolding is_some
 returns-2 c =
     let l : tie.After-look-up = c.before.before in
     let s : tie.Start = s5 l in
-    let absent = (table-lacks recordsLayout recordKey records-first (rs s) (key_of s.args.id s.args.suffix) _ _ (sym (answer l) ∙ c.enum_told.given.1)).absent in
+    let absent = (table-lacks records_layout record_key records-first (rs s) (key_of s.args.id s.args.suffix) _ _ (sym (answer l) ∙ c.enum_told.given.1)).absent in
     refused-soundly (rs s) (ps s) s.pre (asked s) (stops (at-3 s past ap not (figures l)) (ap (λ (o : Option Record). not (is_some o)) absent)) (pos 5) (pos 0) refl
 
 record-named-requires : tie.Need-record-named-requires
@@ -109,7 +109,7 @@ module _ (v : tie.After-verdict) where
   abbrev named : tie.After-record-named
   named = v.before.before.before
 
-  judged : v.verdict.result ≡ verdictOn (rs (s named)) (ps (s named)) (asked (s named))
+  judged : v.verdict.result ≡ verdict_on (rs (s named)) (ps (s named)) (asked (s named))
   judged =
       let s : tie.Start = s named in
       simp (to_z-of_z s.fits.id, to_z-of_z s.fits.suffix, to_z-of_z s.fits.account, to_z-of_z s.fits.series) at v.verdict.ensures

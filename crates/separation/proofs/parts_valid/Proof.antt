@@ -6,22 +6,22 @@ use mathlib.Core.Path.{◌≡◌, refl, sym, ◌∙◌}
 use lib.IntN.{pos}
 use lib.ListN.{length, get_or}
 use borrow.Author.Rules.{rules}
-use Rattle.rules.specs.Figures.{validQuantity}
+use Rattle.rules.specs.Figures.{valid_quantity}
 use Rattle.figures.proofs.Tests.{failed, passed}
 use Rattle.scan.proofs.ReadBack.{read_back}
-use Rattle.separation.proofs.PartsLeft.{validFrom, part-invalid, part-valid, none-invalid}
+use Rattle.separation.proofs.PartsLeft.{valid_from, part-invalid, part-valid, none-invalid}
 use Rattle.separation.proofs.parts_valid.Statement.{statement}
 use Rattle.separation.proofs.parts_valid.Tie as tie
 
 abbrev invariant-loop : tie.invariant-loop
-invariant-loop parts i₀ i = (i ≤ length parts) × (validFrom parts i ≡ validFrom parts 0)
+invariant-loop parts i₀ i = (i ≤ length parts) × (valid_from parts i ≡ valid_from parts 0)
 
 abbrev decreases-loop : tie.decreases-loop
 decreases-loop parts i₀ i = length parts - i
 
 -- The test of the next part.
 answer : (c : tie.After-valid-quantity invariant-loop decreases-loop)
-    → c.valid-quantity.result ≡ validQuantity (get_or c.before.before.before.before.args.parts.now c.before.before.before.loop.i (pos 0))
+    → c.valid-quantity.result ≡ valid_quantity (get_or c.before.before.before.before.args.parts.now c.before.before.before.loop.i (pos 0))
 answer c =
     simp (read_back (get_or c.before.before.before.before.args.parts.now c.before.before.before.loop.i (pos 0)) c.before.valid-quantity-arg.given)
     at c.valid-quantity.ensures

@@ -12,15 +12,15 @@ use mir.Facts.{to_z-of_z, to_z_pos}
 use mir.Syntax.{w64}
 use mir.Val.{SFits, to_z, of_z}
 use borrow.Author.Rules.{rules, sfits_of}
-use Rattle.integers.proofs.Bits.{ofZ-inj}
+use Rattle.integers.proofs.Bits.{of_z-inj}
 use Rattle.integers.proofs.Linear.{zarith, +-lin}
-use Rattle.integers.proofs.Parts.{true-eqZ, false-eqZ}
-use Rattle.rules.specs.Figures.{validQuantity}
+use Rattle.integers.proofs.Parts.{true-eq_z, false-eq_z}
+use Rattle.rules.specs.Figures.{valid_quantity}
 use Rattle.rules.specs.Keyed.{is_some}
-use Rattle.rules.specs.NamedRecord.{theRecord, isElsewhere, isNotAdjustable}
+use Rattle.rules.specs.NamedRecord.{the_record, is_elsewhere, is_not_adjustable}
 use Rattle.rules.specs.Refusal.{all_of}
 use Rattle.rules.specs.Layout.{rows_of}
-use Rattle.rules.specs.Tables.{recordsLayout}
+use Rattle.rules.specs.Tables.{records_layout}
 use Rattle.rules.specs.declared.Record.{Record}
 use Rattle.cells.proofs.SoundCells.{record-rows-sound}
 use Rattle.figures.proofs.Tests.{is-literal, not-literal}
@@ -46,18 +46,18 @@ module _ (s : tie.Start) where
   From n = SeparationFrom s.args.records.now s.args.positions.now s.args.id s.args.suffix s.args.account s.args.series s.args.parts.now n r
 
   at-6 : From 6
-  unfolding is_some theRecord
+  unfolding is_some the_record
   at-6 =
       separation-tests s.args.records.now s.args.positions.now s.args.id s.args.suffix s.args.account s.args.series s.args.parts.now s.pre.1
-      r (ap theRecord s.pre.3.found)
+      r (ap the_record s.pre.3.found)
       past ap not s.pre.2
       past ap (λ (o : Option Record). not (is_some o)) s.pre.3.found
 
-  parts : (length s.args.parts.now ≤ 1000) × (all_of (map validQuantity s.args.parts.now) ≡ true)
+  parts : (length s.args.parts.now ≤ 1000) × (all_of (map valid_quantity s.args.parts.now) ≡ true)
   parts = parts-told s.args.id s.args.suffix s.args.account s.args.series s.args.parts.now s.pre.2
 
   abbrev next : ℤ
-  next = next_of (rows_of recordsLayout s.args.records.now) s.args.id
+  next = next_of (rows_of records_layout s.args.records.now) s.args.id
 
   abbrev count : ℤ
   count = pos (length s.args.parts.now)
@@ -73,7 +73,7 @@ module _ (s : tie.Start) where
 abbrev start : tie.After-is-elsewhere → tie.Start
 start c = c.before.before
 
-answer-6 : (c : tie.After-is-elsewhere) → c.is-elsewhere.result ≡ isElsewhere (start c).args.account (start c).args.series (r (start c))
+answer-6 : (c : tie.After-is-elsewhere) → c.is-elsewhere.result ≡ is_elsewhere (start c).args.account (start c).args.series (r (start c))
 answer-6 c = simp (to_z-of_z (start c).ranges.account, to_z-of_z (start c).ranges.series) at c.is-elsewhere.ensures
 
 returns : tie.Need-returns
@@ -91,7 +91,7 @@ status-fits : (c : tie.After-struct-told) → SFits w64 (r (start7 c)).status
 status-fits c = sfits_of c.struct_told.given.1.1.1.1.0.1
 
 returns-2 : tie.Need-returns-2
-unfolding isNotAdjustable
+unfolding is_not_adjustable
 returns-2 c =
     let t : tie.After-struct-told = c.before.before.before in
     ap (λ (n : ℤ). Refused n (pos 0)) (status-number (sfits_of c.status-refusal.type-inv) (status-fits t) c.status-refusal.ensures)
@@ -100,7 +100,7 @@ returns-2 c =
 -- ---- 11: the parts' sum
 
 at-11 : (c : tie.Else2) → From (start7 c.before) 11
-unfolding isNotAdjustable
+unfolding is_not_adjustable
 at-11 c = at_7 c.before.before.before past ap not (is-literal 0 tt (status-fits c.before) c.if2.false)
 
 abbrev summed : tie.After-struct-told3 → tie.After-sum-of
@@ -121,7 +121,7 @@ sum-of-requires c κs = parts (start7 c.before)
 returns-3 : tie.Need-returns-3
 returns-3 c =
     let m : tie.After-sum-of = summed c.before in
-    stops (at-11 m.before) (ap not (false-eqZ _ _ (λ e. c.if3.true (ap (of_z w64) (m.sum_of.ensures ∙ e)))))
+    stops (at-11 m.before) (ap not (false-eq_z _ _ (λ e. c.if3.true (ap (of_z w64) (m.sum_of.ensures ∙ e)))))
 
 -- ---- 13: the last suffix
 
@@ -131,7 +131,7 @@ start13 c = start11 c.before
 at-13 : (c : tie.Else3) → From (start13 c) 13
 at-13 c =
     let m : tie.After-sum-of = summed c.before in
-    at-11 m.before past ap not (true-eqZ _ _ (sym m.sum_of.ensures ∙ ofZ-inj (sum_fits m) (quantity-fits c.before) c.if3.false))
+    at-11 m.before past ap not (true-eq_z _ _ (sym m.sum_of.ensures ∙ of_z-inj (sum_fits m) (quantity-fits c.before) c.if3.false))
 
 cast-last : tie.Need-overflow-cast-last
 cast-last c = omega (zarith, (parts (start13 c)).0)

@@ -1,13 +1,13 @@
 -- `stages::finished` meets its contract: done where it is complete, else as it was. Assumes nothing.
 use mathlib.Core.Path.{sym, ◌∙◌}
 use borrow.Author.Rules.{rules}
-use Rattle.rules.specs.ProcessRows.{stageNumber}
+use Rattle.rules.specs.ProcessRows.{stage_number}
 use Rattle.rules.specs.GiveUp.{finished}
 use Rattle.stages.proofs.finished.Statement.{statement}
 use Rattle.stages.proofs.finished.Tie as tie
 
 returns : tie.Need-returns
-unfolding finished stageNumber
+unfolding finished stage_number
 returns c =
     let t : tie.Then1 = c.before in
     simp (sym t.before.is-complete.ensures ∙ t.if1.true) c.with-stage.ensures

@@ -1,6 +1,6 @@
 -- `stages::giver_may_approve` meets its contract: not past the end, and the giver's cell 0. Assumes nothing.
 use borrow.Author.Rules.{rules}
-use Rattle.rules.specs.GiveUp.{hasTurn}
+use Rattle.rules.specs.GiveUp.{has_turn}
 use Rattle.figures.proofs.Tests.{failed, passed}
 use Rattle.stages.proofs.FieldTests.{literal-test}
 use Rattle.stages.proofs.giver_may_approve.Statement.{statement}
@@ -10,11 +10,11 @@ is-under-way-requires : tie.Need-is-under-way-requires
 is-under-way-requires c κs = search rules
 
 returns : tie.Need-returns
-unfolding hasTurn
+unfolding has_turn
 returns c = simp (failed c.before.is-under-way.ensures c.if1.true)
 
 returns-2 : tie.Need-returns-2
-unfolding hasTurn
+unfolding has_turn
 returns-2 c =
     let e : tie.Else1 = c.before.before in
     let s : tie.Start = e.before.before in

@@ -1,11 +1,11 @@
 -- `stages::opened` meets its contract: the figures are those given, each read back from its bits. Assumes nothing.
 use mir.Facts.{to_z-of_z}
-use Rattle.rules.specs.ProcessRows.{openedProcess, stageNumber}
+use Rattle.rules.specs.ProcessRows.{opened_process, stage_number}
 use Rattle.stages.proofs.opened.Statement.{statement}
 use Rattle.stages.proofs.opened.Tie as tie
 
 returns : tie.Need-returns
-unfolding openedProcess stageNumber
+unfolding opened_process stage_number
 returns s = simp (
   to_z-of_z s.ranges.process,
   to_z-of_z s.ranges.id,

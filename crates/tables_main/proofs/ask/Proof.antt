@@ -9,13 +9,13 @@ use lib.ListN.{length}
 use mir.Facts.{to_z-of_z}
 use borrow.Author.Rules.{rules}
 use Rattle.rules.specs.Keyed.{Key}
-use Rattle.rules.specs.Rows.{key_of, recordKey}
+use Rattle.rules.specs.Rows.{key_of, record_key}
 use Rattle.rules.specs.Layout.{rows_of}
-use Rattle.rules.specs.Tables.{recordsLayout, soundRecordRows}
+use Rattle.rules.specs.Tables.{records_layout, sound_record_rows}
 use Rattle.cells.proofs.Count.{room_most}
 use Rattle.cells.proofs.SoundCells.{record-rows-sound, records-known}
 use Rattle.figures.proofs.Tests.{passed}
-use Rattle.lookup.specs.Lookup.{place_in, recordSought}
+use Rattle.lookup.specs.Lookup.{place_in, record_sought}
 use Rattle.lookup.proofs.TableLookup.{records-first, table-place}
 use Rattle.lookup.specs.SoughtRows.{PresentAt, AbsentAt}
 use Rattle.lookup.proofs.TableSought.{table-present, table-lacks}
@@ -29,16 +29,16 @@ module _ (c : tie.Else1) where
   abbrev key : Key
   key = key_of c.before.before.args.id c.before.before.args.suffix
 
-  sound : soundRecordRows cells ≡ true
+  sound : sound_record_rows cells ≡ true
   sound = record-rows-sound cells (passed c.before.records-sound.ensures c.if1.false)
 
-  few : length (rows_of recordsLayout cells) ≤ 4096
-  few = omega (arith, (records-known cells sound).rows_fit, room_most recordsLayout cells)
+  few : length (rows_of records_layout cells) ≤ 4096
+  few = omega (arith, (records-known cells sound).rows_fit, room_most records_layout cells)
 
-  place-small : (k : Key) → place_in recordsLayout k cells ≤ 4096
-  place-small k = omega (arith, few, table-place recordsLayout recordKey records-first cells k)
+  place-small : (k : Key) → place_in records_layout k cells ≤ 4096
+  place-small k = omega (arith, few, table-place records_layout record_key records-first cells k)
 
-answer : (c : tie.After-look-up) → c.look_up.result ≡ recordSought (cells c.before) (key c.before).major (key c.before).minor
+answer : (c : tie.After-look-up) → c.look_up.result ≡ record_sought (cells c.before) (key c.before).major (key c.before).minor
 answer c =
     let s : tie.Start = c.before.before.before in
     simp (to_z-of_z s.ranges.id, to_z-of_z s.ranges.suffix) at c.look_up.ensures
@@ -48,16 +48,16 @@ module _ (c : tie.After-row) where
   abbrev asked : tie.Else1
   asked = c.before.before.before
 
-  present : PresentAt recordsLayout recordKey (cells asked) (key asked) c.row.given.0.0 c.row.given.0.1.0 c.row.given.0.1.1.0
-  present = table-present recordsLayout recordKey records-first (cells asked) (key asked) _ _ _ (sym (answer c.before.before) ∙ c.row.given.1)
+  present : PresentAt records_layout record_key (cells asked) (key asked) c.row.given.0.0 c.row.given.0.1.0 c.row.given.0.1.1.0
+  present = table-present records_layout record_key records-first (cells asked) (key asked) _ _ _ (sym (answer c.before.before) ∙ c.row.given.1)
 
 -- The key is absent.
 module _ (c : tie.After-place) where
   abbrev asked-2 : tie.Else1
   asked-2 = c.before.before.before
 
-  absent : AbsentAt recordsLayout recordKey (cells asked-2) (key asked-2) c.place.given.0.0 c.place.given.0.1.0
-  absent = table-lacks recordsLayout recordKey records-first (cells asked-2) (key asked-2) _ _ (sym (answer c.before.before) ∙ c.place.given.1)
+  absent : AbsentAt records_layout record_key (cells asked-2) (key asked-2) c.place.given.0.0 c.place.given.0.1.0
+  absent = table-lacks records_layout record_key records-first (cells asked-2) (key asked-2) _ _ (sym (answer c.before.before) ∙ c.place.given.1)
 
 cast-value : tie.Need-overflow-cast-value
 cast-value c =

@@ -12,40 +12,40 @@ use lib.ListN.{length}
 use mir.Facts.{to_z-of_z}
 use mir.Syntax.{w64}
 use mir.Val.{SFits, to_z, of_z}
-use Rattle.rules.specs.Figures.{validQuantity, validPrice}
-use Rattle.rules.specs.Keyed.{Key, find, absentFrom}
-use Rattle.rules.specs.Rows.{recordKey, positionKey, newRecord, moved, soundRecord, soundPosition}
-use Rattle.rules.specs.Layout.{roomOf, rows_of}
-use Rattle.rules.specs.Tables.{recordsLayout, positionsLayout, currentDay, soundRecordRows, soundPositions}
-use Rattle.rules.specs.Trade.{tradeKind}
+use Rattle.rules.specs.Figures.{valid_quantity, valid_price}
+use Rattle.rules.specs.Keyed.{Key, find, absent_from}
+use Rattle.rules.specs.Rows.{record_key, position_key, new_record, moved, sound_record, sound_position}
+use Rattle.rules.specs.Layout.{room_of, rows_of}
+use Rattle.rules.specs.Tables.{records_layout, positions_layout, current_day, sound_record_rows, sound_positions}
+use Rattle.rules.specs.Trade.{trade_kind}
 use Rattle.rules.specs.Handle.{answered}
 use Rattle.rules.specs.declared.Record.{Record}
 use Rattle.rules.specs.declared.Position.{Position}
 use Rattle.rules.specs.declared.Movement.{Movement}
 use Rattle.rules.specs.declared.Reply.TheVariants.{ClosingError}
-use Rattle.lookup.specs.Lookup.{foundIn, place_in}
+use Rattle.lookup.specs.Lookup.{found_in, place_in}
 use Rattle.lookup.specs.declared.Found.{Found}
 use Rattle.cells.proofs.SoundCells.{record-rows-sound}
 use Rattle.scan.proofs.ReadBack.{read_back}
-use Rattle.verdict.proofs.Puts.{putOne}
+use Rattle.verdict.proofs.Puts.{put_one}
 use Rattle.verdict.proofs.Ready.{InsertReady, PutReady}
-use Rattle.verdict.proofs.Room.{positionRead}
+use Rattle.verdict.proofs.Room.{position_read}
 use Rattle.verdict.proofs.SoundReads.{position-read-sound}
-use Rattle.verdict.proofs.Trade.{tradeClosed, tradeLong, tradeShort, tradeError, tradeMovement, tradePosition, tradeRow}
+use Rattle.verdict.proofs.Trade.{trade_closed, trade_long, trade_short, trade_error, trade_movement, trade_position, trade_row}
 use Rattle.verdict.proofs.TradeReady.{trade-quantity, trade-price, trade-insert, trade-put, trade-returns-error, trade-returns-plain}
-use Rattle.trade.specs.Booking.{bookingOf}
+use Rattle.trade.specs.Booking.{booking_of}
 use Rattle.trade.proofs.TradeBooked.{opened-fits, booking-moves, closed_is, movement-is, error-is, moved-is, left_key}
 use Rattle.trade.proofs.book.Statement.{statement}
 use Rattle.trade.proofs.book.Tie as tie
 
 -- What `insert_record` and `write_position` ask.
 abbrev PlaceReady : List ℤ → ℕ → Record → Type 0
-PlaceReady cells place r = (soundRecordRows cells ≡ true) × (soundRecord r ≡ true) × (find recordKey (recordKey r) (rows_of recordsLayout cells) ≡ none)
-    × (length (rows_of recordsLayout cells) < roomOf recordsLayout cells) × (place ≡ place_in recordsLayout (recordKey r) cells)
+PlaceReady cells place r = (sound_record_rows cells ≡ true) × (sound_record r ≡ true) × (find record_key (record_key r) (rows_of records_layout cells) ≡ none)
+    × (length (rows_of records_layout cells) < room_of records_layout cells) × (place ≡ place_in records_layout (record_key r) cells)
 
 abbrev WriteReady : List ℤ → Found → Position → Type 0
-WriteReady cells found p = (soundPositions cells ≡ true) × (soundPosition p ≡ true) × (length (rows_of positionsLayout cells) + absentFrom positionKey (rows_of positionsLayout cells) (p ∷ []) ≤ roomOf positionsLayout cells)
-    × (found ≡ foundIn positionsLayout (positionKey p) cells)
+WriteReady cells found p = (sound_positions cells ≡ true) × (sound_position p ≡ true) × (length (rows_of positions_layout cells) + absent_from position_key (rows_of positions_layout cells) (p ∷ []) ≤ room_of positions_layout cells)
+    × (found ≡ found_in positions_layout (position_key p) cells)
 
 -- What the function is given, and what the rules make of it.
 module _ (s : tie.Start) where
@@ -55,35 +55,35 @@ module _ (s : tie.Start) where
   abbrev ps : List ℤ
   ps = s.args.positions.now
 
-  abbrev closedOf : ℤ
-  closedOf = tradeClosed ps s.args.account s.args.series s.args.side s.args.quantity
+  abbrev closed_of : ℤ
+  closed_of = trade_closed ps s.args.account s.args.series s.args.side s.args.quantity
 
-  abbrev errorOf : Bool
-  errorOf = tradeError ps s.args.account s.args.series s.args.side s.args.quantity
+  abbrev error_of : Bool
+  error_of = trade_error ps s.args.account s.args.series s.args.side s.args.quantity
 
   abbrev row_of : Record
-  row_of = tradeRow ps s.args.account s.args.series s.args.side s.args.quantity (currentDay rs) s.args.id s.args.price
+  row_of = trade_row ps s.args.account s.args.series s.args.side s.args.quantity (current_day rs) s.args.id s.args.price
 
   abbrev left_of : Position
-  left_of = tradePosition ps s.args.account s.args.series s.args.side s.args.quantity s.args.price
+  left_of = trade_position ps s.args.account s.args.series s.args.side s.args.quantity s.args.price
 
   -- The position, as it was read.
-  read : s.args.held.position ≡ positionRead ps s.args.account s.args.series
+  read : s.args.held.position ≡ position_read ps s.args.account s.args.series
   read = s.pre.3.read_is
 
-  read-sound : soundPosition s.args.held.position ≡ true
-  read-sound = ap soundPosition read ∙ position-read-sound ps s.pre.1 s.args.account s.args.series
+  read-sound : sound_position s.args.held.position ≡ true
+  read-sound = ap sound_position read ∙ position-read-sound ps s.pre.1 s.args.account s.args.series
 
-  quantity-valid : validQuantity s.args.quantity ≡ true
+  quantity-valid : valid_quantity s.args.quantity ≡ true
   quantity-valid =
       trade-quantity rs ps s.args.id s.args.account s.args.series s.args.side s.args.quantity s.args.price s.pre.0 s.pre.1 s.pre.2
 
-  price-valid : validPrice s.args.price ≡ true
+  price-valid : valid_price s.args.price ≡ true
   price-valid =
       trade-price rs ps s.args.id s.args.account s.args.series s.args.side s.args.quantity s.args.price s.pre.0 s.pre.1 s.pre.2
 
   insertable : PlaceReady rs s.args.place row_of
-  unfolding newRecord
+  unfolding new_record
   insertable =
       let ready : InsertReady rs row_of =
       trade-insert rs ps s.args.id s.args.account s.args.series s.args.side s.args.quantity s.args.price s.pre.0 s.pre.1 s.pre.2 in
@@ -96,7 +96,7 @@ module _ (s : tie.Start) where
         ready.0,
         ready.1,
         ready.2,
-        s.pre.3.found-is ∙ ap (λ (k : Key). foundIn positionsLayout k ps) (sym (left_key ps s.args.account s.args.series s.args.side s.args.quantity s.args.price)),
+        s.pre.3.found-is ∙ ap (λ (k : Key). found_in positions_layout k ps) (sym (left_key ps s.args.account s.args.series s.args.side s.args.quantity s.args.price)),
       )
 
 -- What the trade closes and books.
@@ -104,16 +104,16 @@ module _ (c : tie.After-booking-of) where
   abbrev s : tie.Start
   s = c.before.before
 
-  booked : c.booking-of.result ≡ bookingOf s.args.side s.args.quantity s.args.price s.args.held.position
+  booked : c.booking-of.result ≡ booking_of s.args.side s.args.quantity s.args.price s.args.held.position
   booked = simp (to_z-of_z s.fits.side, to_z-of_z s.fits.quantity, to_z-of_z s.fits.price) at c.booking-of.ensures
 
-  closed : c.booking-of.result.closed ≡ closedOf s
+  closed : c.booking-of.result.closed ≡ closed_of s
   closed = closed_is (ps s) s.args.account s.args.series s.args.side s.args.quantity s.args.price s.args.held.position c.booking-of.result (read s) booked
 
-  movement : c.booking-of.result.movement ≡ tradeMovement (ps s) s.args.account s.args.series s.args.side s.args.quantity s.args.price
+  movement : c.booking-of.result.movement ≡ trade_movement (ps s) s.args.account s.args.series s.args.side s.args.quantity s.args.price
   movement = movement-is (ps s) s.args.account s.args.series s.args.side s.args.quantity s.args.price s.args.held.position c.booking-of.result (read s) booked
 
-  error : c.booking-of.result.error ≡ errorOf s
+  error : c.booking-of.result.error ≡ error_of s
   error = error-is (ps s) s.args.account s.args.series s.args.side s.args.quantity s.args.price s.args.held.position c.booking-of.result (read s) booked
 
   left : moved s.args.held.position c.booking-of.result.movement ≡ left_of s
@@ -124,26 +124,26 @@ module _ (c : tie.After-new-record) where
   abbrev b : tie.After-booking-of
   b = c.before.before.before.before.before.before.before
 
-  kind : to_z w64 c.before.before.before.before.before.if1.kind ≡ tradeKind b.booking-of.result.error
-  unfolding tradeKind
+  kind : to_z w64 c.before.before.before.before.before.if1.kind ≡ trade_kind b.booking-of.result.error
+  unfolding trade_kind
   kind =
       ⊎_elim
-      (λ w. ap (to_z w64) w.1 ∙ sym (ap tradeKind w.0.taken))
-      (λ w. ap (to_z w64) w.1 ∙ sym (ap tradeKind w.0.left))
+      (λ w. ap (to_z w64) w.1 ∙ sym (ap trade_kind w.0.taken))
+      (λ w. ap (to_z w64) w.1 ∙ sym (ap trade_kind w.0.left))
       c.before.before.before.before.before.if1.branch
 
   row : c.new-record.result ≡ row_of (s b)
   row =
-      let kind-is : to_z w64 c.before.before.before.before.before.if1.kind ≡ tradeKind (errorOf (s b)) = kind ∙ ap tradeKind (error b) in
-      let long-is : to_z w64 (of_z w64 b.booking-of.result.movement.long) ≡ tradeLong (ps (s b)) (s b).args.account (s b).args.series (s b).args.side (s b).args.quantity
+      let kind-is : to_z w64 c.before.before.before.before.before.if1.kind ≡ trade_kind (error_of (s b)) = kind ∙ ap trade_kind (error b) in
+      let long-is : to_z w64 (of_z w64 b.booking-of.result.movement.long) ≡ trade_long (ps (s b)) (s b).args.account (s b).args.series (s b).args.side (s b).args.quantity
       = read_back b.booking-of.result.movement.long c.before.before.struct_told.given.0.1 ∙ ap (λ (m : Movement). m.long) (movement b) in
-      let short-is : to_z w64 (of_z w64 b.booking-of.result.movement.short) ≡ tradeShort (ps (s b)) (s b).args.account (s b).args.series (s b).args.side (s b).args.quantity
+      let short-is : to_z w64 (of_z w64 b.booking-of.result.movement.short) ≡ trade_short (ps (s b)) (s b).args.account (s b).args.series (s b).args.side (s b).args.quantity
       = read_back b.booking-of.result.movement.short c.before.struct-told2.given.1.0.1 ∙ ap (λ (m : Movement). m.short) (movement b) in
-      let today-is : to_z w64 (of_z w64 c.before.before.before.today.result) ≡ currentDay (rs (s b))
+      let today-is : to_z w64 (of_z w64 c.before.before.before.today.result) ≡ current_day (rs (s b))
       = read_back c.before.before.before.today.result c.before.before.before.today.type-inv ∙ c.before.before.before.today.ensures in
       c.new-record.ensures
       ∙ (λ i.
-      newRecord
+      new_record
       (today-is i)
       (to_z-of_z (s b).fits.id i)
       (kind-is i)
@@ -160,8 +160,8 @@ module _ (c : tie.After-insert-record) where
   abbrev d : tie.After-booking-of
   d = b c.before.before
 
-  inserted : c.insert-record.new.0 ≡ putOne recordsLayout recordKey (rs (s d)) (row_of (s d))
-  inserted = c.insert-record.ensures.0 ∙ ap (putOne recordsLayout recordKey (rs (s d))) (row c.before.before)
+  inserted : c.insert-record.new.0 ≡ put_one records_layout record_key (rs (s d)) (row_of (s d))
+  inserted = c.insert-record.ensures.0 ∙ ap (put_one records_layout record_key (rs (s d))) (row c.before.before)
 
 -- The position that the trade leaves.
 module _ (c : tie.After-moved) where
@@ -171,8 +171,8 @@ module _ (c : tie.After-moved) where
   leaves : c.moved.result ≡ left_of (s e)
   leaves = c.moved.ensures ∙ left e
 
-put : (c : tie.After-write-position) → c.write-position.new.0 ≡ putOne positionsLayout positionKey (ps (s (e c.before.before))) (left_of (s (e c.before.before)))
-put c = c.write-position.ensures.0 ∙ ap (putOne positionsLayout positionKey (ps (s (e c.before.before)))) (leaves c.before.before)
+put : (c : tie.After-write-position) → c.write-position.new.0 ≡ put_one positions_layout position_key (ps (s (e c.before.before))) (left_of (s (e c.before.before)))
+put c = c.write-position.ensures.0 ∙ ap (put_one positions_layout position_key (ps (s (e c.before.before)))) (leaves c.before.before)
 
 -- The excess of a closing error.
 module _ (c : tie.After-struct-told3) where
@@ -182,14 +182,14 @@ module _ (c : tie.After-struct-told3) where
   abbrev f : tie.After-booking-of
   f = e p.before.before
 
-  excess-fits : SFits w64 ((s f).args.quantity -ℤ closedOf (s f))
+  excess-fits : SFits w64 ((s f).args.quantity -ℤ closed_of (s f))
   excess-fits =
-      opened-fits (s f).args.side (s f).args.quantity (positionRead (ps (s f)) (s f).args.account (s f).args.series) (quantity-valid (s f))
+      opened-fits (s f).args.side (s f).args.quantity (position_read (ps (s f)) (s f).args.account (s f).args.series) (quantity-valid (s f))
       (position-read-sound (ps (s f)) (s f).pre.1 (s f).args.account (s f).args.series)
 
-  excess : (to_z w64 (of_z w64 (s f).args.quantity) -ℤ to_z w64 (of_z w64 f.booking-of.result.closed)) ≡ (s f).args.quantity -ℤ closedOf (s f)
+  excess : (to_z w64 (of_z w64 (s f).args.quantity) -ℤ to_z w64 (of_z w64 f.booking-of.result.closed)) ≡ (s f).args.quantity -ℤ closed_of (s f)
   excess =
-      let closed-back : to_z w64 (of_z w64 f.booking-of.result.closed) ≡ closedOf (s f)
+      let closed-back : to_z w64 (of_z w64 f.booking-of.result.closed) ≡ closed_of (s f)
       = read_back f.booking-of.result.closed c.struct-told3.given.0.1 ∙ closed f in
       λ i. to_z-of_z (s f).fits.quantity i -ℤ closed-back i
 
@@ -230,7 +230,7 @@ same-length-2 c = search rules
 returns : tie.Need-returns
 returns c =
     let s : tie.Start = s (f c) in
-    let excess-back : to_z w64 (of_z w64 (to_z w64 (of_z w64 s.args.quantity) -ℤ to_z w64 (of_z w64 (f c).booking-of.result.closed))) ≡ s.args.quantity -ℤ closedOf s
+    let excess-back : to_z w64 (of_z w64 (to_z w64 (of_z w64 s.args.quantity) -ℤ to_z w64 (of_z w64 (f c).booking-of.result.closed))) ≡ s.args.quantity -ℤ closed_of s
     = ap (λ (z : ℤ). to_z w64 (of_z w64 z)) (excess c) ∙ to_z-of_z (excess-fits c) in
     let i : tie.After-insert-record = (p c).before.before.before.before in
     ap (λ (z : ℤ). answered (ClosingError z) i.insert-record.last.0 (p c).write-position.new.0) excess-back

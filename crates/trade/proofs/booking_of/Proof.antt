@@ -8,9 +8,9 @@ use lib.IntN.{ℤ, pos, ◌-ℤ◌}
 use mir.Facts.{to_z-of_z}
 use mir.Syntax.{w64}
 use mir.Val.{SFits, to_z, of_z}
-use Rattle.rules.specs.Figures.{magnitudeAtMost, validPrice, isBuy, isToClose}
-use Rattle.rules.specs.Rows.{inBooked}
-use Rattle.rules.specs.Trade.{closedBy, isClosingError}
+use Rattle.rules.specs.Figures.{magnitude_at_most, valid_price, is_buy, is_to_close}
+use Rattle.rules.specs.Rows.{in_booked}
+use Rattle.rules.specs.Trade.{closed_by, is_closing_error}
 use Rattle.rules.specs.declared.Movement.{Movement}
 use Rattle.verdict.proofs.Moves.{quantity-magnitude}
 use Rattle.trade.proofs.TradeBooked.{error-open, error-close, booking-buy, booking-sell, opened-fits, undone-fits}
@@ -22,16 +22,16 @@ module _ (c : tie.After-closed-by) where
   abbrev s : tie.Start
   s = c.before
 
-  closed : to_z w64 (of_z w64 c.closed-by.result) ≡ closedBy s.args.side s.args.quantity s.args.p
+  closed : to_z w64 (of_z w64 c.closed-by.result) ≡ closed_by s.args.side s.args.quantity s.args.p
   closed = to_z-of_z (sfits_of c.closed-by.type-inv) ∙ (simp (to_z-of_z s.fits.side, to_z-of_z s.fits.quantity) at c.closed-by.ensures)
 
   quantity : to_z w64 (of_z w64 s.args.quantity) ≡ s.args.quantity
   quantity = to_z-of_z s.fits.quantity
 
-  opened : SFits w64 (s.args.quantity -ℤ closedBy s.args.side s.args.quantity s.args.p)
+  opened : SFits w64 (s.args.quantity -ℤ closed_by s.args.side s.args.quantity s.args.p)
   opened = opened-fits s.args.side s.args.quantity s.args.p s.pre.0 s.pre.1
 
-  undone : SFits w64 (pos 0 -ℤ closedBy s.args.side s.args.quantity s.args.p)
+  undone : SFits w64 (pos 0 -ℤ closed_by s.args.side s.args.quantity s.args.p)
   undone = undone-fits s.args.side s.args.quantity s.args.p s.pre.0 s.pre.1
 
 -- Whether there is a closing error.
@@ -42,17 +42,17 @@ module _ (c : tie.Joined1) where
   abbrev t : tie.Start
   t = s after
 
-  to-close : c.before.is-to-close.result ≡ isToClose t.args.side
+  to-close : c.before.is-to-close.result ≡ is_to_close t.args.side
   to-close = simp (to_z-of_z t.fits.side) at c.before.is-to-close.ensures
 
-  error : c.if1.error ≡ isClosingError t.args.side t.args.quantity (closedBy t.args.side t.args.quantity t.args.p)
+  error : c.if1.error ≡ is_closing_error t.args.side t.args.quantity (closed_by t.args.side t.args.quantity t.args.p)
   error =
       ⊎_elim
       (λ w. w.1 ∙ simp (closed after, quantity after) (error-close t.args.side t.args.quantity t.args.p (sym to-close ∙ w.0.taken)))
       (λ w. w.1 ∙ error-open t.args.side t.args.quantity t.args.p (sym to-close ∙ w.0.left))
       c.if1.branch
 
-buys : (c : tie.After-is-buy) → c.is-buy.result ≡ isBuy (t c.before).args.side
+buys : (c : tie.After-is-buy) → c.is-buy.result ≡ is_buy (t c.before).args.side
 buys c = simp (to_z-of_z (t c.before).fits.side) at c.is-buy.ensures
 
 closed-by-requires : tie.Need-closed-by-requires
@@ -72,26 +72,26 @@ is-buy-requires c κs = search rules
 
 -- The movement, by the side.
 module _ (j : tie.Joined1) where
-  abbrev closedOf : ℤ
-  closedOf = closedBy (t j).args.side (t j).args.quantity (t j).args.p
+  abbrev closed_of : ℤ
+  closed_of = closed_by (t j).args.side (t j).args.quantity (t j).args.p
 
   abbrev moves : ℤ → ℤ → Movement
-  moves long short = inBooked (t j).args.side (t j).args.quantity (t j).args.price long short
+  moves long short = in_booked (t j).args.side (t j).args.quantity (t j).args.price long short
 
-bought : (c : tie.After-in-booked) → c.in-booked.result ≡ moves c.before.before.before ((t c.before.before.before).args.quantity -ℤ closedOf c.before.before.before) (pos 0 -ℤ closedOf c.before.before.before)
+bought : (c : tie.After-in-booked) → c.in-booked.result ≡ moves c.before.before.before ((t c.before.before.before).args.quantity -ℤ closed_of c.before.before.before) (pos 0 -ℤ closed_of c.before.before.before)
 bought c =
     let j : tie.Joined1 = c.before.before.before in
     simp (to_z-of_z (opened (after j)), to_z-of_z (undone (after j))) at
     (simp (to_z-of_z (t j).ranges.side, closed (after j), quantity (after j), to_z-of_z (t j).ranges.price) at c.in-booked.ensures)
 
-sold : (c : tie.After-in-booked2) → c.in-booked2.result ≡ moves c.before.before.before (pos 0 -ℤ closedOf c.before.before.before) ((t c.before.before.before).args.quantity -ℤ closedOf c.before.before.before)
+sold : (c : tie.After-in-booked2) → c.in-booked2.result ≡ moves c.before.before.before (pos 0 -ℤ closed_of c.before.before.before) ((t c.before.before.before).args.quantity -ℤ closed_of c.before.before.before)
 sold c =
     let j : tie.Joined1 = c.before.before.before in
     simp (to_z-of_z (opened (after j)), to_z-of_z (undone (after j))) at
     (simp (to_z-of_z (t j).ranges.side, closed (after j), quantity (after j), to_z-of_z (t j).ranges.price) at c.in-booked2.ensures)
 
 -- The quantity and the price are in range.
-ready : (j : tie.Joined1) → (magnitudeAtMost 1000000 (t j).args.quantity ≡ true) × (validPrice (t j).args.price ≡ true)
+ready : (j : tie.Joined1) → (magnitude_at_most 1000000 (t j).args.quantity ≡ true) × (valid_price (t j).args.price ≡ true)
 ready j = (quantity-magnitude (t j).args.quantity (t j).requires.0, (t j).requires.2)
 
 in-booked-requires : tie.Need-in-booked-requires

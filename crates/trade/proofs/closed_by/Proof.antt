@@ -6,15 +6,15 @@ use borrow.Author.Rules.{rules}
 use mir.Facts.{to_z-of_z}
 use mir.Syntax.{w64}
 use mir.Val.{to_z}
-use Rattle.rules.specs.Figures.{isBuy, isToClose}
-use Rattle.rules.specs.Trade.{openAgainst}
+use Rattle.rules.specs.Figures.{is_buy, is_to_close}
+use Rattle.rules.specs.Trade.{open_against}
 use Rattle.figures.proofs.Tests.{failed, passed}
 use Rattle.scan.proofs.ReadBack.{read_back}
 use Rattle.trade.proofs.TradeBooked.{opens, closes-all, closes-some, against-buy, against-sell}
 use Rattle.trade.proofs.closed_by.Statement.{statement}
 use Rattle.trade.proofs.closed_by.Tie as tie
 
-to-close : (c : tie.After-is-to-close) → c.is-to-close.result ≡ isToClose c.before.args.side
+to-close : (c : tie.After-is-to-close) → c.is-to-close.result ≡ is_to_close c.before.args.side
 to-close c = simp (to_z-of_z c.before.ranges.side) at c.is-to-close.ensures
 
 -- What is open against the trade.
@@ -25,13 +25,13 @@ module _ (c : tie.Joined2) where
   abbrev s : tie.Start
   s = told.before.before.before
 
-  closes : isToClose s.args.side ≡ true
+  closes : is_to_close s.args.side ≡ true
   closes = passed (to-close told.before.before) told.before.if1.left
 
-  buys : c.before.is-buy.result ≡ isBuy s.args.side
+  buys : c.before.is-buy.result ≡ is_buy s.args.side
   buys = simp (to_z-of_z s.fits.side) at c.before.is-buy.ensures
 
-  against : to_z w64 c.if2.«open» ≡ openAgainst s.args.side s.args.p
+  against : to_z w64 c.if2.«open» ≡ open_against s.args.side s.args.p
   against =
       ⊎_elim
       (λ w. ap (to_z w64) w.2 ∙ read_back s.args.p.short w.1.given.1.1.1.0.1 ∙ against-buy s.args.side s.args.p (sym buys ∙ w.0.taken))

@@ -10,15 +10,15 @@ use mir.Facts.{to_z-of_z}
 use borrow.Author.Rules.{rules}
 use Rattle.rules.specs.Keyed.{greatest, is_some}
 use Rattle.rules.specs.Request.{Request, trade}
-use Rattle.rules.specs.Rows.{key_of, recordKey}
+use Rattle.rules.specs.Rows.{key_of, record_key}
 use Rattle.rules.specs.Layout.{rows_of}
-use Rattle.rules.specs.Tables.{recordsLayout}
-use Rattle.rules.specs.Trade.{tradeFigures}
+use Rattle.rules.specs.Tables.{records_layout}
+use Rattle.rules.specs.Trade.{trade_figures}
 use Rattle.rules.specs.Handle.{answered}
 use Rattle.rules.specs.declared.Reply.TheVariants.{Refused}
 use Rattle.cells.proofs.SoundCells.{record-rows-sound}
 use Rattle.figures.proofs.Tests.{failed, passed}
-use Rattle.lookup.specs.Lookup.{recordSought}
+use Rattle.lookup.specs.Lookup.{record_sought}
 use Rattle.lookup.proofs.RowFound.{nothing-none, suffix-some}
 use Rattle.lookup.proofs.TableLookup.{records-first}
 use Rattle.lookup.specs.SoughtRows.{AbsentAt}
@@ -26,7 +26,7 @@ use Rattle.lookup.proofs.TableSought.{table-present, table-lacks}
 use Rattle.lookup.specs.declared.Greatest.{Greatest}
 use Rattle.scan.proofs.ReadBack.{read_back}
 use Rattle.verdict.specs.HandledSoundly.{HandledSoundly}
-use Rattle.verdict.specs.Verdict.{verdictOn}
+use Rattle.verdict.specs.Verdict.{verdict_on}
 use Rattle.verdict.proofs.Remaining.{◌past◌, stops}
 use Rattle.verdict.proofs.Trade.{TradeFrom, trade-tests}
 use Rattle.requests.proofs.OnSound.{refused-soundly, booked-soundly}
@@ -53,7 +53,7 @@ module _ (s : tie.Start) where
 -- ---- test 3
 
 answer-3 : (c : tie.After-figures-valid) → let a = c.before.args in
-    c.figures-valid.result ≡ tradeFigures a.id a.account a.series a.side a.quantity a.price
+    c.figures-valid.result ≡ trade_figures a.id a.account a.series a.side a.quantity a.price
 answer-3 c =
     let s : tie.Start = c.before in
     simp (to_z-of_z s.ranges.id, to_z-of_z s.ranges.account, to_z-of_z s.ranges.series, to_z-of_z s.ranges.side, to_z-of_z s.ranges.quantity, to_z-of_z s.ranges.price)
@@ -70,17 +70,17 @@ module _ (c : tie.After-look-up) where
   abbrev s4 : tie.Start
   s4 = c.before.before.before.before
 
-  figures : let a = s4.args in tradeFigures a.id a.account a.series a.side a.quantity a.price ≡ true
+  figures : let a = s4.args in trade_figures a.id a.account a.series a.side a.quantity a.price ≡ true
   figures = passed (answer-3 c.before.before.before) c.before.before.if1.false
 
   at-4 : From s4 4
   at-4 = at-3 s4 past ap not figures
 
-  answer : c.look_up.result ≡ recordSought (rs s4) s4.args.id (pos 0)
+  answer : c.look_up.result ≡ record_sought (rs s4) s4.args.id (pos 0)
   answer = simp (to_z-of_z s4.fits.id) at c.look_up.ensures
 
   -- The id has a record.
-  taken : (g : ℤ) → greatest recordKey s4.args.id (rows_of recordsLayout (rs s4)) ≡ some g → HandledSoundly (rs s4) (ps s4) (asked s4) (answered (Refused (pos 4) (pos 0)) (rs s4) (ps s4))
+  taken : (g : ℤ) → greatest record_key s4.args.id (rows_of records_layout (rs s4)) ≡ some g → HandledSoundly (rs s4) (ps s4) (asked s4) (answered (Refused (pos 4) (pos 0)) (rs s4) (ps s4))
   unfolding is_some
   taken g e = refused-soundly (rs s4) (ps s4) s4.pre (asked s4) (stops at-4 (ap is_some e)) (pos 4) (pos 0) refl
 
@@ -88,7 +88,7 @@ returns-2 : tie.Need-returns-2
 returns-2 c =
     let l : tie.After-look-up = c.before.before in
     let w = c.enum_told.given.0 in
-    taken l w.1.0 (table-present recordsLayout recordKey records-first (rs (s4 l)) (key_of (s4 l).args.id (pos 0)) w.0 w.1.0 w.1.1.0 (sym (answer l) ∙ c.enum_told.given.1)).greatest-is
+    taken l w.1.0 (table-present records_layout record_key records-first (rs (s4 l)) (key_of (s4 l).args.id (pos 0)) w.0 w.1.0 w.1.1.0 (sym (answer l) ∙ c.enum_told.given.1)).greatest-is
 
 -- What was said of an id that has none, or has one.
 module _ (c : tie.After-known-told) where
@@ -101,8 +101,8 @@ module _ (c : tie.After-known-told) where
   abbrev said : Greatest
   said = c.before.place.given.0.1.0
 
-  free : AbsentAt recordsLayout recordKey (rs (s4 look)) (key_of (s4 look).args.id (pos 0)) place said
-  free = table-lacks recordsLayout recordKey records-first (rs (s4 look)) (key_of (s4 look).args.id (pos 0)) place said (sym (answer look) ∙ c.before.place.given.1)
+  free : AbsentAt records_layout record_key (rs (s4 look)) (key_of (s4 look).args.id (pos 0)) place said
+  free = table-lacks records_layout record_key records-first (rs (s4 look)) (key_of (s4 look).args.id (pos 0)) place said (sym (answer look) ∙ c.before.place.given.1)
 
 returns-3 : tie.Need-returns-3
 returns-3 c =
@@ -121,8 +121,8 @@ module _ (c : tie.After-position-held) where
   abbrev s : tie.Start
   s = s4 (look known)
 
-  none_yet : greatest recordKey s.args.id (rows_of recordsLayout (rs s)) ≡ none
-  none_yet = nothing-none (greatest recordKey s.args.id (rows_of recordsLayout (rs s))) ((free known).greatest-is ∙ new.enum-told2.given.1)
+  none_yet : greatest record_key s.args.id (rows_of records_layout (rs s)) ≡ none
+  none_yet = nothing-none (greatest record_key s.args.id (rows_of records_layout (rs s))) ((free known).greatest-is ∙ new.enum-told2.given.1)
 
 verdict-requires : tie.Need-verdict-requires
 verdict-requires c κs =
@@ -135,7 +135,7 @@ module _ (v : tie.After-verdict) where
   abbrev held : tie.After-position-held
   held = v.before.before.before
 
-  judged : v.verdict.result ≡ verdictOn (rs (s held)) (ps (s held)) (asked (s held))
+  judged : v.verdict.result ≡ verdict_on (rs (s held)) (ps (s held)) (asked (s held))
   judged =
       let s : tie.Start = s held in
       simp (to_z-of_z s.fits.id, to_z-of_z s.fits.account, to_z-of_z s.fits.series, to_z-of_z s.fits.side, to_z-of_z s.fits.quantity, to_z-of_z s.fits.price)

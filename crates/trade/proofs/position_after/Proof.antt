@@ -2,13 +2,13 @@
 use mathlib.Core.Path.{◌≡◌, ◌∙◌, ap}
 use mir.Facts.{to_z-of_z}
 use Rattle.rules.specs.Rows.{moved}
-use Rattle.trade.specs.Booking.{bookingOf, positionAfter}
+use Rattle.trade.specs.Booking.{booking_of, position_after}
 use Rattle.trade.specs.declared.Booking.{Booking}
 use Rattle.trade.proofs.TradeBooked.{booking-moves}
 use Rattle.trade.proofs.position_after.Statement.{statement}
 use Rattle.trade.proofs.position_after.Tie as tie
 
-booked : (c : tie.After-booking-of) → c.booking-of.result ≡ bookingOf c.before.args.side c.before.args.quantity c.before.args.price c.before.args.p
+booked : (c : tie.After-booking-of) → c.booking-of.result ≡ booking_of c.before.args.side c.before.args.quantity c.before.args.price c.before.args.p
 booked c = simp (to_z-of_z c.before.ranges.side, to_z-of_z c.before.ranges.quantity, to_z-of_z c.before.ranges.price) at c.booking-of.ensures
 
 booking-of-requires : tie.Need-booking-of-requires
@@ -20,7 +20,7 @@ moved-requires c κs =
     booking-moves s.args.side s.args.quantity s.args.p s.requires.0 s.requires.1 s.args.price s.requires.2 c.booking-of.result (booked c)
 
 returns : tie.Need-returns
-unfolding positionAfter
+unfolding position_after
 returns c = c.moved.ensures ∙ ap (λ (b : Booking). moved c.before.before.args.p b.movement) (booked c.before)
 
 pub position-after-spec : {M : Type 1} → statement M

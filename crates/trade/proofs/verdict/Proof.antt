@@ -9,16 +9,16 @@ use lib.Dec.{ltb}
 use lib.ListN.{length}
 use mir.Facts.{to_z-of_z}
 use Rattle.rules.specs.Keyed.{is_some}
-use Rattle.rules.specs.Rows.{soundPosition}
-use Rattle.rules.specs.Layout.{roomOf, rows_of}
-use Rattle.rules.specs.Tables.{positionsLayout}
+use Rattle.rules.specs.Rows.{sound_position}
+use Rattle.rules.specs.Layout.{room_of, rows_of}
+use Rattle.rules.specs.Tables.{positions_layout}
 use Rattle.cells.proofs.SoundCells.{record-rows-sound}
 use Rattle.figures.proofs.Tests.{failed, passed}
-use Rattle.verdict.specs.Verdict.{absentPosition}
+use Rattle.verdict.specs.Verdict.{absent_position}
 use Rattle.verdict.proofs.Remaining.{◌past◌, stops, ends}
 use Rattle.verdict.proofs.Room.{absent-at-most-one}
 use Rattle.verdict.proofs.SoundReads.{position-read-sound}
-use Rattle.verdict.proofs.Trade.{tradePosition, TradeFrom, trade-tests}
+use Rattle.verdict.proofs.Trade.{trade_position, TradeFrom, trade-tests}
 use Rattle.requests.proofs.AbsentRow.{absent-is}
 use Rattle.trade.proofs.TradeBooked.{after_is, figures-quantity, figures-price}
 use Rattle.trade.proofs.verdict.Statement.{statement}
@@ -50,14 +50,14 @@ module _ (c : tie.Else1) where
   at-15 : From start15 15
   at-15 = at-14 start15 past sym c.before.lacks-records-room.ensures ∙ c.if1.false
 
-absent : (c : tie.After-absent-row) → let a = (start15 c.before).args in c.absent-row.result ≡ absentPosition a.positions.now a.account a.series
+absent : (c : tie.After-absent-row) → let a = (start15 c.before).args in c.absent-row.result ≡ absent_position a.positions.now a.account a.series
 absent c =
     let s : tie.Start = start15 c.before in
     c.absent-row.ensures ∙ absent-is s.args.positions.now s.args.account s.args.series s.args.held.found s.pre.4.found-is
 
 answer-15 : (c : tie.After-lacks-positions-room) → let a = (start15 c.before.before).args in
     c.lacks-positions-room.result
-    ≡ ltb (roomOf positionsLayout a.positions.now) (length (rows_of positionsLayout a.positions.now) + absentPosition a.positions.now a.account a.series)
+    ≡ ltb (room_of positions_layout a.positions.now) (length (rows_of positions_layout a.positions.now) + absent_position a.positions.now a.account a.series)
 answer-15 c = simp (absent c.before) at c.lacks-positions-room.ensures
 
 lacks-positions-room-requires : tie.Need-lacks-positions-room-requires
@@ -78,20 +78,20 @@ module _ (c : tie.Else2) where
   at-16 = at-15 c.before.before.before past sym (answer-15 c.before) ∙ c.if2.false
 
 answer-16 : (c : tie.After-sound-position) → let a = (start16 c.before.before).args in
-    c.sound-position.result ≡ soundPosition (tradePosition a.positions.now a.account a.series a.side a.quantity a.price)
+    c.sound-position.result ≡ sound_position (trade_position a.positions.now a.account a.series a.side a.quantity a.price)
 answer-16 c =
     let s : tie.Start = start16 c.before.before in
-    let left : c.before.position-after.result ≡ tradePosition s.args.positions.now s.args.account s.args.series s.args.side s.args.quantity s.args.price
+    let left : c.before.position-after.result ≡ trade_position s.args.positions.now s.args.account s.args.series s.args.side s.args.quantity s.args.price
     = (simp (to_z-of_z s.fits.side, to_z-of_z s.fits.quantity, to_z-of_z s.fits.price) at c.before.position-after.ensures)
     ∙ after_is s.args.positions.now s.args.account s.args.series s.args.side s.args.quantity s.args.price s.args.held.position s.pre.4.read_is in
-    c.sound-position.ensures ∙ ap soundPosition left
+    c.sound-position.ensures ∙ ap sound_position left
 
 position-after-requires : tie.Need-position-after-requires
 position-after-requires c κs =
     let s : tie.Start = start16 c in
     simp (to_z-of_z s.fits.quantity, to_z-of_z s.fits.price) (
       figures-quantity s.args.id s.args.account s.args.series s.args.side s.args.quantity s.args.price s.pre.2,
-      ap soundPosition s.pre.4.read_is ∙ position-read-sound s.args.positions.now s.pre.1 s.args.account s.args.series,
+      ap sound_position s.pre.4.read_is ∙ position-read-sound s.args.positions.now s.pre.1 s.args.account s.args.series,
       figures-price s.args.id s.args.account s.args.series s.args.side s.args.quantity s.args.price s.pre.2,
     )
 

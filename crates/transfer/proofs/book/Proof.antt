@@ -3,7 +3,7 @@ use lib.IntN.{ℤ}
 use mathlib.Core.List.{List}
 use mir.Facts.{to_z-of_z}
 use borrow.Author.Rules.{rules}
-use Rattle.rules.specs.Figures.{transferKind}
+use Rattle.rules.specs.Figures.{transfer_kind}
 use Rattle.rules.specs.declared.Record.{Record}
 use Rattle.verdict.proofs.MovingReady.{Movable}
 use Rattle.verdict.proofs.Transfer.{transfer-movable, transfer-returns}
@@ -21,9 +21,9 @@ module _ (s : tie.Start) where
   abbrev r : Record
   r = s.args.named.record
 
-  ready : MovingReady rs ps s.args.named s.args.old s.args.new s.args.id s.args.suffix s.args.from s.args.to s.args.series transferKind transferKind
+  ready : MovingReady rs ps s.args.named s.args.old s.args.new s.args.id s.args.suffix s.args.from s.args.to s.args.series transfer_kind transfer_kind
   ready =
-      let may : Movable rs ps s.args.id s.args.suffix s.args.from s.args.to s.args.series transferKind transferKind r =
+      let may : Movable rs ps s.args.id s.args.suffix s.args.from s.args.to s.args.series transfer_kind transfer_kind r =
       transfer-movable rs ps s.args.id s.args.suffix s.args.from s.args.to s.args.series s.pre.0.0 s.pre.0.1 s.pre.0.2 r s.pre.1.0.found in
       record {
         records-sound = s.pre.0.0;

@@ -10,28 +10,28 @@ use mir.Syntax.{w64}
 use mir.Val.{SFits, to_z, of_z}
 use borrow.Author.Rules.{rules}
 use Rattle.integers.proofs.Linear.{zarith, +-lin}
-use Rattle.rules.specs.Figures.{greatestOfSuffixes}
+use Rattle.rules.specs.Figures.{greatest_of_suffixes}
 use Rattle.rules.specs.Keyed.{Key}
-use Rattle.rules.specs.Rows.{key_of, recordKey, positionKey, soundPosition, inverseRecord, adjustableRecord, moved}
-use Rattle.rules.specs.Transfer.{inSide}
+use Rattle.rules.specs.Rows.{key_of, record_key, position_key, sound_position, inverse_record, adjustable_record, moved}
+use Rattle.rules.specs.Transfer.{in_side}
 use Rattle.rules.specs.Layout.{rows_of}
-use Rattle.rules.specs.Tables.{currentDay, recordsLayout, positionsLayout, soundPositions}
+use Rattle.rules.specs.Tables.{current_day, records_layout, positions_layout, sound_positions}
 use Rattle.rules.specs.declared.Record.{Record}
 use Rattle.rules.specs.declared.Position.{Position}
 use Rattle.cells.proofs.RowCells.{positions-lawful}
 use Rattle.cells.proofs.SoundCells.{record-rows-sound, positions-known}
 use Rattle.soundness.proofs.NamedRecord.{next_of}
 use Rattle.soundness.proofs.ReadPosition.{read-key}
-use Rattle.lookup.specs.Lookup.{foundIn}
+use Rattle.lookup.specs.Lookup.{found_in}
 use Rattle.lookup.proofs.KeysKept.{found-kept}
 use Rattle.lookup.proofs.TableLookup.{positions-first}
 use Rattle.scan.proofs.ReadBack.{read_back}
-use Rattle.tables.specs.NewRows.{rowsLike}
+use Rattle.tables.specs.NewRows.{rows_like}
 use Rattle.requests.specs.AdjustReady.{AdjustReady}
-use Rattle.verdict.proofs.Puts.{putOne, put_all}
+use Rattle.verdict.proofs.Puts.{put_one, put_all}
 use Rattle.verdict.proofs.Ready.{PutReady}
 use Rattle.verdict.proofs.SoundReads.{FoundRecord, found-record, position-read-sound}
-use Rattle.verdict.proofs.Moving.{movingInverse, movingArrived, movingRows, movingOld, movingNew}
+use Rattle.verdict.proofs.Moving.{moving_inverse, moving_arrived, moving_rows, moving_old, moving_new}
 use Rattle.verdict.proofs.MovingReady.{Movable, moving-ready, moving-adjusted, moving-next, moving-old-there, moving-put-old, moving-put-new, moving-returns}
 use Rattle.transfer.proofs.book_moved.Statement.{statement}
 use Rattle.transfer.proofs.book_moved.Tie as tie
@@ -69,13 +69,13 @@ module _ (s : tie.Start) where
   arriving = s.args.arriving
 
   abbrev next : ℤ
-  next = next_of (rows_of recordsLayout rs) id
+  next = next_of (rows_of records_layout rs) id
 
   abbrev left : Position
-  left = movingOld ps r from series
+  left = moving_old ps r from series
 
   abbrev reached : Position
-  reached = movingNew ps r to series
+  reached = moving_new ps r to series
 
   found : FoundRecord id suffix r
   found = found-record rs (record-rows-sound rs s.pre.records-sound) id suffix r s.pre.record-known.found
@@ -95,14 +95,14 @@ module _ (s : tie.Start) where
 
   -- ---- the records
 
-  suffixes : (pos 0 ≤ℤ next) × ((next +ℤ pos 1) ≤ℤ greatestOfSuffixes)
+  suffixes : (pos 0 ≤ℤ next) × ((next +ℤ pos 1) ≤ℤ greatest_of_suffixes)
   suffixes = moving-next rs ps id suffix from to series leaving arriving r may
 
   next_fits : SFits w64 (next +ℤ pos 1)
   next_fits = omega (zarith, +-lin next (pos 1), suffixes)
 
-  adjusts : AdjustReady rs id suffix s.args.named (movingInverse leaving (currentDay rs) r next) (movingArrived arriving (currentDay rs) r next to) (r.quantity ∷ [])
-  unfolding inverseRecord adjustableRecord
+  adjusts : AdjustReady rs id suffix s.args.named (moving_inverse leaving (current_day rs) r next) (moving_arrived arriving (current_day rs) r next to) (r.quantity ∷ [])
+  unfolding inverse_record adjustable_record
   adjusts = record {
     sound = record-rows-sound rs s.pre.records-sound;
     known = s.pre.record-known;
@@ -110,36 +110,36 @@ module _ (s : tie.Start) where
     inverse-key = λ i. key_of (found.id-is i) (sym s.pre.record-known.next-is i);
     first_key = λ i. key_of (found.id-is i) (sym s.pre.record-known.next-is i +ℤ pos 1);
     room = (moving-ready rs ps id suffix from to series leaving arriving r may).records-room;
-    last-suffix = subst (λ (z : ℤ). (z +ℤ pos 1) ≤ℤ greatestOfSuffixes) (sym s.pre.record-known.next-is) suffixes.1;
+    last-suffix = subst (λ (z : ℤ). (z +ℤ pos 1) ≤ℤ greatest_of_suffixes) (sym s.pre.record-known.next-is) suffixes.1;
   }
 
   -- ---- the positions
 
-  old-ready : soundPosition s.args.old.position ≡ true
-  old-ready = ap soundPosition s.pre.old-known.read_is ∙ position-read-sound ps s.pre.positions-sound from series
+  old-ready : sound_position s.args.old.position ≡ true
+  old-ready = ap sound_position s.pre.old-known.read_is ∙ position-read-sound ps s.pre.positions-sound from series
 
-  new-ready : soundPosition s.args.new.position ≡ true
-  new-ready = ap soundPosition s.pre.new-known.read_is ∙ position-read-sound ps s.pre.positions-sound to series
+  new-ready : sound_position s.args.new.position ≡ true
+  new-ready = ap sound_position s.pre.new-known.read_is ∙ position-read-sound ps s.pre.positions-sound to series
 
   old-puts : PutReady ps left
   old-puts = moving-put-old rs ps id suffix from to series leaving arriving r may
 
-  old-found : s.args.old.found ≡ foundIn positionsLayout (positionKey left) ps
+  old-found : s.args.old.found ≡ found_in positions_layout (position_key left) ps
   unfolding moved
-  old-found = s.pre.old-known.found-is ∙ ap (λ (k : Key). foundIn positionsLayout k ps) (sym (read-key from series (rows_of positionsLayout ps)))
+  old-found = s.pre.old-known.found-is ∙ ap (λ (k : Key). found_in positions_layout k ps) (sym (read-key from series (rows_of positions_layout ps)))
 
   -- Once the old account's row is written.
-  module _ (ps₁ : List ℤ) (put : ps₁ ≡ putOne positionsLayout positionKey ps left) where
-    new-puts : soundPositions ps₁ ≡ true → PutReady ps₁ reached
+  module _ (ps₁ : List ℤ) (put : ps₁ ≡ put_one positions_layout position_key ps left) where
+    new-puts : sound_positions ps₁ ≡ true → PutReady ps₁ reached
     new-puts = moving-put-new rs ps id suffix from to series leaving arriving r may ps₁ put
 
-    new-found : s.args.new.found ≡ foundIn positionsLayout (positionKey reached) ps₁
+    new-found : s.args.new.found ≡ found_in positions_layout (position_key reached) ps₁
     unfolding moved
     new-found =
         let there = moving-old-there rs ps id suffix from to series leaving arriving r may in
         s.pre.new-known.found-is
-        ∙ sym (found-kept positionsLayout positions-lawful positionKey positions-first soundPosition ps (positions-known ps s.pre.positions-sound) left there.0 there.1 ps₁ put (key_of to series))
-        ∙ ap (λ (k : Key). foundIn positionsLayout k ps₁) (sym (read-key to series (rows_of positionsLayout ps)))
+        ∙ sym (found-kept positions_layout positions-lawful position_key positions-first sound_position ps (positions-known ps s.pre.positions-sound) left there.0 there.1 ps₁ put (key_of to series))
+        ∙ ap (λ (k : Key). found_in positions_layout k ps₁) (sym (read-key to series (rows_of positions_layout ps)))
 
 -- ---- what the calls give
 
@@ -147,13 +147,13 @@ module _ (c : tie.After-inverse-row) where
   abbrev start : tie.Start
   start = c.before.before.before.before.before
 
-  today-is : to_z w64 (of_z w64 c.before.today.result) ≡ currentDay (rs start)
+  today-is : to_z w64 (of_z w64 c.before.today.result) ≡ current_day (rs start)
   today-is = read_back c.before.today.result c.before.today.ok ∙ c.before.today.ensures
 
   next-is : to_z w64 (of_z w64 start.args.named.next) ≡ next start
   next-is = read_back start.args.named.next c.before.before.before.struct_told.given.1.1.0.1 ∙ start.pre.record-known.next-is
 
-  inverse-is : c.inverse-row.result ≡ movingInverse (leaving start) (currentDay (rs start)) (r start) (next start)
+  inverse-is : c.inverse-row.result ≡ moving_inverse (leaving start) (current_day (rs start)) (r start) (next start)
   inverse-is = simp (today-is, next-is, to_z-of_z start.fits.leaving) at c.inverse-row.ensures
 
 module _ (c : tie.After-arrived-row) where
@@ -163,7 +163,7 @@ module _ (c : tie.After-arrived-row) where
   last-is : to_z w64 (of_z w64 (to_z w64 (of_z w64 start2.args.named.next) +ℤ pos 1)) ≡ (next start2 +ℤ pos 1)
   last-is = ap (λ (z : ℤ). to_z w64 (of_z w64 (z +ℤ pos 1))) (next-is c.before) ∙ to_z-of_z (next_fits start2)
 
-  arrived-is : c.arrived-row.result ≡ movingArrived (arriving start2) (currentDay (rs start2)) (r start2) (next start2) (to start2)
+  arrived-is : c.arrived-row.result ≡ moving_arrived (arriving start2) (current_day (rs start2)) (r start2) (next start2) (to start2)
   arrived-is = simp (today-is c.before, last-is, to_z-of_z start2.fits.to, to_z-of_z start2.fits.arriving) at c.arrived-row.ensures
 
 -- The one quantity of the rows that come out of the record.
@@ -177,8 +177,8 @@ module _ (c : tie.After-adjust-named) where
   abbrev start3 : tie.Start
   start3 = start2 at-quantity.before
 
-  records-put : c.adjust-named.last.0 ≡ put_all recordsLayout recordKey (rs start3) (movingRows (leaving start3) (arriving start3) (currentDay (rs start3)) (r start3) (next start3) (to start3))
-  unfolding rowsLike adjustableRecord
+  records-put : c.adjust-named.last.0 ≡ put_all records_layout record_key (rs start3) (moving_rows (leaving start3) (arriving start3) (current_day (rs start3)) (r start3) (next start3) (to start3))
+  unfolding rows_like adjustable_record
   records-put = simp (inverse-is at-quantity.before.before, arrived-is at-quantity.before, quantity-is at-quantity) at c.adjust-named.ensures
 
 module _ (c : tie.After-taken-from) where
@@ -186,13 +186,13 @@ module _ (c : tie.After-taken-from) where
   start4 = start3 c.before.before.before
 
   taken_is : c.taken-from.result ≡ left start4
-  taken_is = c.taken-from.ensures ∙ ap (λ (p : Position). moved p (inSide (r start4).side (neg_ℤ (r start4).quantity) (r start4).price)) start4.pre.old-known.read_is
+  taken_is = c.taken-from.ensures ∙ ap (λ (p : Position). moved p (in_side (r start4).side (neg_ℤ (r start4).quantity) (r start4).price)) start4.pre.old-known.read_is
 
 module _ (c : tie.After-write-position) where
   abbrev start5 : tie.Start
   start5 = start4 c.before
 
-  old-put : c.write-position.last.0 ≡ putOne positionsLayout positionKey (ps start5) (left start5)
+  old-put : c.write-position.last.0 ≡ put_one positions_layout position_key (ps start5) (left start5)
   old-put = rw (taken_is c.before) at c.write-position.ensures.0
 
 module _ (c : tie.After-given-to) where
@@ -203,7 +203,7 @@ module _ (c : tie.After-given-to) where
   start6 = start5 put
 
   given_is : c.given_to.result ≡ reached start6
-  given_is = c.given_to.ensures ∙ ap (λ (p : Position). moved p (inSide (r start6).side (r start6).quantity (r start6).price)) start6.pre.new-known.read_is
+  given_is = c.given_to.ensures ∙ ap (λ (p : Position). moved p (in_side (r start6).side (r start6).quantity (r start6).price)) start6.pre.new-known.read_is
 
 -- ---- what the calls require
 

@@ -7,10 +7,10 @@ use mathlib.Core.List.{List, [], ◌∷◌}
 use borrow.Author.Rules.{rules}
 use lib.ListN.{drop}
 use mir.Facts.{to_z-of_z}
-use Rattle.integers.specs.Order.{eqZ}
-use Rattle.integers.proofs.Bits.{eqb-ofZ}
-use Rattle.rules.specs.Figures.{validId, validSuffix, validAccount, validSeries}
-use Rattle.rules.specs.Transfer.{transferFigures}
+use Rattle.integers.specs.Order.{eq_z}
+use Rattle.integers.proofs.Bits.{eqb-of_z}
+use Rattle.rules.specs.Figures.{valid_id, valid_suffix, valid_account, valid_series}
+use Rattle.rules.specs.Transfer.{transfer_figures}
 use Rattle.figures.proofs.Chain.{Remaining, goes_on, stops, ends}
 use Rattle.transfer.proofs.figures_valid.Statement.{statement}
 use Rattle.transfer.proofs.figures_valid.Tie as tie
@@ -19,23 +19,23 @@ use Rattle.transfer.proofs.figures_valid.Tie as tie
 module _ (s : tie.Start) where
   abbrev tests : List Bool
   tests =
-      validId s.args.id
-      ∷ validSuffix s.args.suffix
-      ∷ validAccount s.args.from
-      ∷ validAccount s.args.to
-      ∷ validSeries s.args.series
-      ∷ not (eqZ s.args.from s.args.to)
+      valid_id s.args.id
+      ∷ valid_suffix s.args.suffix
+      ∷ valid_account s.args.from
+      ∷ valid_account s.args.to
+      ∷ valid_series s.args.series
+      ∷ not (eq_z s.args.from s.args.to)
       ∷ []
 
   abbrev After : ℕ → Type 0
-  After k = Remaining (transferFigures s.args.id s.args.suffix s.args.from s.args.to s.args.series) (drop k tests)
+  After k = Remaining (transfer_figures s.args.id s.args.suffix s.args.from s.args.to s.args.series) (drop k tests)
 
   all-remain : After 0
-  unfolding transferFigures
+  unfolding transfer_figures
   all-remain = record { is = refl }
 
 -- id
-answer1 : (c : tie.After-valid-id) → c.valid-id.result ≡ validId c.before.args.id
+answer1 : (c : tie.After-valid-id) → c.valid-id.result ≡ valid_id c.before.args.id
 answer1 c = simp (to_z-of_z c.before.ranges.id) at c.valid-id.ensures
 
 abbrev start1 : tie.Else1 → tie.Start
@@ -51,7 +51,7 @@ returns : tie.Need-returns
 returns c = stops (all-remain c.before.before) (answer1 c.before) c.if1.true
 
 -- suffix
-answer2 : (c : tie.After-valid-suffix) → c.valid-suffix.result ≡ validSuffix (start1 c.before).args.suffix
+answer2 : (c : tie.After-valid-suffix) → c.valid-suffix.result ≡ valid_suffix (start1 c.before).args.suffix
 answer2 c = simp (to_z-of_z (start1 c.before).ranges.suffix) at c.valid-suffix.ensures
 
 abbrev start2 : tie.Else2 → tie.Start
@@ -67,7 +67,7 @@ returns-2 : tie.Need-returns-2
 returns-2 c = stops (after1 c.before.before) (answer2 c.before) c.if2.true
 
 -- from
-answer3 : (c : tie.After-valid-account) → c.valid-account.result ≡ validAccount (start2 c.before).args.from
+answer3 : (c : tie.After-valid-account) → c.valid-account.result ≡ valid_account (start2 c.before).args.from
 answer3 c = simp (to_z-of_z (start2 c.before).ranges.from) at c.valid-account.ensures
 
 abbrev start3 : tie.Else3 → tie.Start
@@ -83,7 +83,7 @@ returns-3 : tie.Need-returns-3
 returns-3 c = stops (after2 c.before.before) (answer3 c.before) c.if3.true
 
 -- to
-answer4 : (c : tie.After-valid-account2) → c.valid-account2.result ≡ validAccount (start3 c.before).args.to
+answer4 : (c : tie.After-valid-account2) → c.valid-account2.result ≡ valid_account (start3 c.before).args.to
 answer4 c = simp (to_z-of_z (start3 c.before).ranges.to) at c.valid-account2.ensures
 
 abbrev start4 : tie.Else4 → tie.Start
@@ -99,7 +99,7 @@ returns-4 : tie.Need-returns-4
 returns-4 c = stops (after3 c.before.before) (answer4 c.before) c.if4.true
 
 -- series
-answer5 : (c : tie.After-valid-series) → c.valid-series.result ≡ validSeries (start4 c.before).args.series
+answer5 : (c : tie.After-valid-series) → c.valid-series.result ≡ valid_series (start4 c.before).args.series
 answer5 c = simp (to_z-of_z (start4 c.before).ranges.series) at c.valid-series.ensures
 
 abbrev start5 : tie.Else5 → tie.Start
@@ -118,7 +118,7 @@ returns-5 c = stops (after4 c.before.before) (answer5 c.before) c.if5.true
 returns-6 : tie.Need-returns-6
 returns-6 c =
     let s : tie.Start = start5 c in
-    ends (after5 c) (ap not (eqb-ofZ s.fits.from s.fits.to))
+    ends (after5 c) (ap not (eqb-of_z s.fits.from s.fits.to))
 
 pub figures-valid-spec : {M : Type 1} → statement M
 figures-valid-spec =

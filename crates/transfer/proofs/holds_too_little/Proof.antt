@@ -1,13 +1,13 @@
 -- `transfer::holds_too_little` meets its contract: the long of a buy, the short of a sell, against the quantity. Assumes nothing.
 use mathlib.Core.Path.{◌≡◌, sym, ◌∙◌}
 use borrow.Author.Rules.{rules}
-use Rattle.rules.specs.Figures.{isBuy}
+use Rattle.rules.specs.Figures.{is_buy}
 use Rattle.scan.proofs.ReadBack.{read_back}
 use Rattle.transfer.proofs.BySide.{holds-buy, holds-sell}
 use Rattle.transfer.proofs.holds_too_little.Statement.{statement}
 use Rattle.transfer.proofs.holds_too_little.Tie as tie
 
-answer : (c : tie.After-is-buy) → c.is-buy.result ≡ isBuy c.before.before.args.r.side
+answer : (c : tie.After-is-buy) → c.is-buy.result ≡ is_buy c.before.before.args.r.side
 answer c = simp (read_back c.before.before.args.r.side c.before.struct_told.given.1.1.1.1.1.1.1.0.1) at c.is-buy.ensures
 
 is-buy-requires : tie.Need-is-buy-requires

@@ -2,12 +2,12 @@
 use mathlib.Core.Path.{◌≡◌, sym, ◌∙◌}
 use mir.Facts.{to_z-of_z}
 use borrow.Author.Rules.{rules}
-use Rattle.rules.specs.Figures.{isBuy}
+use Rattle.rules.specs.Figures.{is_buy}
 use Rattle.transfer.proofs.BySide.{short-bought, short-sold}
 use Rattle.transfer.proofs.in_short.Statement.{statement}
 use Rattle.transfer.proofs.in_short.Tie as tie
 
-answer : (c : tie.After-is-buy) → c.is-buy.result ≡ isBuy c.before.args.side
+answer : (c : tie.After-is-buy) → c.is-buy.result ≡ is_buy c.before.args.side
 answer c = simp (to_z-of_z c.before.ranges.side) at c.is-buy.ensures
 
 returns : tie.Need-returns

@@ -5,7 +5,7 @@ use mir.Facts.{to_z-of_z}
 use mir.Syntax.{w64}
 use mir.Val.{to_z, of_z}
 use borrow.Author.Rules.{rules, sfits_of}
-use Rattle.rules.specs.Transfer.{inLong, inShort}
+use Rattle.rules.specs.Transfer.{in_long, in_short}
 use Rattle.rules.specs.declared.Record.{Record}
 use Rattle.scan.proofs.ReadBack.{read_back}
 use Rattle.transfer.proofs.Negated.{negated_fits, negated}
@@ -22,13 +22,13 @@ module _ (c : tie.After-in-short) where
   abbrev r : Record
   r = s.args.r
 
-  long-is : to_z w64 (of_z w64 long-read.in-long.result) ≡ inLong r.side (neg_ℤ r.quantity)
+  long-is : to_z w64 (of_z w64 long-read.in-long.result) ≡ in_long r.side (neg_ℤ r.quantity)
   long-is =
       let known = long-read.before.struct-told2.given in
       to_z-of_z (sfits_of long-read.in-long.ok)
       ∙ (simp (read_back r.side known.1.1.1.1.1.1.1.0.1) at (rw (negated r.quantity s.pre known.1.1.1.1.1.1.1.1.0.1) at long-read.in-long.ensures))
 
-  short-is : to_z w64 (of_z w64 c.in-short.result) ≡ inShort r.side (neg_ℤ r.quantity)
+  short-is : to_z w64 (of_z w64 c.in-short.result) ≡ in_short r.side (neg_ℤ r.quantity)
   short-is =
       let known = c.before.struct-told3.given in
       to_z-of_z (sfits_of c.in-short.type-inv)

@@ -7,14 +7,14 @@ use lib.IntN.{ℤ, pos}
 use mir.Facts.{to_z-of_z}
 use borrow.Author.Rules.{rules}
 use Rattle.rules.specs.Keyed.{is_some}
-use Rattle.rules.specs.Rows.{key_of, recordKey}
+use Rattle.rules.specs.Rows.{key_of, record_key}
 use Rattle.rules.specs.Request.{Request, transfer}
-use Rattle.rules.specs.Transfer.{transferFigures}
-use Rattle.rules.specs.Tables.{recordsLayout}
+use Rattle.rules.specs.Transfer.{transfer_figures}
+use Rattle.rules.specs.Tables.{records_layout}
 use Rattle.rules.specs.declared.Record.{Record}
 use Rattle.cells.proofs.SoundCells.{record-rows-sound}
 use Rattle.figures.proofs.Tests.{failed, passed}
-use Rattle.lookup.specs.Lookup.{recordSought}
+use Rattle.lookup.specs.Lookup.{record_sought}
 use Rattle.lookup.proofs.TableLookup.{records-first}
 use Rattle.lookup.specs.SoughtRows.{AbsentAt}
 use Rattle.lookup.proofs.TableSought.{table-lacks}
@@ -22,7 +22,7 @@ use Rattle.requests.proofs.OnSound.{refused-soundly, booked-soundly}
 use Rattle.requests.specs.KnownPosition.{KnownPosition}
 use Rattle.requests.specs.KnownRecord.{KnownRecord}
 use Rattle.scan.proofs.ReadBack.{read_back}
-use Rattle.verdict.specs.Verdict.{verdictOn}
+use Rattle.verdict.specs.Verdict.{verdict_on}
 use Rattle.verdict.proofs.Remaining.{◌past◌, stops}
 use Rattle.verdict.proofs.Transfer.{transfer-tests}
 use Rattle.transfer.proofs.on_sound.Statement.{statement}
@@ -56,7 +56,7 @@ module _ (s : tie.Start) where
 -- ---- test 3
 
 answer-3 : (c : tie.After-figures-valid)
-    → c.figures-valid.result ≡ transferFigures (id c.before) (suffix c.before) (from c.before) (to c.before) (series c.before)
+    → c.figures-valid.result ≡ transfer_figures (id c.before) (suffix c.before) (from c.before) (to c.before) (series c.before)
 answer-3 c =
     let s : tie.Start = c.before in
     simp (to_z-of_z s.ranges.id, to_z-of_z s.ranges.suffix, to_z-of_z s.ranges.from, to_z-of_z s.ranges.to, to_z-of_z s.ranges.series) at c.figures-valid.ensures
@@ -74,10 +74,10 @@ module _ (c : tie.After-look-up) where
   abbrev start : tie.Start
   start = c.before.before.before.before
 
-  figures : transferFigures (id start) (suffix start) (from start) (to start) (series start) ≡ true
+  figures : transfer_figures (id start) (suffix start) (from start) (to start) (series start) ≡ true
   figures = passed (answer-3 c.before.before.before) c.before.before.if1.false
 
-  looked : c.look_up.result ≡ recordSought (rs start) (id start) (suffix start)
+  looked : c.look_up.result ≡ record_sought (rs start) (id start) (suffix start)
   looked = simp (to_z-of_z start.fits.id, to_z-of_z start.fits.suffix) at c.look_up.ensures
 
 returns-2 : tie.Need-returns-2
@@ -85,8 +85,8 @@ unfolding is_some
 returns-2 c =
     let l : tie.After-look-up = c.before.before in
     let s : tie.Start = start l in
-    let lacks : AbsentAt recordsLayout recordKey (rs s) (key_of (id s) (suffix s)) c.enum_told.given.0.0 c.enum_told.given.0.1.0 =
-    table-lacks recordsLayout recordKey records-first (rs s) (key_of (id s) (suffix s)) _ _ (sym (looked l) ∙ c.enum_told.given.1) in
+    let lacks : AbsentAt records_layout record_key (rs s) (key_of (id s) (suffix s)) c.enum_told.given.0.0 c.enum_told.given.0.1.0 =
+    table-lacks records_layout record_key records-first (rs s) (key_of (id s) (suffix s)) _ _ (sym (looked l) ∙ c.enum_told.given.1) in
     refused-soundly (rs s) (ps s) s.pre (asked s)
     (stops
     (transfer-tests (rs s) (ps s) (id s) (suffix s) (from s) (to s) (series s) _ refl past ap not (figures l))
@@ -135,7 +135,7 @@ module _ (v : tie.After-verdict) where
   abbrev held : tie.After-position-held2
   held = v.before.before.before
 
-  judged : v.verdict.result ≡ verdictOn (rs (s held)) (ps (s held)) (asked (s held))
+  judged : v.verdict.result ≡ verdict_on (rs (s held)) (ps (s held)) (asked (s held))
   judged =
       let s : tie.Start = s held in
       simp (to_z-of_z s.fits.id, to_z-of_z s.fits.suffix, to_z-of_z s.fits.from, to_z-of_z s.fits.to, to_z-of_z s.fits.series) at v.verdict.ensures

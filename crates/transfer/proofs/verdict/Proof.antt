@@ -7,13 +7,13 @@ use mir.Facts.{to_z-of_z}
 use mir.Syntax.{w64}
 use mir.Val.{SFits}
 use borrow.Author.Rules.{rules, sfits_of}
-use Rattle.rules.specs.Figures.{isToClose}
-use Rattle.rules.specs.NamedRecord.{isElsewhere, isNotAdjustable}
+use Rattle.rules.specs.Figures.{is_to_close}
+use Rattle.rules.specs.NamedRecord.{is_elsewhere, is_not_adjustable}
 use Rattle.rules.specs.declared.Record.{Record}
 use Rattle.figures.proofs.Tests.{is-literal, not-literal}
 use Rattle.scan.proofs.ReadBack.{read_back}
 use Rattle.requests.proofs.StatusRefusal.{status-number}
-use Rattle.verdict.specs.Moving.{movingVerdict}
+use Rattle.verdict.specs.Moving.{moving_verdict}
 use Rattle.verdict.specs.declared.Verdict.TheVariants.{Refused}
 use Rattle.verdict.proofs.Remaining.{◌past◌, stops}
 use Rattle.verdict.proofs.Transfer.{TransferFrom, transfer-named, transfer-moving}
@@ -42,7 +42,7 @@ module _ (s : tie.Start) where
       s.pre.1.0 s.pre.1.1.found
 
 answer-6 : (c : tie.After-is-elsewhere)
-    → c.is-elsewhere.result ≡ isElsewhere (from c.before.before) (series c.before.before) (r c.before.before)
+    → c.is-elsewhere.result ≡ is_elsewhere (from c.before.before) (series c.before.before) (r c.before.before)
 answer-6 c =
     let s : tie.Start = c.before.before in
     simp (to_z-of_z s.ranges.from, to_z-of_z s.ranges.series) at c.is-elsewhere.ensures
@@ -59,7 +59,7 @@ module _ (c : tie.After-struct-told) where
   abbrev start : tie.Start
   start = else1.before.before.before
 
-  here : isElsewhere (from start) (series start) (r start) ≡ false
+  here : is_elsewhere (from start) (series start) (r start) ≡ false
   here = sym (answer-6 else1.before) ∙ else1.if1.left
 
   at_7 : From start 7
@@ -69,7 +69,7 @@ module _ (c : tie.After-struct-told) where
   status-fits = sfits_of {w = w64} {z = (r start).status} c.struct_told.given.1.1.1.1.0.1
 
 returns-2 : tie.Need-returns-2
-unfolding isNotAdjustable
+unfolding is_not_adjustable
 returns-2 c =
     let t : tie.After-struct-told = c.before.before.before in
     ap (λ (n : ℤ). Refused n (pos 0)) (status-number (sfits_of c.status-refusal.type-inv) (status-fits t) c.status-refusal.ensures)
@@ -84,14 +84,14 @@ module _ (c : tie.After-is-to-close) where
   abbrev start2 : tie.Start
   start2 = start else2.before
 
-  adjustable : isNotAdjustable (r start2) ≡ false
-  unfolding isNotAdjustable
+  adjustable : is_not_adjustable (r start2) ≡ false
+  unfolding is_not_adjustable
   adjustable = ap not (is-literal 0 tt (status-fits else2.before) else2.if2.left)
 
   at_8 : From start2 8
   at_8 = at_7 else2.before past adjustable
 
-  answer-8 : c.is-to-close.result ≡ isToClose (r start2).side
+  answer-8 : c.is-to-close.result ≡ is_to_close (r start2).side
   answer-8 = simp (read_back (r start2).side c.before.struct-told3.given.1.1.1.1.1.1.1.0.1) at c.is-to-close.ensures
 
 returns-3 : tie.Need-returns-3
@@ -110,7 +110,7 @@ returns-4 : tie.Need-returns-4
 returns-4 c =
     let e : tie.Else3 = c.before in
     let s : tie.Start = start2 e.before in
-    let moving : c.verdict-on-positions.result ≡ movingVerdict s.args.records.now s.args.positions.now (r s) s.args.id (from s) s.args.to (series s) =
+    let moving : c.verdict-on-positions.result ≡ moving_verdict s.args.records.now s.args.positions.now (r s) s.args.id (from s) s.args.to (series s) =
     simp (to_z-of_z s.fits.id, to_z-of_z s.fits.from, to_z-of_z s.fits.to, to_z-of_z s.fits.series) at c.verdict-on-positions.ensures in
     moving
     ∙ transfer-moving s.args.records.now s.args.positions.now s.args.id s.args.suffix (from s) s.args.to (series s) (r s)

@@ -14,22 +14,22 @@ use mir.Syntax.{w64}
 use mir.Val.{SFits, to_z, of_z}
 use borrow.Author.Rules.{rules}
 use Rattle.integers.proofs.Linear.{zarith, +-lin}
-use Rattle.rules.specs.Figures.{magnitudeAtMost, validPrice}
-use Rattle.rules.specs.Rows.{soundPosition}
-use Rattle.rules.specs.Transfer.{holdsTooLittle}
-use Rattle.rules.specs.Layout.{roomOf, rows_of}
-use Rattle.rules.specs.Tables.{recordsLayout, positionsLayout}
+use Rattle.rules.specs.Figures.{magnitude_at_most, valid_price}
+use Rattle.rules.specs.Rows.{sound_position}
+use Rattle.rules.specs.Transfer.{holds_too_little}
+use Rattle.rules.specs.Layout.{room_of, rows_of}
+use Rattle.rules.specs.Tables.{records_layout, positions_layout}
 use Rattle.rules.specs.declared.Record.{Record}
 use Rattle.rules.specs.declared.Position.{Position}
 use Rattle.figures.proofs.Tests.{failed, passed}
 use Rattle.requests.proofs.AbsentRow.{absent-is}
 use Rattle.scan.proofs.ReadBack.{read_back}
 use Rattle.soundness.proofs.NamedRecord.{next_of}
-use Rattle.verdict.specs.Verdict.{absentPosition}
-use Rattle.verdict.proofs.Room.{positionRead, absent-at-most-one}
+use Rattle.verdict.specs.Verdict.{absent_position}
+use Rattle.verdict.proofs.Room.{position_read, absent-at-most-one}
 use Rattle.verdict.proofs.SoundReads.{found-record, next-range, position-read-sound}
 use Rattle.verdict.proofs.Remaining.{◌past◌, stops, ends}
-use Rattle.verdict.proofs.Moving.{movingOld, movingNew, MovingFrom, moving-tests}
+use Rattle.verdict.proofs.Moving.{moving_old, moving_new, MovingFrom, moving-tests}
 use Rattle.transfer.proofs.verdict_on_positions.Statement.{statement}
 use Rattle.transfer.proofs.verdict_on_positions.Tie as tie
 
@@ -56,34 +56,34 @@ module _ (s : tie.Start) where
   series = s.args.series
 
   abbrev next : ℤ
-  next = next_of (rows_of recordsLayout rs) id
+  next = next_of (rows_of records_layout rs) id
 
   next_fits : SFits w64 (next +ℤ pos 1)
   next_fits =
       let range : (pos 0 ≤ℤ next) × (next ≤ℤ pos 65536) = next-range rs s.pre.0.0 id in
       omega (zarith, +-lin next (pos 1))
 
-  quantity-small : magnitudeAtMost 1000000 r.quantity ≡ true
+  quantity-small : magnitude_at_most 1000000 r.quantity ≡ true
   quantity-small = (found-record rs s.pre.0.0 id s.args.suffix r s.pre.1.0.found).quantity-small
 
-  price-valid : validPrice r.price ≡ true
+  price-valid : valid_price r.price ≡ true
   price-valid = (found-record rs s.pre.0.0 id s.args.suffix r s.pre.1.0.found).sound.price
 
   -- Both positions, as they were read.
-  old-is : s.args.old.position ≡ positionRead ps from series
+  old-is : s.args.old.position ≡ position_read ps from series
   old-is = s.pre.1.1.read_is
 
-  new_is : s.args.new.position ≡ positionRead ps to series
+  new_is : s.args.new.position ≡ position_read ps to series
   new_is = s.pre.1.2.read_is
 
   abbrev left : Position
-  left = movingOld ps r from series
+  left = moving_old ps r from series
 
   abbrev reached : Position
-  reached = movingNew ps r to series
+  reached = moving_new ps r to series
 
   abbrev lacking : ℕ
-  lacking = absentPosition ps from series + absentPosition ps to series
+  lacking = absent_position ps from series + absent_position ps to series
 
   -- The verdict is that of the tests from number n on.
   abbrev From : ℕ → Type 0
@@ -95,8 +95,8 @@ at-12 : (s : tie.Start) → From s 12
 at-12 s = moving-tests (rs s) (ps s) (id s) (from s) (to s) (series s) (r s)
 
 answer-12 : (c : tie.After-holds-too-little) →
-    c.holds-too-little.result ≡ holdsTooLittle (r c.before.before) (positionRead (ps c.before.before) (from c.before.before) (series c.before.before))
-answer-12 c = c.holds-too-little.ensures ∙ ap (holdsTooLittle (r c.before.before)) (old-is c.before.before)
+    c.holds-too-little.result ≡ holds_too_little (r c.before.before) (position_read (ps c.before.before) (from c.before.before) (series c.before.before))
+answer-12 c = c.holds-too-little.ensures ∙ ap (holds_too_little (r c.before.before)) (old-is c.before.before)
 
 returns : tie.Need-returns
 returns c = stops (at-12 c.before.before.before) (sym (answer-12 c.before) ∙ c.if1.true)
@@ -165,7 +165,7 @@ module _ (c : tie.After-lacks-positions-room) where
   abbrev start4 : tie.Start
   start4 = start3 c.before
 
-  answer-15 : c.lacks-positions-room.result ≡ ltb (roomOf positionsLayout (ps start4)) (length (rows_of positionsLayout (ps start4)) + lacking start4)
+  answer-15 : c.lacks-positions-room.result ≡ ltb (room_of positions_layout (ps start4)) (length (rows_of positions_layout (ps start4)) + lacking start4)
   answer-15 = rw (absent c.before) at c.lacks-positions-room.ensures
 
 returns-4 : tie.Need-returns-4
@@ -185,15 +185,15 @@ taken-from-requires c κs =
     let s : tie.Start = start5 c in
     (rw (old-is s) (position-read-sound (ps s) s.pre.0.1 (from s) (series s)), quantity-small s, price-valid s)
 
-old-answer : (c : tie.After-sound-position) → c.sound-position.result ≡ soundPosition (left (start5 c.before.before))
+old-answer : (c : tie.After-sound-position) → c.sound-position.result ≡ sound_position (left (start5 c.before.before))
 old-answer c =
     let s : tie.Start = start5 c.before.before in
-    c.sound-position.ensures ∙ ap soundPosition (rw (old-is s) at c.before.taken-from.ensures)
+    c.sound-position.ensures ∙ ap sound_position (rw (old-is s) at c.before.taken-from.ensures)
 
 returns-5 : tie.Need-returns-5
 returns-5 c =
     let e : tie.Else4 = c.before.before.before in
-    stops (at-16 e) (ap (λ (b : Bool). not (b && soundPosition (reached (start5 e)))) (failed (old-answer c.before) c.if5.true))
+    stops (at-16 e) (ap (λ (b : Bool). not (b && sound_position (reached (start5 e)))) (failed (old-answer c.before) c.if5.true))
 
 given-to-requires : tie.Need-given-to-requires
 given-to-requires c κs =
@@ -207,11 +207,11 @@ module _ (c : tie.After-sound-position2) where
   abbrev start6 : tie.Start
   start6 = start5 else5.before.before.before
 
-  new-answer : c.sound-position2.result ≡ soundPosition (reached start6)
-  new-answer = c.sound-position2.ensures ∙ ap soundPosition (rw (new_is start6) at c.before.given_to.ensures)
+  new-answer : c.sound-position2.result ≡ sound_position (reached start6)
+  new-answer = c.sound-position2.ensures ∙ ap sound_position (rw (new_is start6) at c.before.given_to.ensures)
 
   -- The old account's position stays sound: the test is that of the new one's.
-  new-alone : not (soundPosition (left start6) && soundPosition (reached start6)) ≡ not (soundPosition (reached start6))
+  new-alone : not (sound_position (left start6) && sound_position (reached start6)) ≡ not (sound_position (reached start6))
   new-alone = rw (passed (old-answer else5.before) else5.if5.left)
 
 returns-6 : tie.Need-returns-6

@@ -6,17 +6,17 @@ use mir.Val.{to_z, of_z, SFits}
 use mir.Facts.{to_z-of_z}
 use borrow.Author.Rules.{rules, sfits_of}
 use Rattle.rules.specs.Reply.{code_of}
-use Rattle.velichundam.specs.HandedBack.{codeFrom}
+use Rattle.velichundam.specs.HandedBack.{code_from}
 use Rattle.velichundam.proofs.code_of.Statement.{statement}
 use Rattle.velichundam.proofs.code_of.Tie as tie
 
 -- Numbers that are written and read back: two, and three.
-read_back : (kind : ℤ) {first second : ℤ} → SFits w64 first → SFits w64 second → codeFrom kind (to_z w64 (of_z w64 first)) (to_z w64 (of_z w64 second)) (pos 0) ≡ codeFrom kind first second (pos 0)
-read_back kind f s = λ i. codeFrom kind (to_z-of_z f i) (to_z-of_z s i) (pos 0)
+read_back : (kind : ℤ) {first second : ℤ} → SFits w64 first → SFits w64 second → code_from kind (to_z w64 (of_z w64 first)) (to_z w64 (of_z w64 second)) (pos 0) ≡ code_from kind first second (pos 0)
+read_back kind f s = λ i. code_from kind (to_z-of_z f i) (to_z-of_z s i) (pos 0)
 
 read-back-3 : (kind : ℤ) {first second third : ℤ} → SFits w64 first → SFits w64 second → SFits w64 third →
-    codeFrom kind (to_z w64 (of_z w64 first)) (to_z w64 (of_z w64 second)) (to_z w64 (of_z w64 third)) ≡ codeFrom kind first second third
-read-back-3 kind f s t = λ i. codeFrom kind (to_z-of_z f i) (to_z-of_z s i) (to_z-of_z t i)
+    code_from kind (to_z w64 (of_z w64 first)) (to_z w64 (of_z w64 second)) (to_z w64 (of_z w64 third)) ≡ code_from kind first second third
+read-back-3 kind f s t = λ i. code_from kind (to_z-of_z f i) (to_z-of_z s i) (to_z-of_z t i)
 
 enum-known-r : tie.Need-enum-known-r
 enum-known-r c = search rules
@@ -52,7 +52,7 @@ returns : tie.Need-returns
 returns c = read_back _ (sfits_of c.known-told.given.0.1) (sfits_of c.known-told.given.1.0.1) ∙ sym (ap code_of c.before.r.given.1)
 
 returns-2 : tie.Need-returns-2
-returns-2 c = ap (λ z. codeFrom _ z _ _) (to_z-of_z (sfits_of c.known-told2.given.0.1)) ∙ sym (ap code_of c.before.r2.given.1)
+returns-2 c = ap (λ z. code_from _ z _ _) (to_z-of_z (sfits_of c.known-told2.given.0.1)) ∙ sym (ap code_of c.before.r2.given.1)
 
 returns-3 : tie.Need-returns-3
 returns-3 c = read_back _ (sfits_of c.known-told3.given.0.1) (sfits_of c.known-told3.given.1.0.1) ∙ sym (ap code_of c.before.r3.given.1)
@@ -65,20 +65,20 @@ returns-5 c =
     read-back-3 _ (sfits_of c.known-told5.given.0.1) (sfits_of c.known-told5.given.1.0.1) (sfits_of c.known-told5.given.1.1.0.1) ∙ sym (ap code_of c.before.r5.given.1)
 
 returns-6 : tie.Need-returns-6
-returns-6 c = ap (λ z. codeFrom _ z _ _) (to_z-of_z (sfits_of c.known-told6.given.0.1)) ∙ sym (ap code_of c.before.r6.given.1)
+returns-6 c = ap (λ z. code_from _ z _ _) (to_z-of_z (sfits_of c.known-told6.given.0.1)) ∙ sym (ap code_of c.before.r6.given.1)
 
 returns-7 : tie.Need-returns-7
-returns-7 c = ap (λ z. codeFrom _ z _ _) (to_z-of_z (sfits_of c.known-told7.given.0.1)) ∙ sym (ap code_of c.before.r7.given.1)
+returns-7 c = ap (λ z. code_from _ z _ _) (to_z-of_z (sfits_of c.known-told7.given.0.1)) ∙ sym (ap code_of c.before.r7.given.1)
 
 returns-8 : tie.Need-returns-8
-returns-8 c = ap (λ z. codeFrom _ z _ _) (to_z-of_z (sfits_of c.known-told8.given.0.1)) ∙ sym (ap code_of c.before.r8.given.1)
+returns-8 c = ap (λ z. code_from _ z _ _) (to_z-of_z (sfits_of c.known-told8.given.0.1)) ∙ sym (ap code_of c.before.r8.given.1)
 
 returns-9 : tie.Need-returns-9
 returns-9 c =
     read-back-3 _ (sfits_of c.known-told9.given.0.1) (sfits_of c.known-told9.given.1.0.1) (sfits_of c.known-told9.given.1.1.0.1) ∙ sym (ap code_of c.before.r9.given.1)
 
 returns-10 : tie.Need-returns-10
-returns-10 c = ap (λ z. codeFrom _ z _ _) (to_z-of_z (sfits_of c.known-told10.given.0.1)) ∙ sym (ap code_of c.before.r10.given.1)
+returns-10 c = ap (λ z. code_from _ z _ _) (to_z-of_z (sfits_of c.known-told10.given.0.1)) ∙ sym (ap code_of c.before.r10.given.1)
 
 pub code-of-spec : {M : Type 1} → statement M
 code-of-spec =

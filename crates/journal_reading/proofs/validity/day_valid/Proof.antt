@@ -7,19 +7,19 @@ use lib.ListN.{get_or}
 use mir.Facts.{to_z-of_z}
 use mir.Syntax.{w64}
 use mir.Val.{SFits}
-use Rattle.rules.specs.Line.{passesTest3}
-use Rattle.rules.specs.Reader.{hasItsFigures, requestNamed}
+use Rattle.rules.specs.Line.{passes_test3}
+use Rattle.rules.specs.Reader.{has_its_figures, request_named}
 use Rattle.rules.specs.declared.Heading.TheVariants.{Day}
 use Rattle.journal_reading.proofs.ValidLines.{miscounted, counted}
 use Rattle.journal_reading.proofs.validity.day_valid.Statement.{statement}
 use Rattle.journal_reading.proofs.validity.day_valid.Tie as tie
 
 returns : tie.Need-returns
-unfolding hasItsFigures
+unfolding has_its_figures
 returns c = miscounted Day _ (ne_eqb _ 1 c.if1.true)
 
 returns-2 : tie.Need-returns-2
-unfolding hasItsFigures passesTest3 requestNamed
+unfolding has_its_figures passes_test3 request_named
 returns-2 c =
     let r : tie.After-valid-day-arg = c.before in
     let fits : SFits w64 (get_or r.before.before.args.figures.now 0 (pos 0)) = sfits_of r.valid-day-arg.given in

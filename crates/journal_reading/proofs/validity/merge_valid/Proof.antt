@@ -9,16 +9,16 @@ use lib.ListN.{length, get_or, take, drop}
 use mir.Facts.{to_z-of_z}
 use mir.Syntax.{w64}
 use mir.Val.{SFits}
-use Rattle.rules.specs.Line.{passesTest3}
-use Rattle.rules.specs.Merge.{mergeFigures}
-use Rattle.rules.specs.Reader.{hasItsFigures, requestNamed}
+use Rattle.rules.specs.Line.{passes_test3}
+use Rattle.rules.specs.Merge.{merge_figures}
+use Rattle.rules.specs.Reader.{has_its_figures, request_named}
 use Rattle.rules.specs.declared.Heading.TheVariants.{Merge}
 use Rattle.journal_reading.proofs.ValidLines.{miscounted, counted, figures-from}
 use Rattle.journal_reading.proofs.validity.merge_valid.Statement.{statement}
 use Rattle.journal_reading.proofs.validity.merge_valid.Tie as tie
 
 returns : tie.Need-returns
-unfolding hasItsFigures
+unfolding has_its_figures
 returns c = miscounted Merge _ (lt-leb 3 _ c.if1.true)
 
 -- Each figure that was read fits 64 bits.
@@ -39,12 +39,12 @@ module _ (c : tie.After-figures-valid-arg3) where
   two_fits = sfits_of c.figures-valid-arg3.given
 
 returns-2 : tie.Need-returns-2
-unfolding hasItsFigures passesTest3 requestNamed
+unfolding has_its_figures passes_test3 request_named
 returns-2 c =
     let r : tie.After-figures-valid-arg3 = c.before.before in
-    let read : c.figures-valid.result ≡ mergeFigures (figure r 0) (figure r 1) (figure r 2) (take (length (s r).args.figures.now - 3) (drop 3 (s r).args.figures.now)) =
+    let read : c.figures-valid.result ≡ merge_figures (figure r 0) (figure r 1) (figure r 2) (take (length (s r).args.figures.now - 3) (drop 3 (s r).args.figures.now)) =
     simp (to_z-of_z (zero-fits r), to_z-of_z (one-fits r), to_z-of_z (two_fits r)) at c.figures-valid.ensures in
-    read ∙ ap (λ (rest : List ℤ). mergeFigures (figure r 0) (figure r 1) (figure r 2) rest) (figures-from 3 (s r).args.figures.now)
+    read ∙ ap (λ (rest : List ℤ). merge_figures (figure r 0) (figure r 1) (figure r 2) rest) (figures-from 3 (s r).args.figures.now)
     ∙ counted Merge _ (le-leb 3 _ c.before.before.before.before.before.if1.false)
 
 pub merge-valid-spec : {M : Type 1} → statement M

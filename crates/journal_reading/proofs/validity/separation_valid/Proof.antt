@@ -9,16 +9,16 @@ use lib.ListN.{length, get_or, take, drop}
 use mir.Facts.{to_z-of_z}
 use mir.Syntax.{w64}
 use mir.Val.{SFits}
-use Rattle.rules.specs.Line.{passesTest3}
-use Rattle.rules.specs.Separation.{separationFigures}
-use Rattle.rules.specs.Reader.{hasItsFigures, requestNamed}
+use Rattle.rules.specs.Line.{passes_test3}
+use Rattle.rules.specs.Separation.{separation_figures}
+use Rattle.rules.specs.Reader.{has_its_figures, request_named}
 use Rattle.rules.specs.declared.Heading.TheVariants.{Separation}
 use Rattle.journal_reading.proofs.ValidLines.{miscounted, counted, figures-from}
 use Rattle.journal_reading.proofs.validity.separation_valid.Statement.{statement}
 use Rattle.journal_reading.proofs.validity.separation_valid.Tie as tie
 
 returns : tie.Need-returns
-unfolding hasItsFigures
+unfolding has_its_figures
 returns c = miscounted Separation _ (lt-leb 4 _ c.if1.true)
 
 -- Each figure that was read fits 64 bits.
@@ -42,12 +42,12 @@ module _ (c : tie.After-figures-valid-arg4) where
   three-fits = sfits_of c.figures-valid-arg4.given
 
 returns-2 : tie.Need-returns-2
-unfolding hasItsFigures passesTest3 requestNamed
+unfolding has_its_figures passes_test3 request_named
 returns-2 c =
     let r : tie.After-figures-valid-arg4 = c.before.before in
-    let read : c.figures-valid.result ≡ separationFigures (figure r 0) (figure r 1) (figure r 2) (figure r 3) (take (length (s r).args.figures.now - 4) (drop 4 (s r).args.figures.now)) =
+    let read : c.figures-valid.result ≡ separation_figures (figure r 0) (figure r 1) (figure r 2) (figure r 3) (take (length (s r).args.figures.now - 4) (drop 4 (s r).args.figures.now)) =
     simp (to_z-of_z (zero-fits r), to_z-of_z (one-fits r), to_z-of_z (two_fits r), to_z-of_z (three-fits r)) at c.figures-valid.ensures in
-    read ∙ ap (λ (rest : List ℤ). separationFigures (figure r 0) (figure r 1) (figure r 2) (figure r 3) rest) (figures-from 4 (s r).args.figures.now)
+    read ∙ ap (λ (rest : List ℤ). separation_figures (figure r 0) (figure r 1) (figure r 2) (figure r 3) rest) (figures-from 4 (s r).args.figures.now)
     ∙ counted Separation _ (le-leb 4 _ c.before.before.before.before.before.before.if1.false)
 
 pub separation-valid-spec : {M : Type 1} → statement M

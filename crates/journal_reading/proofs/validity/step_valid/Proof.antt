@@ -8,8 +8,8 @@ use lib.ListN.{get_or}
 use mir.Facts.{to_z-of_z}
 use mir.Syntax.{w64}
 use mir.Val.{SFits}
-use Rattle.rules.specs.Line.{passesTest3}
-use Rattle.rules.specs.Reader.{hasItsFigures, requestNamed}
+use Rattle.rules.specs.Line.{passes_test3}
+use Rattle.rules.specs.Reader.{has_its_figures, request_named}
 use Rattle.rules.specs.declared.Step.TheVariants.{Open}
 use Rattle.rules.specs.declared.Heading.TheVariants.{GiveUp}
 use Rattle.journal_reading.proofs.ValidLines.{miscounted, counted}
@@ -17,7 +17,7 @@ use Rattle.journal_reading.proofs.validity.step_valid.Statement.{statement}
 use Rattle.journal_reading.proofs.validity.step_valid.Tie as tie
 
 returns : tie.Need-returns
-unfolding hasItsFigures
+unfolding has_its_figures
 returns c = miscounted (GiveUp Open) _ (ne_eqb _ 6 c.if1.true)
 
 -- Each figure that was read fits 64 bits.
@@ -47,7 +47,7 @@ module _ (c : tie.After-series) where
   five-fits = sfits_of c.series.given
 
 returns-2 : tie.Need-returns-2
-unfolding hasItsFigures passesTest3 requestNamed
+unfolding has_its_figures passes_test3 request_named
 returns-2 c =
     let r : tie.After-series = c.before in
     simp (to_z-of_z (zero-fits r), to_z-of_z (one-fits r), to_z-of_z (two_fits r), to_z-of_z (three-fits r), to_z-of_z (four-fits r), to_z-of_z (five-fits r)) at c.figures-valid.ensures

@@ -8,15 +8,15 @@ use lib.ListN.{get_or}
 use mir.Facts.{to_z-of_z}
 use mir.Syntax.{w64}
 use mir.Val.{SFits}
-use Rattle.rules.specs.Line.{passesTest3}
-use Rattle.rules.specs.Reader.{hasItsFigures, requestNamed}
+use Rattle.rules.specs.Line.{passes_test3}
+use Rattle.rules.specs.Reader.{has_its_figures, request_named}
 use Rattle.rules.specs.declared.Heading.TheVariants.{Transfer}
 use Rattle.journal_reading.proofs.ValidLines.{miscounted, counted}
 use Rattle.journal_reading.proofs.validity.transfer_valid.Statement.{statement}
 use Rattle.journal_reading.proofs.validity.transfer_valid.Tie as tie
 
 returns : tie.Need-returns
-unfolding hasItsFigures
+unfolding has_its_figures
 returns c = miscounted Transfer _ (ne_eqb _ 5 c.if1.true)
 
 -- Each figure that was read fits 64 bits.
@@ -43,7 +43,7 @@ module _ (c : tie.After-figures-valid-arg5) where
   four-fits = sfits_of c.figures-valid-arg5.given
 
 returns-2 : tie.Need-returns-2
-unfolding hasItsFigures passesTest3 requestNamed
+unfolding has_its_figures passes_test3 request_named
 returns-2 c =
     let r : tie.After-figures-valid-arg5 = c.before in
     simp (to_z-of_z (zero-fits r), to_z-of_z (one-fits r), to_z-of_z (two_fits r), to_z-of_z (three-fits r), to_z-of_z (four-fits r)) at c.figures-valid.ensures

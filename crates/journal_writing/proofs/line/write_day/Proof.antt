@@ -4,21 +4,21 @@ use mathlib.Core.Bool.{true}
 use borrow.Author.Rules.{rules}
 use borrow.Author.Tests.{not-true, not-false}
 use mir.Facts.{to_z-of_z}
-use Rattle.rules.specs.Request.{Request, newDay}
-use Rattle.rules.specs.Line.{line_of, passesTest3}
-use Rattle.rules.specs.Writing.{textLeft, writing}
+use Rattle.rules.specs.Request.{Request, new_day}
+use Rattle.rules.specs.Line.{line_of, passes_test3}
+use Rattle.rules.specs.Writing.{text_left, writing}
 use Rattle.journal_writing.proofs.WritingAnswers.{request-refused, request-passes}
 use Rattle.journal_writing.proofs.line.write_day.Statement.{statement}
 use Rattle.journal_writing.proofs.line.write_day.Tie as tie
 
 abbrev named : tie.Start → Request
-named s = newDay s.args.day
+named s = new_day s.args.day
 
-tested : (c : tie.After-valid-day) → c.valid-day.result ≡ passesTest3 (named c.before.before)
-unfolding passesTest3
+tested : (c : tie.After-valid-day) → c.valid-day.result ≡ passes_test3 (named c.before.before)
+unfolding passes_test3
 tested c = simp (to_z-of_z c.before.before.ranges.day) at c.valid-day.ensures
 
-line-written : (c : tie.After-write-figures) → textLeft c.write-figures.result c.write-figures.new.0 ≡ writing true (line_of (named c.before.before.before.before.before.before)) c.before.before.before.before.before.before.args.text.now
+line-written : (c : tie.After-write-figures) → text_left c.write-figures.result c.write-figures.new.0 ≡ writing true (line_of (named c.before.before.before.before.before.before)) c.before.before.before.before.before.before.args.text.now
 unfolding line_of
 line-written c =
     let s : tie.Start = c.before.before.before.before.before.before in

@@ -4,7 +4,7 @@ use mathlib.Core.Bool.{true}
 use mathlib.Core.List.{List, append-nil}
 use borrow.Author.Rules.{rules}
 use lib.IntN.{ℤ}
-use Rattle.rules.specs.Line.{lineText}
+use Rattle.rules.specs.Line.{line_text}
 use Rattle.rules.specs.Writing.{writing}
 use Rattle.journal_writing.proofs.line.write_figures.Statement.{statement}
 use Rattle.journal_writing.proofs.line.write_figures.Tie as tie
@@ -13,7 +13,7 @@ returns : tie.Need-returns
 returns c =
     let w : tie.After-write-valid = c.before.before in
     let s : tie.Start = w.before.before.before.before in
-    w.write-valid.ensures ∙ ap (λ (figures : List ℤ). writing true (lineText s.args.heading figures) s.args.text.now) (append-nil s.args.figures.now)
+    w.write-valid.ensures ∙ ap (λ (figures : List ℤ). writing true (line_text s.args.heading figures) s.args.text.now) (append-nil s.args.figures.now)
 
 pub write-figures-spec : {M : Type 1} → statement M
 write-figures-spec = tie.close (tie.spec (λ c. search rules) (λ c κs. search rules) (λ c. search rules) returns)

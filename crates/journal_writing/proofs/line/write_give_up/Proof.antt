@@ -7,9 +7,9 @@ use lib.IntN.{ℤ}
 use mir.Facts.{to_z-of_z, sfits_lit}
 use mir.Syntax.{w64}
 use mir.Val.{of_z, to_z}
-use Rattle.integers.proofs.Bits.{ofZ-inj}
-use Rattle.rules.specs.Line.{stepLetter}
-use Rattle.rules.specs.Writing.{TextLeft, writeRequest}
+use Rattle.integers.proofs.Bits.{of_z-inj}
+use Rattle.rules.specs.Line.{step_letter}
+use Rattle.rules.specs.Writing.{TextLeft, write_request}
 use Rattle.rules.specs.declared.Step.{Step}
 use Rattle.rules.specs.declared.Step.TheVariants.{Open, Claim, Cancel, Refuse, ApproveGiver, ApproveTaker}
 use Rattle.give_up_steps.specs.Terms.{step_of}
@@ -33,10 +33,10 @@ module _ (s : tie.Start) where
   read-terms = simp (to_z-of_z s.fits.process, to_z-of_z s.fits.id, to_z-of_z s.fits.suffix, to_z-of_z s.fits.giving, to_z-of_z s.fits.taking, to_z-of_z s.fits.series)
 
   -- The number is a step's letter, and that step's line was asked for.
-  named : (step : Step) (left : TextLeft) → T (ltb (stepLetter step) (2 ^ 63)) → of_z w64 s.args.step ≡ stepLetter step → left ≡ writeRequest (step_of step read) s.args.text.now
+  named : (step : Step) (left : TextLeft) → T (ltb (step_letter step) (2 ^ 63)) → of_z w64 s.args.step ≡ step_letter step → left ≡ write_request (step_of step read) s.args.text.now
       → left ≡ answer s.args.step terms s.args.text.now
   named step left small is w =
-      w ∙ ap (λ (g : Terms). writeRequest (step_of step g) s.args.text.now) read-terms ∙ step-of-letter s.args.step terms s.args.text.now step (ofZ-inj s.fits.step (sfits_lit small) is)
+      w ∙ ap (λ (g : Terms). write_request (step_of step g) s.args.text.now) read-terms ∙ step-of-letter s.args.step terms s.args.text.now step (of_z-inj s.fits.step (sfits_lit small) is)
 
 returns : tie.Need-returns
 returns c =

@@ -6,8 +6,8 @@ use borrow.Author.Rules.{rules}
 use borrow.Author.Tests.{not-true, not-false}
 use mir.Facts.{to_z-of_z}
 use Rattle.rules.specs.Request.{Request, merge}
-use Rattle.rules.specs.Line.{line_of, passesTest3}
-use Rattle.rules.specs.Writing.{textLeft, writing}
+use Rattle.rules.specs.Line.{line_of, passes_test3}
+use Rattle.rules.specs.Writing.{text_left, writing}
 use Rattle.journal_writing.proofs.ShortLists.{pairs-few}
 use Rattle.journal_writing.proofs.WritingAnswers.{request-refused, request-passes}
 use Rattle.journal_writing.proofs.line.write_merge.Statement.{statement}
@@ -16,19 +16,19 @@ use Rattle.journal_writing.proofs.line.write_merge.Tie as tie
 abbrev named : tie.Start → Request
 named s = merge s.args.id s.args.account s.args.series s.args.pairs.now
 
-tested : (c : tie.After-figures-valid) → c.figures-valid.result ≡ passesTest3 (named c.before.before)
-unfolding passesTest3
+tested : (c : tie.After-figures-valid) → c.figures-valid.result ≡ passes_test3 (named c.before.before)
+unfolding passes_test3
 tested c =
     let s : tie.Start = c.before.before in
     simp (to_z-of_z s.ranges.id, to_z-of_z s.ranges.account, to_z-of_z s.ranges.series) at c.figures-valid.ensures
 
-line-written : (c : tie.After-write-valid) → textLeft c.write-valid.result c.write-valid.new.0 ≡ writing true (line_of (named c.before.before.before.before.before.before)) c.before.before.before.before.before.before.args.text.now
+line-written : (c : tie.After-write-valid) → text_left c.write-valid.result c.write-valid.new.0 ≡ writing true (line_of (named c.before.before.before.before.before.before)) c.before.before.before.before.before.before.args.text.now
 unfolding line_of
 line-written c =
     let s : tie.Start = c.before.before.before.before.before.before in
     simp (to_z-of_z s.ranges.id, to_z-of_z s.ranges.account, to_z-of_z s.ranges.series) at c.write-valid.ensures
 
-passed : (e : tie.Else1) → passesTest3 (named e.before.before.before) ≡ true
+passed : (e : tie.Else1) → passes_test3 (named e.before.before.before) ≡ true
 passed e = sym (tested e.before) ∙ not-false e.before.figures-valid.result e.if1.false
 
 returns : tie.Need-returns

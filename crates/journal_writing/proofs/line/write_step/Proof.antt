@@ -5,8 +5,8 @@ use borrow.Author.Rules.{rules}
 use borrow.Author.Tests.{not-true, not-false}
 use Rattle.scan.proofs.ReadBack.{read_back}
 use Rattle.rules.specs.Request.{Request}
-use Rattle.rules.specs.Line.{line_of, passesTest3}
-use Rattle.rules.specs.Writing.{textLeft, writing}
+use Rattle.rules.specs.Line.{line_of, passes_test3}
+use Rattle.rules.specs.Writing.{text_left, writing}
 use Rattle.give_up_steps.specs.Terms.{step_of}
 use Rattle.journal_writing.proofs.WritingAnswers.{request-refused, request-passes}
 use Rattle.journal_writing.proofs.line.write_step.Statement.{statement}
@@ -15,8 +15,8 @@ use Rattle.journal_writing.proofs.line.write_step.Tie as tie
 abbrev named : tie.Start → Request
 named s = step_of s.args.step s.args.g
 
-tested : (c : tie.After-figures-valid) → c.figures-valid.result ≡ passesTest3 (named c.before.before)
-unfolding passesTest3
+tested : (c : tie.After-figures-valid) → c.figures-valid.result ≡ passes_test3 (named c.before.before)
+unfolding passes_test3
 tested c = c.figures-valid.ensures
 
 abbrev told : tie.After-write-figures → tie.After-struct-told
@@ -25,7 +25,7 @@ told c = c.before.before.before
 abbrev start : tie.After-write-figures → tie.Start
 start c = (told c).before.before.before.before
 
-line-written : (c : tie.After-write-figures) → textLeft c.write-figures.result c.write-figures.new.0 ≡ writing true (line_of (named (start c))) (start c).args.text.now
+line-written : (c : tie.After-write-figures) → text_left c.write-figures.result c.write-figures.new.0 ≡ writing true (line_of (named (start c))) (start c).args.text.now
 unfolding line_of
 line-written c =
     let s : tie.Start = start c in

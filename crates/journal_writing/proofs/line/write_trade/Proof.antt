@@ -5,8 +5,8 @@ use borrow.Author.Rules.{rules}
 use borrow.Author.Tests.{not-true, not-false}
 use mir.Facts.{to_z-of_z}
 use Rattle.rules.specs.Request.{Request, trade}
-use Rattle.rules.specs.Line.{line_of, passesTest3}
-use Rattle.rules.specs.Writing.{textLeft, writing}
+use Rattle.rules.specs.Line.{line_of, passes_test3}
+use Rattle.rules.specs.Writing.{text_left, writing}
 use Rattle.journal_writing.proofs.WritingAnswers.{request-refused, request-passes}
 use Rattle.journal_writing.proofs.line.write_trade.Statement.{statement}
 use Rattle.journal_writing.proofs.line.write_trade.Tie as tie
@@ -14,13 +14,13 @@ use Rattle.journal_writing.proofs.line.write_trade.Tie as tie
 abbrev named : tie.Start → Request
 named s = trade s.args.id s.args.account s.args.series s.args.side s.args.quantity s.args.price
 
-tested : (c : tie.After-figures-valid) → c.figures-valid.result ≡ passesTest3 (named c.before.before)
-unfolding passesTest3
+tested : (c : tie.After-figures-valid) → c.figures-valid.result ≡ passes_test3 (named c.before.before)
+unfolding passes_test3
 tested c =
     let s : tie.Start = c.before.before in
     simp (to_z-of_z s.ranges.id, to_z-of_z s.ranges.account, to_z-of_z s.ranges.series, to_z-of_z s.ranges.side, to_z-of_z s.ranges.quantity, to_z-of_z s.ranges.price) at c.figures-valid.ensures
 
-line-written : (c : tie.After-write-figures) → textLeft c.write-figures.result c.write-figures.new.0 ≡ writing true (line_of (named c.before.before.before.before.before.before)) c.before.before.before.before.before.before.args.text.now
+line-written : (c : tie.After-write-figures) → text_left c.write-figures.result c.write-figures.new.0 ≡ writing true (line_of (named c.before.before.before.before.before.before)) c.before.before.before.before.before.before.args.text.now
 unfolding line_of
 line-written c =
     let s : tie.Start = c.before.before.before.before.before.before in

@@ -5,8 +5,8 @@ use borrow.Author.Rules.{rules}
 use borrow.Author.Tests.{not-true, not-false}
 use mir.Facts.{to_z-of_z}
 use Rattle.rules.specs.Request.{Request, transfer}
-use Rattle.rules.specs.Line.{line_of, passesTest3}
-use Rattle.rules.specs.Writing.{textLeft, writing}
+use Rattle.rules.specs.Line.{line_of, passes_test3}
+use Rattle.rules.specs.Writing.{text_left, writing}
 use Rattle.journal_writing.proofs.WritingAnswers.{request-refused, request-passes}
 use Rattle.journal_writing.proofs.line.write_transfer.Statement.{statement}
 use Rattle.journal_writing.proofs.line.write_transfer.Tie as tie
@@ -14,13 +14,13 @@ use Rattle.journal_writing.proofs.line.write_transfer.Tie as tie
 abbrev named : tie.Start → Request
 named s = transfer s.args.id s.args.suffix s.args.from s.args.to s.args.series
 
-tested : (c : tie.After-figures-valid) → c.figures-valid.result ≡ passesTest3 (named c.before.before)
-unfolding passesTest3
+tested : (c : tie.After-figures-valid) → c.figures-valid.result ≡ passes_test3 (named c.before.before)
+unfolding passes_test3
 tested c =
     let s : tie.Start = c.before.before in
     simp (to_z-of_z s.ranges.id, to_z-of_z s.ranges.suffix, to_z-of_z s.ranges.from, to_z-of_z s.ranges.to, to_z-of_z s.ranges.series) at c.figures-valid.ensures
 
-line-written : (c : tie.After-write-figures) → textLeft c.write-figures.result c.write-figures.new.0 ≡ writing true (line_of (named c.before.before.before.before.before.before)) c.before.before.before.before.before.before.args.text.now
+line-written : (c : tie.After-write-figures) → text_left c.write-figures.result c.write-figures.new.0 ≡ writing true (line_of (named c.before.before.before.before.before.before)) c.before.before.before.before.before.before.args.text.now
 unfolding line_of
 line-written c =
     let s : tie.Start = c.before.before.before.before.before.before in

@@ -8,15 +8,15 @@ use lib.IntN.{ℤ}
 use lib.ListN.{length}
 use mir.Facts.{to_z_pos}
 use mir.Syntax.{w64}
-use Rattle.rules.specs.Line.{lineText}
-use Rattle.rules.specs.Writing.{textLeft}
+use Rattle.rules.specs.Line.{line_text}
+use Rattle.rules.specs.Writing.{text_left}
 use Rattle.rules.specs.declared.Reply.TheVariants.{Written}
 use Rattle.journal_writing.proofs.WritingAnswers.{refused-14, written-at-front}
 use Rattle.journal_writing.proofs.line.write_valid.Statement.{statement}
 use Rattle.journal_writing.proofs.line.write_valid.Tie as tie
 
 abbrev line : tie.Start → List ℕ
-line s = lineText s.args.heading (s.args.figures.now ++ s.args.more.now)
+line s = line_text s.args.heading (s.args.figures.now ++ s.args.more.now)
 
 returns : tie.Need-returns
 returns c =
@@ -30,7 +30,7 @@ returns-2 c =
     let s : tie.Start = e.before.before.before in
     let room : length (line s) ≤ length s.args.text.now = omega (arith, e.if1.false, e.before.line-width.ensures.0) in
     let small : w.write-line.result < 2 ^ 63 = omega (arith, w.write-line.ensures.0, e.before.line-width.ensures, s.requires) in
-    ap (λ (bytes : ℤ). textLeft (Written bytes) w.write-line.new.0) (to_z_pos w64 small)
+    ap (λ (bytes : ℤ). text_left (Written bytes) w.write-line.new.0) (to_z_pos w64 small)
     ∙ written-at-front (line s) s.args.text.now _ _ room w.write-line.ensures
 
 pub write-valid-spec : {M : Type 1} → statement M

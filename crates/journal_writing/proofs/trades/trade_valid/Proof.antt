@@ -6,7 +6,7 @@ use Prim.Native.Nat.{ℕ, ◌+◌}
 use mir.Facts.{to_z-of_z}
 use mir.Syntax.{w64}
 use mir.Val.{SFits}
-use Rattle.rules.specs.Line.{passesTest3}
+use Rattle.rules.specs.Line.{passes_test3}
 use Rattle.journal_writing.proofs.trades.trade_valid.Statement.{statement}
 use Rattle.journal_writing.proofs.trades.trade_valid.Tie as tie
 
@@ -36,7 +36,7 @@ module _ (c : tie.After-price) where
   price-fits = sfits_of c.price.given
 
 returns : tie.Need-returns
-unfolding passesTest3
+unfolding passes_test3
 returns c =
     let p : tie.After-price = c.before in
     simp (to_z-of_z (id-fits p), to_z-of_z (account-fits p), to_z-of_z (series-fits p), to_z-of_z (side-fits p), to_z-of_z (quantity-fits p), to_z-of_z (price-fits p)) at c.figures-valid.ensures

@@ -6,19 +6,19 @@ use mathlib.Core.List.{List, flat_map}
 use borrow.Author.Rules.{rules}
 use lib.IntN.{ℤ}
 use lib.ListN.{length, length-append}
-use Rattle.rules.specs.Batch.{tradeCount, tradesOf}
-use Rattle.rules.specs.Line.{lineText}
+use Rattle.rules.specs.Batch.{trade_count, trades_of}
+use Rattle.rules.specs.Line.{line_text}
 use Rattle.rules.specs.declared.Heading.TheVariants.{Trade}
-use Rattle.journal_writing.proofs.TradesLeft.{tradesFrom, lines_of, cells_of, all_left, none_left, next-line, six-cells}
+use Rattle.journal_writing.proofs.TradesLeft.{trades_from, lines_of, cells_of, all_left, none_left, next-line, six-cells}
 use Rattle.journal_writing.proofs.trades.trades_width.Statement.{statement}
 use Rattle.journal_writing.proofs.trades.trades_width.Tie as tie
 
 abbrev invariant-loop : tie.invariant-loop
 invariant-loop trades count width₀ i₀ width i =
-    (i ≤ tradeCount trades) × (width + length (lines_of (tradesFrom trades i)) ≡ length (lines_of (tradesOf trades))) × (width ≤ 136 * i)
+    (i ≤ trade_count trades) × (width + length (lines_of (trades_from trades i)) ≡ length (lines_of (trades_of trades))) × (width ≤ 136 * i)
 
 abbrev decreases-loop : tie.decreases-loop
-decreases-loop trades count width₀ i₀ width i = tradeCount trades - i
+decreases-loop trades count width₀ i₀ width i = trade_count trades - i
 
 loop-holds : tie.Need-loop-init invariant-loop decreases-loop
 loop-holds c =
@@ -36,10 +36,10 @@ module _ (c : tie.After-line-width invariant-loop decreases-loop) where
   i = turn.before.loop.i
 
   abbrev rest : List ℕ
-  rest = lines_of (tradesFrom trades (i + 1))
+  rest = lines_of (trades_from trades (i + 1))
 
-  split : length (lines_of (tradesFrom trades i)) ≡ length (lineText Trade (cells_of trades i)) + length rest
-  split = rw (next-line trades i turn.loop-test.taken) (length-append (lineText Trade (cells_of trades i)) rest)
+  split : length (lines_of (trades_from trades i)) ≡ length (line_text Trade (cells_of trades i)) + length rest
+  split = rw (next-line trades i turn.loop-test.taken) (length-append (line_text Trade (cells_of trades i)) rest)
 
   narrow : c.line-width.result ≤ 136
   narrow = omega (arith, c.line-width.ensures.1, six-cells trades i turn.loop-test.taken)

@@ -2,7 +2,7 @@
 use Prim.Native.Nat.{◌-◌}
 use native.Mathlib.Omega.{arith}
 use borrow.Author.Rules.{rules}
-use Rattle.rules.specs.Batch.{tradeCount}
+use Rattle.rules.specs.Batch.{trade_count}
 use Rattle.journal_writing.proofs.LinesLeft.{LinesLeft, none_written, line-fits, one_written, all-written}
 use Rattle.journal_writing.proofs.trades.write_each.Statement.{statement}
 use Rattle.journal_writing.proofs.trades.write_each.Tie as tie
@@ -11,7 +11,7 @@ abbrev invariant-loop : tie.invariant-loop
 invariant-loop text₀ trades count next₀ i₀ text next i = LinesLeft trades text₀ text next i
 
 abbrev decreases-loop : tie.decreases-loop
-decreases-loop text₀ trades count next₀ i₀ text next i = tradeCount trades - i
+decreases-loop text₀ trades count next₀ i₀ text next i = trade_count trades - i
 
 loop-holds : tie.Need-loop-init invariant-loop decreases-loop
 loop-holds c = none_written c.before.args.trades.now c.before.args.text.now

@@ -11,10 +11,10 @@ use lib.ListN.{length}
 use mir.Facts.{to_z_pos}
 use mir.Syntax.{w64}
 use Rattle.batch.proofs.BookedSoFar.{trades-fit}
-use Rattle.rules.specs.Batch.{tradeCount, tradesOf, batchFigures}
-use Rattle.rules.specs.Writing.{textLeft}
+use Rattle.rules.specs.Batch.{trade_count, trades_of, batch_figures}
+use Rattle.rules.specs.Writing.{text_left}
 use Rattle.rules.specs.declared.Reply.TheVariants.{Written}
-use Rattle.journal_writing.proofs.TradesLeft.{allPass, lines_of}
+use Rattle.journal_writing.proofs.TradesLeft.{all_pass, lines_of}
 use Rattle.journal_writing.proofs.WritingAnswers.{refused-14, written-at-front, list-refused, trade-refused, trades-pass}
 use Rattle.journal_writing.proofs.trades.write_trades.Statement.{statement}
 use Rattle.journal_writing.proofs.trades.write_trades.Tie as tie
@@ -26,17 +26,17 @@ abbrev text : tie.Start → List ℕ
 text s = s.args.text.now
 
 abbrev lines : tie.Start → List ℕ
-lines s = lines_of (tradesOf (list s))
+lines s = lines_of (trades_of (list s))
 
 -- ---- past the tests
 
-listed : (c : tie.Else1) → batchFigures (list c.before.before.before) (tradeCount (list c.before.before.before)) ≡ true
+listed : (c : tie.Else1) → batch_figures (list c.before.before.before) (trade_count (list c.before.before.before)) ≡ true
 listed c = sym c.before.figures-valid.ensures ∙ not-false c.before.figures-valid.result c.if1.false
 
-few : (c : tie.Else1) → tradeCount (list c.before.before.before) ≤ 1000
-few c = (trades-fit (list c.before.before.before) (tradeCount (list c.before.before.before)) (listed c)).0
+few : (c : tie.Else1) → trade_count (list c.before.before.before) ≤ 1000
+few c = (trades-fit (list c.before.before.before) (trade_count (list c.before.before.before)) (listed c)).0
 
-each : (c : tie.Else2) → allPass (tradesOf (list c.before.before.before.before.before)) ≡ true
+each : (c : tie.Else2) → all_pass (trades_of (list c.before.before.before.before.before)) ≡ true
 each c = sym c.before.each-valid.ensures ∙ not-false c.before.each-valid.result c.if2.false
 
 -- ---- the answers
@@ -75,7 +75,7 @@ returns-4 c =
     let s : tie.Start = e.before.before.before.before.before in
     let width : length (lines s) ≤ 136000 = omega (arith, k.before.trades-width.ensures, few e.before.before) in
     let small : w.write-each.result < 2 ^ 63 = omega (arith, w.write-each.ensures.0) in
-    ap (λ (bytes : ℤ). textLeft (Written bytes) w.write-each.new.0) (to_z_pos w64 small)
+    ap (λ (bytes : ℤ). text_left (Written bytes) w.write-each.new.0) (to_z_pos w64 small)
     ∙ written-at-front (lines s) (text s) _ _ (room k) (omega (arith, w.write-each.ensures.0), w.write-each.ensures.1)
     ∙ trades-pass (list s) (text s) (listed e.before.before) (each e)
 

@@ -5,7 +5,7 @@ use native.Mathlib.Omega.{arith}
 use mathlib.Core.List.{List}
 use lib.IntN.{ℤ}
 use lib.ListN.{length, get_or}
-use Rattle.rules.specs.Rows.{adjustedRecord}
+use Rattle.rules.specs.Rows.{adjusted_record}
 use Rattle.merge_sources.proofs.AdjustingCells.{AdjustedSoFar, adjusted-start, adjusted-end, adjust-ready, adjust-next}
 use Rattle.merge_sources.proofs.SourceRows.{RowOfPair, row_kept}
 use Rattle.merge.proofs.booking.adjust_sources.Statement.{statement}
@@ -48,14 +48,14 @@ cast-row : tie.Need-overflow-cast-row invariant-loop decreases-loop
 cast-row c = omega (arith, c.shared-slice-known2.given c.before.before.loop.i)
 
 set-status-requires : tie.Need-set-status-requires invariant-loop decreases-loop
-unfolding adjustedRecord
+unfolding adjusted_record
 set-status-requires c κs =
     let k : tie.In-loop invariant-loop decreases-loop = c.before.before in
     let p = (s k).requires in
     adjust-ready (cells k) (list k) p.1 p.2 p.3 (a k).loop.records (a k).loop.i (a k).loop.invariant k.loop-test.true (row k) (kept k).1
 
 loop-again : tie.Need-loop-preserved invariant-loop decreases-loop
-unfolding adjustedRecord
+unfolding adjusted_record
 loop-again c =
     let d : tie.After-set-status invariant-loop decreases-loop = c.before in
     let k : tie.In-loop invariant-loop decreases-loop = d.before.before.before in

@@ -12,46 +12,46 @@ use lib.ListN.{length}
 use mir.Facts.{to_z-of_z, to_z_pos}
 use mir.Syntax.{w64}
 use mir.Val.{SFits, to_z, of_z}
-use Rattle.integers.specs.Average.{averageOf, residualOf}
+use Rattle.integers.specs.Average.{average_of, residual_of}
 use Rattle.integers.specs.Averageable.{Averageable}
-use Rattle.rules.specs.Figures.{magnitudeAtMost, isBuy, mergeKind}
-use Rattle.rules.specs.Keyed.{Key, find, upsert, upsertAll, absentFrom}
-use Rattle.rules.specs.Rows.{recordKey, positionKey, soundRecord, soundPosition, newRecord, byResidual, moved}
+use Rattle.rules.specs.Figures.{magnitude_at_most, is_buy, merge_kind}
+use Rattle.rules.specs.Keyed.{Key, find, upsert, upsert_all, absent_from}
+use Rattle.rules.specs.Rows.{record_key, position_key, sound_record, sound_position, new_record, by_residual, moved}
 use Rattle.rules.specs.Refusal.{any_of, all_of}
-use Rattle.rules.specs.Layout.{roomOf, rows_of, write}
-use Rattle.rules.specs.Tables.{currentDay, soundRecordRows, recordsLayout, positionsLayout, soundPositions}
-use Rattle.rules.specs.Merge.{pairsOf, first_of, sumOfQuantities, sumOfValues, mergeResidual, mergedRecord, mergeInverses}
+use Rattle.rules.specs.Layout.{room_of, rows_of, write}
+use Rattle.rules.specs.Tables.{current_day, sound_record_rows, records_layout, positions_layout, sound_positions}
+use Rattle.rules.specs.Merge.{pairs_of, first_of, sum_of_quantities, sum_of_values, merge_residual, merged_record, merge_inverses}
 use Rattle.rules.specs.Handle.{answered}
 use Rattle.rules.specs.declared.Record.{Record}
 use Rattle.rules.specs.declared.Position.{Position}
 use Rattle.rules.specs.declared.Reply.TheVariants.{Booked}
-use Rattle.lookup.specs.Lookup.{foundIn}
+use Rattle.lookup.specs.Lookup.{found_in}
 use Rattle.lookup.specs.declared.Found.{Found}
 use Rattle.cells.proofs.SoundCells.{record-rows-sound}
 use Rattle.scan.proofs.ReadBack.{read_back}
 use Rattle.soundness.proofs.ReadPosition.{read-key}
 use Rattle.verdict.proofs.Moves.{merge-moves}
 use Rattle.verdict.proofs.Ready.{InsertReady}
-use Rattle.verdict.proofs.Room.{positionRead}
+use Rattle.verdict.proofs.Room.{position_read}
 use Rattle.verdict.proofs.SoundReads.{position-read-sound}
-use Rattle.merge_sources.specs.Sources.{sourcesIn, sourceRecords, allFound}
-use Rattle.merge_sources.specs.Pairs.{repeatsFrom}
+use Rattle.merge_sources.specs.Sources.{sources_in, source_records, all_found}
+use Rattle.merge_sources.specs.Pairs.{repeats_from}
 use Rattle.merge_sources.proofs.SourceList.{record-found, first-at}
 use Rattle.merge_sources.proofs.Earlier.{sources-stood-earlier}
 use Rattle.merge_sources.proofs.SourceSums.{sources-averageable}
 use Rattle.merge_sources.proofs.SumRanges.{residual-small}
-use Rattle.merge_sources.proofs.MergeVerdict.{mergePosition}
+use Rattle.merge_sources.proofs.MergeVerdict.{merge_position}
 use Rattle.merge_sources.proofs.MergeFacts.{MergeFacts, figures-count, merge-accepted-facts}
-use Rattle.merge_sources.proofs.MergeBooking.{sourcesAdjusted, inversesInserted, recordsMerged, all_found, found-adjusted, inverses-sound, inverses-room, merged-absent, merged-sound, merged-room, merge-booked}
+use Rattle.merge_sources.proofs.MergeBooking.{sources_adjusted, inverses_inserted, records_merged, all-found, found-adjusted, inverses-sound, inverses-room, merged-absent, merged-sound, merged-room, merge-booked}
 use Rattle.merge.proofs.booking.book.Statement.{statement}
 use Rattle.merge.proofs.booking.book.Tie as tie
 
 -- What `write_position` asks.
 abbrev WriteReady : List ℤ → Found → Position → Type 0
 WriteReady cells found p =
-    (soundPositions cells ≡ true) × (soundPosition p ≡ true)
-    × (length (rows_of positionsLayout cells) + absentFrom positionKey (rows_of positionsLayout cells) (p ∷ []) ≤ roomOf positionsLayout cells)
-    × (found ≡ foundIn positionsLayout (positionKey p) cells)
+    (sound_positions cells ≡ true) × (sound_position p ≡ true)
+    × (length (rows_of positions_layout cells) + absent_from position_key (rows_of positions_layout cells) (p ∷ []) ≤ room_of positions_layout cells)
+    × (found ≡ found_in positions_layout (position_key p) cells)
 
 module _ (s : tie.Start) where
   abbrev rs : List ℤ
@@ -73,37 +73,37 @@ module _ (s : tie.Start) where
   list = s.args.pairs.now
 
   abbrev sources : List Record
-  sources = sourceRecords rs list
+  sources = source_records rs list
 
-  rows-sound : soundRecordRows rs ≡ true
+  rows-sound : sound_record_rows rs ≡ true
   rows-sound = record-rows-sound rs s.pre.0
 
-  facts : MergeFacts rs ps id account series list (sourcesIn rs list)
+  facts : MergeFacts rs ps id account series list (sources_in rs list)
   facts = merge-accepted-facts rs ps id account series list s.pre.0 s.pre.1 s.pre.2
 
-  found : allFound rs list ≡ true
-  found = all_found rs ps id account series list rows-sound facts
+  found : all_found rs list ≡ true
+  found = all-found rs ps id account series list rows-sound facts
 
   count : (2 ≤ length list / 2) × (length list ≤ 2000)
   count = figures-count id account series list facts.passed.figures
 
-  differ : any_of (repeatsFrom [] (pairsOf list)) ≡ false
+  differ : any_of (repeats_from [] (pairs_of list)) ≡ false
   differ = ap any_of (sym (sources-stood-earlier rs list)) ∙ facts.passed.sources-differ
 
-  ready : Averageable (sumOfValues sources) (sumOfQuantities sources)
+  ready : Averageable (sum_of_values sources) (sum_of_quantities sources)
   ready = sources-averageable rs list rows-sound found facts.passed.sources-adjustable facts.passed.sum-small (omega (arith, count.0))
 
-  small-residual : magnitudeAtMost 1000000 (mergeResidual sources) ≡ true
-  unfolding mergeResidual
-  small-residual = residual-small _ (sumOfValues sources) (sumOfQuantities sources) ready
+  small-residual : magnitude_at_most 1000000 (merge_residual sources) ≡ true
+  unfolding merge_residual
+  small-residual = residual-small _ (sum_of_values sources) (sum_of_quantities sources) ready
 
-  writable : WriteReady ps s.args.held.found (mergePosition ps account series sources)
+  writable : WriteReady ps s.args.held.found (merge_position ps account series sources)
   unfolding moved
   writable = (
     s.pre.1,
     facts.position-sound,
     facts.positions-room,
-    s.pre.4.found-is ∙ ap (λ (k : Key). foundIn positionsLayout k ps) (sym (read-key account series (rows_of positionsLayout ps))),
+    s.pre.4.found-is ∙ ap (λ (k : Key). found_in positions_layout k ps) (sym (read-key account series (rows_of positions_layout ps))),
   )
 
 -- ---- what the sources come to
@@ -115,21 +115,21 @@ start0 c = c.before.before.before
 abbrev start1 : tie.After-source-record → tie.Start
 start1 c = start0 c.before.before
 
-today-is : (c : tie.After-source-record) → to_z w64 (of_z w64 c.before.before.today.result) ≡ currentDay (rs (start1 c))
+today-is : (c : tie.After-source-record) → to_z w64 (of_z w64 c.before.before.today.result) ≡ current_day (rs (start1 c))
 today-is c =
     let t : tie.After-today = c.before.before in
     read_back t.today.result t.today.type-inv ∙ t.today.ensures
 
-sum_is : (c : tie.After-sum-of-quantities) → to_z w64 (of_z w64 c.sum-of-quantities.result) ≡ sumOfQuantities (sources (start1 c.before.before))
+sum_is : (c : tie.After-sum-of-quantities) → to_z w64 (of_z w64 c.sum-of-quantities.result) ≡ sum_of_quantities (sources (start1 c.before.before))
 sum_is c = let f : SFits w64 c.sum-of-quantities.result = sfits_of c.sum-of-quantities.type-inv in to_z-of_z f ∙ c.sum-of-quantities.ensures
 
 abbrev start2 : tie.After-sum-of-values → tie.Start
 start2 c = start1 c.before.before.before.before
 
-value-is : (c : tie.After-sum-of-values) → to_z w64 (of_z w64 c.sum-of-values.result) ≡ sumOfValues (sources (start2 c))
+value-is : (c : tie.After-sum-of-values) → to_z w64 (of_z w64 c.sum-of-values.result) ≡ sum_of_values (sources (start2 c))
 value-is c = let f : SFits w64 c.sum-of-values.result = sfits_of c.sum-of-values.type-inv in to_z-of_z f ∙ c.sum-of-values.ensures
 
-price-is : (c : tie.After-average) → to_z w64 (of_z w64 c.average.result) ≡ averageOf (sumOfValues (sources (start2 c.before))) (sumOfQuantities (sources (start2 c.before)))
+price-is : (c : tie.After-average) → to_z w64 (of_z w64 c.average.result) ≡ average_of (sum_of_values (sources (start2 c.before))) (sum_of_quantities (sources (start2 c.before)))
 price-is c =
     let f : SFits w64 c.average.result = sfits_of c.average.type-inv in
     to_z-of_z f ∙ rw (value-is c.before, sum_is c.before.before.before) at c.average.ensures
@@ -142,12 +142,12 @@ first-is c =
 abbrev read : tie.After-sum-of-values → tie.After-source-record
 read c = c.before.before.before.before
 
-buy-is : (c : tie.After-is-buy) → c.is-buy.result ≡ isBuy (first_of (sources (start2 c.before.before.before))).side
+buy-is : (c : tie.After-is-buy) → c.is-buy.result ≡ is_buy (first_of (sources (start2 c.before.before.before))).side
 buy-is c =
     let a : tie.After-source-record = read c.before.before.before in
-    let e : c.is-buy.result ≡ isBuy a.source-record.result.side =
+    let e : c.is-buy.result ≡ is_buy a.source-record.result.side =
     simp (read_back a.source-record.result.side c.before.struct_told.given.1.1.1.1.1.1.1.0.1) at c.is-buy.ensures in
-    e ∙ ap (λ (r : Record). isBuy r.side) (sym (first-is a))
+    e ∙ ap (λ (r : Record). is_buy r.side) (sym (first-is a))
 
 abbrev summed : tie.After-residual → tie.After-sum-of-values
 summed c = c.before.before.before.before
@@ -155,45 +155,45 @@ summed c = c.before.before.before.before
 abbrev start3 : tie.After-residual → tie.Start
 start3 c = start2 (summed c)
 
-residual-is : (c : tie.After-residual) → to_z w64 (of_z w64 c.residual.result) ≡ mergeResidual (sources (start3 c))
-unfolding mergeResidual
+residual-is : (c : tie.After-residual) → to_z w64 (of_z w64 c.residual.result) ≡ merge_residual (sources (start3 c))
+unfolding merge_residual
 residual-is c =
     let f : SFits w64 c.residual.result = sfits_of c.residual.type-inv in
     let v : tie.After-sum-of-values = summed c in
     let buy : Bool = c.before.is-buy.result in
     to_z-of_z f
     ∙ c.residual.ensures
-    ∙ ap (λ (z : ℤ). residualOf buy z (to_z w64 (of_z w64 v.before.before.sum-of-quantities.result))) (value-is v)
-    ∙ ap (λ (z : ℤ). residualOf buy (sumOfValues (sources (start3 c))) z) (sum_is v.before.before)
-    ∙ ap (λ (b : Bool). residualOf b (sumOfValues (sources (start3 c))) (sumOfQuantities (sources (start3 c)))) (buy-is c.before)
+    ∙ ap (λ (z : ℤ). residual_of buy z (to_z w64 (of_z w64 v.before.before.sum-of-quantities.result))) (value-is v)
+    ∙ ap (λ (z : ℤ). residual_of buy (sum_of_values (sources (start3 c))) z) (sum_is v.before.before)
+    ∙ ap (λ (b : Bool). residual_of b (sum_of_values (sources (start3 c))) (sum_of_quantities (sources (start3 c)))) (buy-is c.before)
 
-merged-is : (c : tie.After-merged-row) → c.merged-row.result ≡ mergedRecord (currentDay (rs (start3 c.before))) (id (start3 c.before)) (sources (start3 c.before))
-unfolding mergedRecord
+merged-is : (c : tie.After-merged-row) → c.merged-row.result ≡ merged_record (current_day (rs (start3 c.before))) (id (start3 c.before)) (sources (start3 c.before))
+unfolding merged_record
 merged-is c =
     let s : tie.Start = start3 c.before in
     let v : tie.After-sum-of-values = summed c.before in
     let a : tie.After-source-record = read v in
-    let q : ℤ = sumOfQuantities (sources s) in
-    let p : ℤ = averageOf (sumOfValues (sources s)) q in
-    let e : c.merged-row.result ≡ newRecord (currentDay (rs s)) (id s) mergeKind a.source-record.result.account a.source-record.result.series a.source-record.result.side
+    let q : ℤ = sum_of_quantities (sources s) in
+    let p : ℤ = average_of (sum_of_values (sources s)) q in
+    let e : c.merged-row.result ≡ new_record (current_day (rs s)) (id s) merge_kind a.source-record.result.account a.source-record.result.series a.source-record.result.side
     (to_z w64 (of_z w64 v.before.before.sum-of-quantities.result)) (to_z w64 (of_z w64 c.before.before.before.before.average.result)) (pos 0) (pos 0)
     = simp (today-is a, to_z-of_z s.fits.id) at c.merged-row.ensures in
     e
-    ∙ ap (λ (z : ℤ). newRecord (currentDay (rs s)) (id s) mergeKind a.source-record.result.account a.source-record.result.series a.source-record.result.side z
+    ∙ ap (λ (z : ℤ). new_record (current_day (rs s)) (id s) merge_kind a.source-record.result.account a.source-record.result.series a.source-record.result.side z
     (to_z w64 (of_z w64 c.before.before.before.before.average.result)) (pos 0) (pos 0)) (sum_is v.before.before)
-    ∙ ap (λ (z : ℤ). newRecord (currentDay (rs s)) (id s) mergeKind a.source-record.result.account a.source-record.result.series a.source-record.result.side q z (pos 0) (pos 0))
+    ∙ ap (λ (z : ℤ). new_record (current_day (rs s)) (id s) merge_kind a.source-record.result.account a.source-record.result.series a.source-record.result.side q z (pos 0) (pos 0))
     (price-is c.before.before.before.before)
-    ∙ ap (λ (r : Record). newRecord (currentDay (rs s)) (id s) mergeKind r.account r.series r.side q p (pos 0) (pos 0)) (sym (first-is a))
+    ∙ ap (λ (r : Record). new_record (current_day (rs s)) (id s) merge_kind r.account r.series r.side q p (pos 0) (pos 0)) (sym (first-is a))
 
 -- ---- the position as the merge leaves it
 
 abbrev start4 : tie.After-moved → tie.Start
 start4 c = start3 c.before.before.before
 
-movement-is : (c : tie.After-by-residual) → c.by-residual.result ≡ byResidual (mergeResidual (sources (start3 c.before.before)))
-movement-is c = c.by-residual.ensures ∙ ap byResidual (residual-is c.before.before)
+movement-is : (c : tie.After-by-residual) → c.by-residual.result ≡ by_residual (merge_residual (sources (start3 c.before.before)))
+movement-is c = c.by-residual.ensures ∙ ap by_residual (residual-is c.before.before)
 
-left_is : (c : tie.After-moved) → c.moved.result ≡ mergePosition (ps (start4 c)) (account (start4 c)) (series (start4 c)) (sources (start4 c))
+left_is : (c : tie.After-moved) → c.moved.result ≡ merge_position (ps (start4 c)) (account (start4 c)) (series (start4 c)) (sources (start4 c))
 left_is c = rw ((start4 c).requires.4.read_is, movement-is c.before) at c.moved.ensures
 
 -- ---- the records, one change after the other
@@ -201,7 +201,7 @@ left_is c = rw ((start4 c).requires.4.read_is, movement-is c.before) at c.moved.
 abbrev start5 : tie.After-adjust-sources → tie.Start
 start5 c = start4 c.before.before
 
-adjusted-is : (c : tie.After-adjust-sources) → c.adjust-sources.new.0 ≡ sourcesAdjusted (rs (start5 c)) (id (start5 c)) (list (start5 c))
+adjusted-is : (c : tie.After-adjust-sources) → c.adjust-sources.new.0 ≡ sources_adjusted (rs (start5 c)) (id (start5 c)) (list (start5 c))
 adjusted-is c = c.adjust-sources.ensures.0
 
 abbrev start6 : tie.After-insert-inverses → tie.Start
@@ -211,13 +211,13 @@ start6 c = start5 c.before.before.before
 abbrev first_read : tie.After-adjust-sources → tie.After-source-record
 first_read c = read (summed c.before.before.before.before.before)
 
-inserted-is : (c : tie.After-insert-inverses) → c.insert-inverses.new.0 ≡ inversesInserted (rs (start6 c)) (id (start6 c)) (list (start6 c))
+inserted-is : (c : tie.After-insert-inverses) → c.insert-inverses.new.0 ≡ inverses_inserted (rs (start6 c)) (id (start6 c)) (list (start6 c))
 inserted-is c =
     let s : tie.Start = start6 c in
     let before : List ℤ = c.before.before.before.adjust-sources.new.0 in
-    let e : c.insert-inverses.new.0 ≡ write recordsLayout before (upsertAll recordKey (mergeInverses (currentDay (rs s)) (id s) [] (sourcesIn before (list s))) (rows_of recordsLayout before))
+    let e : c.insert-inverses.new.0 ≡ write records_layout before (upsert_all record_key (merge_inverses (current_day (rs s)) (id s) [] (sources_in before (list s))) (rows_of records_layout before))
     = simp (today-is (first_read c.before.before.before), to_z-of_z s.fits.id) at c.insert-inverses.ensures.0 in
-    e ∙ ap (λ (xs : List ℤ). write recordsLayout xs (upsertAll recordKey (mergeInverses (currentDay (rs s)) (id s) [] (sourcesIn xs (list s))) (rows_of recordsLayout xs))) (adjusted-is c.before.before.before)
+    e ∙ ap (λ (xs : List ℤ). write records_layout xs (upsert_all record_key (merge_inverses (current_day (rs s)) (id s) [] (sources_in xs (list s))) (rows_of records_layout xs))) (adjusted-is c.before.before.before)
 
 abbrev start7 : tie.After-insert-merged → tie.Start
 start7 c = start6 c.before.before.before
@@ -226,12 +226,12 @@ start7 c = start6 c.before.before.before
 abbrev made : tie.After-insert-inverses → tie.After-merged-row
 made c = c.before.before.before.before.before.before.before
 
-records-are : (c : tie.After-insert-merged) → c.insert-merged.new.0 ≡ recordsMerged (rs (start7 c)) (id (start7 c)) (list (start7 c))
+records-are : (c : tie.After-insert-merged) → c.insert-merged.new.0 ≡ records_merged (rs (start7 c)) (id (start7 c)) (list (start7 c))
 records-are c =
     let i : tie.After-insert-inverses = c.before.before.before in
     c.insert-merged.ensures.0
-    ∙ ap (λ (r : Record). write recordsLayout i.insert-inverses.new.0 (upsert recordKey r (rows_of recordsLayout i.insert-inverses.new.0))) (merged-is (made i))
-    ∙ ap (λ (xs : List ℤ). write recordsLayout xs (upsert recordKey (mergedRecord (currentDay (rs (start7 c))) (id (start7 c)) (sources (start7 c))) (rows_of recordsLayout xs))) (inserted-is i)
+    ∙ ap (λ (r : Record). write records_layout i.insert-inverses.new.0 (upsert record_key r (rows_of records_layout i.insert-inverses.new.0))) (merged-is (made i))
+    ∙ ap (λ (xs : List ℤ). write records_layout xs (upsert record_key (merged_record (current_day (rs (start7 c))) (id (start7 c)) (sources (start7 c))) (rows_of records_layout xs))) (inserted-is i)
 
 -- Where the position was made, seen from the last insertion.
 abbrev moved_at : tie.After-insert-merged → tie.After-moved
@@ -273,7 +273,7 @@ moved-requires : tie.Need-moved-requires
 moved-requires c κs =
     let s : tie.Start = start3 c.before.before in
     rw (s.pre.4.read_is, movement-is c)
-    (merge-moves (positionRead (ps s) (account s) (series s)) (mergeResidual (sources s)) (position-read-sound (ps s) s.pre.1 (account s) (series s)) (small-residual s))
+    (merge-moves (position_read (ps s) (account s) (series s)) (merge_residual (sources s)) (position-read-sound (ps s) s.pre.1 (account s) (series s)) (small-residual s))
 
 adjust-sources-requires : tie.Need-adjust-sources-requires
 adjust-sources-requires c κs =
@@ -284,13 +284,13 @@ insert-inverses-requires : tie.Need-insert-inverses-requires
 insert-inverses-requires c κs =
     let a : tie.After-adjust-sources = c.before.before in
     let s : tie.Start = start5 a in
-    let e : sourcesAdjusted (rs s) (id s) (list s) ≡ a.adjust-sources.new.0 = sym (adjusted-is a) in (
+    let e : sources_adjusted (rs s) (id s) (list s) ≡ a.adjust-sources.new.0 = sym (adjusted-is a) in (
       a.adjust-sources.ensures.1,
-      subst (λ (xs : List ℤ). allFound xs (list s) ≡ true) e (found-adjusted (rs s) (ps s) (id s) (account s) (series s) (list s) (rows-sound s) (facts s)),
+      subst (λ (xs : List ℤ). all_found xs (list s) ≡ true) e (found-adjusted (rs s) (ps s) (id s) (account s) (series s) (list s) (rows-sound s) (facts s)),
       simp (today-is (first_read a), to_z-of_z s.fits.id)
-          (subst (λ (xs : List ℤ). all_of (map soundRecord (mergeInverses (currentDay (rs s)) (id s) [] (sourcesIn xs (list s)))) ≡ true) e
+          (subst (λ (xs : List ℤ). all_of (map sound_record (merge_inverses (current_day (rs s)) (id s) [] (sources_in xs (list s)))) ≡ true) e
           (inverses-sound (rs s) (ps s) (id s) (account s) (series s) (list s) (rows-sound s) (facts s))),
-      subst (λ (xs : List ℤ). length (rows_of recordsLayout xs) + length (pairsOf (list s)) ≤ roomOf recordsLayout xs) e
+      subst (λ (xs : List ℤ). length (rows_of records_layout xs) + length (pairs_of (list s)) ≤ room_of records_layout xs) e
           (inverses-room (rs s) (ps s) (id s) (account s) (series s) (list s) (rows-sound s) (facts s)),
     )
 
@@ -298,8 +298,8 @@ insert-merged-requires : tie.Need-insert-merged-requires
 insert-merged-requires c κs =
     let i : tie.After-insert-inverses = c.before.before in
     let s : tie.Start = start6 i in
-    let absent-with-room : (find recordKey (recordKey (mergedRecord (currentDay (rs s)) (id s) (sources s))) (rows_of recordsLayout i.insert-inverses.new.0) ≡ none)
-    × (length (rows_of recordsLayout i.insert-inverses.new.0) < roomOf recordsLayout i.insert-inverses.new.0)
+    let absent-with-room : (find record_key (record_key (merged_record (current_day (rs s)) (id s) (sources s))) (rows_of records_layout i.insert-inverses.new.0) ≡ none)
+    × (length (rows_of records_layout i.insert-inverses.new.0) < room_of records_layout i.insert-inverses.new.0)
     = rw (inserted-is i)
     (merged-absent (rs s) (ps s) (id s) (account s) (series s) (list s) (rows-sound s) (facts s), merged-room (rs s) (ps s) (id s) (account s) (series s) (list s) (rows-sound s) (facts s)) in
     subst (λ (r : Record). InsertReady i.insert-inverses.new.0 r) (sym (merged-is (made i)))
@@ -323,9 +323,9 @@ returns c =
     let m : tie.After-moved = moved_at j in
     let rows : to_z w64 (of_z w64 (to_z w64 (length (list s) / 2) +ℤ pos 1)) ≡ pos (length (list s) / 2) +ℤ pos 1
     = ap (λ (z : ℤ). to_z w64 (of_z w64 (z +ℤ pos 1))) (rows-bits s) ∙ to_z-of_z (rows_fit s) in
-    let residual : to_z w64 (of_z w64 m.before.before.before.residual.result) ≡ mergeResidual (sources s) = residual-is m.before.before.before in
-    let positions : c.before.write-position.new.0 ≡ write positionsLayout (ps s) (upsert positionKey (mergePosition (ps s) (account s) (series s) (sources s)) (rows_of positionsLayout (ps s)))
-    = c.before.write-position.ensures.0 ∙ ap (λ (p : Position). write positionsLayout (ps s) (upsert positionKey p (rows_of positionsLayout (ps s)))) (left_is m) in
+    let residual : to_z w64 (of_z w64 m.before.before.before.residual.result) ≡ merge_residual (sources s) = residual-is m.before.before.before in
+    let positions : c.before.write-position.new.0 ≡ write positions_layout (ps s) (upsert position_key (merge_position (ps s) (account s) (series s) (sources s)) (rows_of positions_layout (ps s)))
+    = c.before.write-position.ensures.0 ∙ ap (λ (p : Position). write positions_layout (ps s) (upsert position_key p (rows_of positions_layout (ps s)))) (left_is m) in
     (λ i. answered (Booked (rows i) (residual i)) (records-are j i) (positions i))
     ∙ sym (merge-booked (rs s) (ps s) (id s) (account s) (series s) (list s) (rows-sound s) (facts s))
 

@@ -9,15 +9,15 @@ use lib.IntN.{ℤ, pos}
 use lib.Signed.{≤ℤ_refl}
 use mir.Facts.{to_z-of_z}
 use Rattle.rules.specs.Keyed.{Key, is_some, find}
-use Rattle.rules.specs.Figures.{mergeKind}
-use Rattle.rules.specs.NamedRecord.{theRecord, nextSuffix}
-use Rattle.rules.specs.Rows.{key_of, recordKey, inverseRecord}
+use Rattle.rules.specs.Figures.{merge_kind}
+use Rattle.rules.specs.NamedRecord.{the_record, next_suffix}
+use Rattle.rules.specs.Rows.{key_of, record_key, inverse_record}
 use Rattle.rules.specs.Layout.{rows_of}
-use Rattle.rules.specs.Tables.{recordsLayout}
+use Rattle.rules.specs.Tables.{records_layout}
 use Rattle.rules.specs.declared.Record.{Record}
 use Rattle.keys.proofs.Split.{clash}
-use Rattle.keys.proofs.Clauses.{isSome-none}
-use Rattle.lookup.specs.Lookup.{place_in, recordSought}
+use Rattle.keys.proofs.Clauses.{is_some-none}
+use Rattle.lookup.specs.Lookup.{place_in, record_sought}
 use Rattle.lookup.proofs.TableLookup.{records-first}
 use Rattle.lookup.specs.SoughtRows.{PresentAt}
 use Rattle.lookup.proofs.TableSought.{table-present, table-lacks}
@@ -25,7 +25,7 @@ use Rattle.scan.proofs.ReadBack.{read_back}
 use Rattle.soundness.proofs.NamedRecord.{next_of, free-from-next}
 use Rattle.verdict.proofs.SoundReads as SoundReads
 use Rattle.requests.specs.KnownRecord.{KnownRecord}
-use Rattle.merge_sources.specs.Sources.{inverseNamed}
+use Rattle.merge_sources.specs.Sources.{inverse_named}
 use Rattle.merge_sources.proofs.SourceList.{found-record}
 use Rattle.merge.proofs.booking.insert_inverse.Statement.{statement}
 use Rattle.merge.proofs.booking.insert_inverse.Tie as tie
@@ -35,30 +35,30 @@ module _ (s : tie.Start) where
   cells = s.args.records.now
 
   abbrev rows : List Record
-  rows = rows_of recordsLayout cells
+  rows = rows_of records_layout cells
 
   abbrev key : Key
   key = key_of s.args.id s.args.suffix
 
   abbrev inverse : Record
-  inverse = inverseNamed s.args.today cells key s.args.into
+  inverse = inverse_named s.args.today cells key s.args.into
 
   -- Its key, at which nothing stands: it has the id's next suffix.
-  inverse-key : (r : Record) → find recordKey key rows ≡ some r → recordKey inverse ≡ key_of s.args.id (next_of rows s.args.id)
-  unfolding inverseRecord
+  inverse-key : (r : Record) → find record_key key rows ≡ some r → record_key inverse ≡ key_of s.args.id (next_of rows s.args.id)
+  unfolding inverse_record
   inverse-key r e =
       ap (λ (z : ℤ). key_of z (next_of rows s.args.id))
-      (ap (λ (x : Record). x.id) (found-record (find recordKey key rows) r e) ∙ (SoundReads.found-record cells s.pre.0 s.args.id s.args.suffix r e).id-is)
+      (ap (λ (x : Record). x.id) (found-record (find record_key key rows) r e) ∙ (SoundReads.found-record cells s.pre.0 s.args.id s.args.suffix r e).id-is)
 
-  absent : (r : Record) → find recordKey key rows ≡ some r → find recordKey (recordKey inverse) rows ≡ none
+  absent : (r : Record) → find record_key key rows ≡ some r → find record_key (record_key inverse) rows ≡ none
   absent r e =
-      ap (λ (k : Key). find recordKey k rows) (inverse-key r e) ∙ free-from-next rows s.args.id (next_of rows s.args.id) (≤ℤ_refl (next_of rows s.args.id))
+      ap (λ (k : Key). find record_key k rows) (inverse-key r e) ∙ free-from-next rows s.args.id (next_of rows s.args.id) (≤ℤ_refl (next_of rows s.args.id))
 
 module _ (c : tie.After-look-up) where
   abbrev start : tie.Start
   start = c.before.before
 
-  answer : c.look_up.result ≡ recordSought (cells start) start.args.id start.args.suffix
+  answer : c.look_up.result ≡ record_sought (cells start) start.args.id start.args.suffix
   answer = simp (to_z-of_z start.fits.id, to_z-of_z start.fits.suffix) at c.look_up.ensures
 
 -- ---- what the lookup said
@@ -79,14 +79,14 @@ module _ (c : tie.After-known-told) where
   abbrev place : ℕ
   place = w.row.given.0.1.1.0
 
-  there : PresentAt recordsLayout recordKey (cells s) (key s) row greatest place
-  there = table-present recordsLayout recordKey records-first (cells s) (key s) row greatest place (sym (answer w.before.before) ∙ w.row.given.1)
+  there : PresentAt records_layout record_key (cells s) (key s) row greatest place
+  there = table-present records_layout record_key records-first (cells s) (key s) row greatest place (sym (answer w.before.before) ∙ w.row.given.1)
 
-  place_is : place ≡ place_in recordsLayout (recordKey (inverse s)) (cells s)
-  unfolding nextSuffix
+  place_is : place ≡ place_in records_layout (record_key (inverse s)) (cells s)
+  unfolding next_suffix
   place_is =
       there.next-is
-      ∙ ap (λ (k : Key). place_in recordsLayout k (cells s)) (ap (λ (z : Option ℤ). key_of s.args.id (nextSuffix z)) (sym there.greatest-is) ∙ sym (inverse-key s _ there.found))
+      ∙ ap (λ (k : Key). place_in records_layout k (cells s)) (ap (λ (z : Option ℤ). key_of s.args.id (next_suffix z)) (sym there.greatest-is) ∙ sym (inverse-key s _ there.found))
 
 -- ---- the record and its inverse
 
@@ -107,17 +107,17 @@ module _ (c : tie.After-inverse-record) where
   inverse-is : c.inverse-record.result ≡ inverse from
   inverse-is =
       let m = n.record-named.result in
-      let e : c.inverse-record.result ≡ inverseRecord from.args.today m.record m.next mergeKind (pos 0) (pos 0) from.args.into
+      let e : c.inverse-record.result ≡ inverse_record from.args.today m.record m.next merge_kind (pos 0) (pos 0) from.args.into
       = simp (read_back m.next c.before.struct_told.given.1.1.0.1, to_z-of_z from.fits.today, to_z-of_z from.fits.into) at c.inverse-record.ensures in
-      let record_is : m.record ≡ theRecord (find recordKey (key from) (rows from)) = sym (found-record (find recordKey (key from) (rows from)) m.record (known n).found) in
-      e ∙ (λ i. inverseRecord from.args.today (record_is i) ((known n).next-is i) mergeKind (pos 0) (pos 0) from.args.into)
+      let record_is : m.record ≡ the_record (find record_key (key from) (rows from)) = sym (found-record (find record_key (key from) (rows from)) m.record (known n).found) in
+      e ∙ (λ i. inverse_record from.args.today (record_is i) ((known n).next-is i) merge_kind (pos 0) (pos 0) from.args.into)
 
 returns : tie.Need-returns
 returns c =
     let a : tie.After-look-up = c.before.before in
     let s : tie.Start = start a in
     clash s.pre.1
-    (ap (λ (o : Option Record). is_some o) (table-lacks recordsLayout recordKey records-first (cells s) (key s) _ _ (sym (answer a) ∙ c.enum_told.given.1)).absent ∙ isSome-none Record)
+    (ap (λ (o : Option Record). is_some o) (table-lacks records_layout record_key records-first (cells s) (key s) _ _ (sym (answer a) ∙ c.enum_told.given.1)).absent ∙ is_some-none Record)
 
 record-named-requires : tie.Need-record-named-requires
 record-named-requires c κs =

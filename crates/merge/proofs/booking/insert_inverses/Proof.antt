@@ -11,10 +11,10 @@ use mir.Facts.{to_z-of_z}
 use mir.Syntax.{w64}
 use mir.Val.{SFits, to_z}
 use Rattle.rules.specs.Keyed.{upsert}
-use Rattle.rules.specs.Rows.{recordKey}
+use Rattle.rules.specs.Rows.{record_key}
 use Rattle.rules.specs.Layout.{rows_of, write}
-use Rattle.rules.specs.Tables.{recordsLayout}
-use Rattle.merge_sources.specs.Sources.{inverseNamed}
+use Rattle.rules.specs.Tables.{records_layout}
+use Rattle.merge_sources.specs.Sources.{inverse_named}
 use Rattle.merge_sources.specs.Pairs.{pair_at}
 use Rattle.merge_sources.proofs.InsertingCells.{InvertedSoFar, inverted-start, inverted-end, insert-found, insert-sound, insert-room, insert-next}
 use Rattle.merge.proofs.booking.insert_inverses.Statement.{statement}
@@ -66,9 +66,9 @@ module _ (c : tie.After-insert-inverse-arg3 invariant-loop decreases-loop) where
   suffix-fits = sfits_of c.insert-inverse-arg3.given
 
 put : (c : tie.After-insert-inverse invariant-loop decreases-loop) → c.insert-inverse.new.0
-    ≡ write recordsLayout (a (turn c.before)).loop.records
-    (upsert recordKey (inverseNamed (today (a (turn c.before))) (a (turn c.before)).loop.records (pair_at (list (a (turn c.before))) (a (turn c.before)).loop.i) (into (a (turn c.before))))
-    (rows_of recordsLayout (a (turn c.before)).loop.records))
+    ≡ write records_layout (a (turn c.before)).loop.records
+    (upsert record_key (inverse_named (today (a (turn c.before))) (a (turn c.before)).loop.records (pair_at (list (a (turn c.before))) (a (turn c.before)).loop.i) (into (a (turn c.before))))
+    (rows_of records_layout (a (turn c.before)).loop.records))
 unfolding pair_at
 put c =
     simp (to_z-of_z (id-fits c.before), to_z-of_z (suffix-fits c.before), to_z-of_z (a (turn c.before)).before.fits.today, to_z-of_z (a (turn c.before)).before.fits.into) at c.insert-inverse.ensures.0

@@ -1,10 +1,10 @@
 -- `merge::booking::insert_merged` meets its contract: the lookup says where the row belongs, which has no other of its key. Assumes nothing.
 use mathlib.Core.Path.{◌≡◌, sym, ◌∙◌}
 use borrow.Author.Rules.{rules}
-use Rattle.rules.specs.Rows.{recordKey}
-use Rattle.rules.specs.Tables.{recordsLayout}
+use Rattle.rules.specs.Rows.{record_key}
+use Rattle.rules.specs.Tables.{records_layout}
 use Rattle.keys.proofs.Split.{none-some}
-use Rattle.lookup.specs.Lookup.{soughtIn}
+use Rattle.lookup.specs.Lookup.{sought_in}
 use Rattle.lookup.proofs.TableLookup.{records-first}
 use Rattle.lookup.proofs.TableSought.{table-present, table-lacks}
 use Rattle.scan.proofs.ReadBack.{read_back}
@@ -14,7 +14,7 @@ use Rattle.merge.proofs.booking.insert_merged.Tie as tie
 abbrev start : tie.After-look-up → tie.Start
 start c = c.before.before.before.before
 
-answer : (c : tie.After-look-up) → c.look_up.result ≡ soughtIn recordsLayout (recordKey (start c).args.merged) (start c).args.records.now
+answer : (c : tie.After-look-up) → c.look_up.result ≡ sought_in records_layout (record_key (start c).args.merged) (start c).args.records.now
 answer c =
     let m = (start c).args.merged in
     let a : tie.After-struct-told2 = c.before.before in
@@ -25,7 +25,7 @@ returns c =
     let a : tie.After-look-up = c.before.before in
     let s : tie.Start = start a in
     none-some s.pre.2
-    (table-present recordsLayout recordKey records-first s.args.records.now (recordKey s.args.merged) _ _ _ (sym (answer a) ∙ c.enum_told.given.1)).found
+    (table-present records_layout record_key records-first s.args.records.now (record_key s.args.merged) _ _ _ (sym (answer a) ∙ c.enum_told.given.1)).found
 
 insert-record-requires : tie.Need-insert-record-requires
 insert-record-requires c κs =
@@ -35,7 +35,7 @@ insert-record-requires c κs =
       s.pre.1,
       s.pre.2,
       s.pre.3,
-      (table-lacks recordsLayout recordKey records-first s.args.records.now (recordKey s.args.merged) _ _ (sym (answer a) ∙ c.before.before.place.given.1)).place_is,
+      (table-lacks records_layout record_key records-first s.args.records.now (record_key s.args.merged) _ _ (sym (answer a) ∙ c.before.before.place.given.1)).place_is,
     )
 
 pub insert-merged-spec : {M : Type 1} → statement M

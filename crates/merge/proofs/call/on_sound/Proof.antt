@@ -7,7 +7,7 @@ use borrow.Author.Rules.{rules}
 use Rattle.rules.specs.Request.{Request, merge}
 use Rattle.cells.proofs.SoundCells.{record-rows-sound}
 use Rattle.scan.proofs.ReadBack.{read_back}
-use Rattle.verdict.specs.Verdict.{verdictOn}
+use Rattle.verdict.specs.Verdict.{verdict_on}
 use Rattle.requests.proofs.OnSound.{refused-soundly, booked-soundly}
 use Rattle.merge.proofs.call.on_sound.Statement.{statement}
 use Rattle.merge.proofs.call.on_sound.Tie as tie
@@ -22,7 +22,7 @@ module _ (v : tie.After-verdict) where
   abbrev asked : Request
   asked = merge s.args.id s.args.account s.args.series s.args.pairs.now
 
-  judged : v.verdict.result ≡ verdictOn s.args.records.now s.args.positions.now asked
+  judged : v.verdict.result ≡ verdict_on s.args.records.now s.args.positions.now asked
   judged =
       simp (to_z-of_z s.fits.id, to_z-of_z s.fits.account, to_z-of_z s.fits.series)
       at v.verdict.ensures.0

@@ -11,19 +11,19 @@ use lib.IntN.{ℤ, pos}
 use lib.ListN.{length}
 use mir.Facts.{to_z-of_z}
 use Rattle.rules.specs.Keyed.{greatest, is_some}
-use Rattle.rules.specs.Rows.{key_of, recordKey}
+use Rattle.rules.specs.Rows.{key_of, record_key}
 use Rattle.rules.specs.Refusal.{any_of}
 use Rattle.rules.specs.Layout.{rows_of}
-use Rattle.rules.specs.Tables.{recordsLayout}
-use Rattle.rules.specs.Merge.{mergeFigures, isMissing}
+use Rattle.rules.specs.Tables.{records_layout}
+use Rattle.rules.specs.Merge.{merge_figures, is_missing}
 use Rattle.figures.proofs.Tests.{failed, passed}
-use Rattle.lookup.specs.Lookup.{recordSought, greatestFound}
+use Rattle.lookup.specs.Lookup.{record_sought, greatest_found}
 use Rattle.lookup.proofs.RowFound.{suffix-some, nothing-none}
 use Rattle.lookup.proofs.TableLookup.{records-first}
 use Rattle.lookup.proofs.TableSought.{table-present, table-lacks}
 use Rattle.verdict.proofs.Remaining.{◌past◌, stops, stops_at}
-use Rattle.merge_sources.specs.Sources.{sourcesIn}
-use Rattle.merge_sources.specs.Located.{rowsKnown, suffixesKnown}
+use Rattle.merge_sources.specs.Sources.{sources_in}
+use Rattle.merge_sources.specs.Located.{RowsKnown, SuffixesKnown}
 use Rattle.merge_sources.proofs.MergeFacts.{figures-count}
 use Rattle.merge_sources.proofs.MergeVerdict.{MergeFrom, merge-tests}
 use Rattle.merge_sources.proofs.Places.{place-tells, nowhere-tells}
@@ -56,7 +56,7 @@ module _ (s : tie.Start) where
 
 -- ---- test 3
 
-answer-3 : (c : tie.After-figures-valid) → let s = c.before.before.before in c.figures-valid.result ≡ mergeFigures (id s) (account s) (series s) (list s)
+answer-3 : (c : tie.After-figures-valid) → let s = c.before.before.before in c.figures-valid.result ≡ merge_figures (id s) (account s) (series s) (list s)
 answer-3 c =
     let s : tie.Start = c.before.before.before in
     simp (to_z-of_z s.ranges.id, to_z-of_z s.ranges.account, to_z-of_z s.ranges.series) at c.figures-valid.ensures
@@ -73,7 +73,7 @@ module _ (c : tie.Else1) where
   abbrev start4 : tie.Start
   start4 = c.before.before.before.before
 
-  figures : mergeFigures (id start4) (account start4) (series start4) (list start4) ≡ true
+  figures : merge_figures (id start4) (account start4) (series start4) (list start4) ≡ true
   figures = passed (answer-3 c.before) c.if1.false
 
   few : length (list start4) ≤ 2000
@@ -82,7 +82,7 @@ module _ (c : tie.Else1) where
   at-4 : From start4 4
   at-4 = at-3 start4 past ap not figures
 
-answer-4 : (c : tie.After-look-up) → c.look_up.result ≡ recordSought (rs (start4 c.before)) (id (start4 c.before)) (pos 0)
+answer-4 : (c : tie.After-look-up) → c.look_up.result ≡ record_sought (rs (start4 c.before)) (id (start4 c.before)) (pos 0)
 answer-4 c = simp (to_z-of_z (start4 c.before).fits.id) at c.look_up.ensures
 
 -- The id with suffix 0 has a record.
@@ -92,7 +92,7 @@ returns-2 c =
     let a : tie.After-look-up = c.before.before in
     let s : tie.Start = start4 a.before in (
       stops (at-4 a.before)
-          (ap is_some (table-present recordsLayout recordKey records-first (rs s) (key_of (id s) (pos 0)) _ _ _ (sym (answer-4 a) ∙ c.enum_told.given.1)).greatest-is),
+          (ap is_some (table-present records_layout record_key records-first (rs s) (key_of (id s) (pos 0)) _ _ _ (sym (answer-4 a) ∙ c.enum_told.given.1)).greatest-is),
       λ e. let z : ◌≡◌ {A = ℕ} 0 1 = cc in absurd (omega arith),
     )
 
@@ -104,9 +104,9 @@ module _ (c : tie.After-known-told) where
   abbrev start5 : tie.Start
   start5 = start4 figured
 
-  suffixes : greatestFound (greatest recordKey (id start5) (rows_of recordsLayout (rs start5))) ≡ c.before.place.given.0.1.0
+  suffixes : greatest_found (greatest record_key (id start5) (rows_of records_layout (rs start5))) ≡ c.before.place.given.0.1.0
   suffixes =
-      (table-lacks recordsLayout recordKey records-first (rs start5) (key_of (id start5) (pos 0)) _ _ (sym (answer-4 c.before.before.before) ∙ c.before.place.given.1)).greatest-is
+      (table-lacks records_layout record_key records-first (rs start5) (key_of (id start5) (pos 0)) _ _ (sym (answer-4 c.before.before.before) ∙ c.before.place.given.1)).greatest-is
 
 returns-3 : tie.Need-returns-3
 unfolding is_some
@@ -122,7 +122,7 @@ module _ (c : tie.After-enum-told2) where
   abbrev told : tie.After-known-told
   told = c.before.before
 
-  new-id : greatest recordKey (id (start5 told)) (rows_of recordsLayout (rs (start5 told))) ≡ none
+  new-id : greatest record_key (id (start5 told)) (rows_of records_layout (rs (start5 told))) ≡ none
   new-id = nothing-none _ (suffixes told ∙ c.enum-told2.given.1)
 
   at_5 : From (start5 told) 5
@@ -164,10 +164,10 @@ module _ (c : tie.After-enum-told4) where
   abbrev start6 : tie.Start
   start6 = start5 (told (fresh located))
 
-  none-missing : any_of (map isMissing (sourcesIn (rs start6) (list start6))) ≡ false
+  none-missing : any_of (map is_missing (sources_in (rs start6) (list start6))) ≡ false
   none-missing = nowhere-tells _ (sym located.locate.ensures.0 ∙ c.enum-told4.given.1)
 
-  rows-known : rowsKnown (rs start6) (list start6) located.locate.last.1.1.0 × suffixesKnown (rs start6) (list start6) located.locate.last.1.1.1.0
+  rows-known : RowsKnown (rs start6) (list start6) located.locate.last.1.1.0 × SuffixesKnown (rs start6) (list start6) located.locate.last.1.1.1.0
   rows-known = located.locate.ensures.1 c.enum-told4.given.1
 
 verdict-on-sources-requires : tie.Need-verdict-on-sources-requires

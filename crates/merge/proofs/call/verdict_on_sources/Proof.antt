@@ -12,18 +12,18 @@ use lib.ListN.{length, get_or}
 use mir.Facts.{to_z-of_z}
 use mir.Syntax.{w64}
 use mir.Val.{to_z, of_z}
-use Rattle.rules.specs.Figures.{isBuy}
+use Rattle.rules.specs.Figures.{is_buy}
 use Rattle.rules.specs.Keyed.{is_some}
-use Rattle.rules.specs.NamedRecord.{noRecord, isElsewhere, isNotAdjustable, statusRefusal}
+use Rattle.rules.specs.NamedRecord.{no_record, is_elsewhere, is_not_adjustable, status_refusal}
 use Rattle.rules.specs.Refusal.{any_of}
-use Rattle.rules.specs.Merge.{pairsOf, isMissing, firstStatusRefusal, closes, first_of, sideDiffers}
+use Rattle.rules.specs.Merge.{pairs_of, is_missing, first_status_refusal, closes, first_of, side_differs}
 use Rattle.rules.specs.declared.Record.{Record}
 use Rattle.requests.proofs.StatusRefusal.{status-number}
 use Rattle.scan.proofs.ReadBack.{read_back}
 use Rattle.verdict.specs.declared.Verdict.TheVariants.{Refused}
 use Rattle.verdict.proofs.Remaining.{◌past◌, stops_at}
-use Rattle.merge_sources.specs.Sources.{sourcesIn, place_of, sourceRecords}
-use Rattle.merge_sources.specs.Pairs.{repeatsFrom, repeatedPlace}
+use Rattle.merge_sources.specs.Sources.{sources_in, place_of, source_records}
+use Rattle.merge_sources.specs.Pairs.{repeats_from, repeated_place}
 use Rattle.merge_sources.specs.declared.Place.TheVariants.{At}
 use Rattle.merge_sources.proofs.MergeFacts.{figures-count}
 use Rattle.merge_sources.proofs.MergeVerdict.{MergeFrom, merge-tests}
@@ -51,7 +51,7 @@ module _ (s : tie.Start) where
   list = s.args.pairs.now
 
   abbrev sources : List Record
-  sources = sourceRecords rs list
+  sources = source_records rs list
 
   count : (2 ≤ length list / 2) × (length list ≤ 2000)
   count = figures-count id account series list s.pre.1.0
@@ -66,14 +66,14 @@ module _ (s : tie.Start) where
       merge-tests rs s.args.positions.now id account series list
       past ap not s.pre.1.0
       past ap is_some s.pre.1.1
-      past not-true (any_of (map isMissing (sourcesIn rs list))) s.pre.1.2
+      past not-true (any_of (map is_missing (sources_in rs list))) s.pre.1.2
 
 -- ---- test 6
 
 abbrev start6 : tie.After-first-failing → tie.Start
 start6 c = c.before.before.before
 
-answer-6 : (c : tie.After-first-failing) → c.first-failing.result ≡ place_of (map (isElsewhere (account (start6 c)) (series (start6 c))) (sources (start6 c)))
+answer-6 : (c : tie.After-first-failing) → c.first-failing.result ≡ place_of (map (is_elsewhere (account (start6 c)) (series (start6 c))) (sources (start6 c)))
 answer-6 c =
     let s : tie.Start = start6 c in
     rw (← fails-6 (account s) (series s) true) (simp (to_z-of_z s.fits.account, to_z-of_z s.fits.series) at c.first-failing.ensures)
@@ -104,13 +104,13 @@ module _ (c : tie.After-enum-told) where
   abbrev past6 : tie.Start
   past6 = start6 c.before.before
 
-  here : any_of (map (isElsewhere (account past6) (series past6)) (sources past6)) ≡ false
+  here : any_of (map (is_elsewhere (account past6) (series past6)) (sources past6)) ≡ false
   here = nowhere-tells _ (sym (answer-6 c.before.before) ∙ c.enum_told.given.1)
 
   at_7 : From past6 7
   at_7 = at-6 past6 past here
 
-answer-7 : (c : tie.After-first-failing2) → c.first-failing2.result ≡ place_of (map isNotAdjustable (sources (past6 c.before)))
+answer-7 : (c : tie.After-first-failing2) → c.first-failing2.result ≡ place_of (map is_not_adjustable (sources (past6 c.before)))
 answer-7 c =
     let s : tie.Start = past6 c.before in
     rw (← fails-7 (account s) (series s) true) (simp (to_z-of_z s.fits.account, to_z-of_z s.fits.series) at c.first-failing2.ensures)
@@ -129,7 +129,7 @@ module _ (c : tie.After-known-told2) where
   abbrev start7 : tie.Start
   start7 = past6 failed7.before
 
-  place7 : place_of (map isNotAdjustable (sources start7)) ≡ At c.before.i2.given.0.0
+  place7 : place_of (map is_not_adjustable (sources start7)) ≡ At c.before.i2.given.0.0
   place7 = sym (answer-7 failed7) ∙ c.before.i2.given.1
 
   within7 : c.before.i2.given.0.0 < length (list start7) / 2
@@ -141,14 +141,14 @@ source-record-requires c κs =
     (s.pre.0.0, s.pre.0.3, omega (arith, within7 c))
 
 -- Its number.
-number-7 : (c : tie.After-status-refusal) → to_z w64 (of_z w64 c.status-refusal.result) ≡ pos (firstStatusRefusal (sources (start7 c.before.before.before)))
+number-7 : (c : tie.After-status-refusal) → to_z w64 (of_z w64 c.status-refusal.result) ≡ pos (first_status_refusal (sources (start7 c.before.before.before)))
 number-7 c =
     let k : tie.After-known-told2 = c.before.before.before in
     let s : tie.Start = start7 k in
     let r : Record = c.before.before.source-record.result in
-    let failing : get_or (sources s) k.before.i2.given.0.0 noRecord ≡ r = record-found (rs s) (list s) _ (within7 k) r c.before.before.source-record.ensures in
+    let failing : get_or (sources s) k.before.i2.given.0.0 no_record ≡ r = record-found (rs s) (list s) _ (within7 k) r c.before.before.source-record.ensures in
     status-number (sfits_of c.status-refusal.type-inv) (sfits_of {w = w64} {z = r.status} c.before.struct_told.given.1.1.1.1.0.1) c.status-refusal.ensures
-    ∙ ap (λ (x : Record). pos (statusRefusal x.status)) (sym failing)
+    ∙ ap (λ (x : Record). pos (status_refusal x.status)) (sym failing)
     ∙ ap pos (sym (status-at (sources s) _ (place7 k)))
 
 refused-at-requires-2 : tie.Need-refused-at-requires-2
@@ -173,7 +173,7 @@ module _ (c : tie.After-enum-told2) where
   abbrev past7 : tie.Start
   past7 = past6 c.before.before.before
 
-  adjustable : any_of (map isNotAdjustable (sources past7)) ≡ false
+  adjustable : any_of (map is_not_adjustable (sources past7)) ≡ false
   adjustable = nowhere-tells _ (sym (answer-7 c.before.before) ∙ c.enum-told2.given.1)
 
   at_8 : From past7 8
@@ -216,8 +216,8 @@ module _ (c : tie.After-enum-told3) where
   at_9 : From past8 9
   at_9 = at_8 c.before.before.before past opening
 
-answer-9 : (c : tie.After-first-repeated) → c.first-repeated.result ≡ place_of (repeatsFrom [] (pairsOf (list (past8 c.before))))
-unfolding repeatedPlace
+answer-9 : (c : tie.After-first-repeated) → c.first-repeated.result ≡ place_of (repeats_from [] (pairs_of (list (past8 c.before))))
+unfolding repeated_place
 answer-9 c = c.first-repeated.ensures
 
 first-repeated-requires : tie.Need-first-repeated-requires
@@ -246,7 +246,7 @@ module _ (c : tie.After-enum-told4) where
   abbrev past9 : tie.Start
   past9 = past8 c.before.before.before
 
-  differ : any_of (repeatsFrom [] (pairsOf (list past9))) ≡ false
+  differ : any_of (repeats_from [] (pairs_of (list past9))) ≡ false
   differ = nowhere-tells _ (sym (answer-9 c.before.before) ∙ c.enum-told4.given.1)
 
   at-10 : From past9 10
@@ -261,10 +261,10 @@ module _ (c : tie.After-source-record2) where
       let several : 2 ≤ length (list at_first) / 2 = (count at_first).0 in
       first-at (rs at_first) (list at_first) ∙ record-found (rs at_first) (list at_first) 0 (omega arith) c.source-record2.result c.source-record2.ensures
 
-  side-is : isBuy c.source-record2.result.side ≡ isBuy (first_of (sources at_first)).side
-  side-is = ap (λ (r : Record). isBuy r.side) (sym first-is)
+  side-is : is_buy c.source-record2.result.side ≡ is_buy (first_of (sources at_first)).side
+  side-is = ap (λ (r : Record). is_buy r.side) (sym first-is)
 
-buy-is : (c : tie.After-is-buy) → c.is-buy.result ≡ isBuy (first_of (sources (at_first c.before.before))).side
+buy-is : (c : tie.After-is-buy) → c.is-buy.result ≡ is_buy (first_of (sources (at_first c.before.before))).side
 buy-is c =
     let a : tie.After-source-record2 = c.before.before in
     (simp (read_back a.source-record2.result.side c.before.struct-told2.given.1.1.1.1.1.1.1.0.1) at c.is-buy.ensures) ∙ side-is a
@@ -272,7 +272,7 @@ buy-is c =
 abbrev start10 : tie.After-first-failing4 → tie.Start
 start10 c = at_first c.before.before.before
 
-answer-10 : (c : tie.After-first-failing4) → c.first-failing4.result ≡ place_of (map (sideDiffers (first_of (sources (start10 c)))) (sources (start10 c)))
+answer-10 : (c : tie.After-first-failing4) → c.first-failing4.result ≡ place_of (map (side_differs (first_of (sources (start10 c)))) (sources (start10 c)))
 answer-10 c =
     let s : tie.Start = start10 c in
     rw (← fails-10 (account s) (series s) c.before.is-buy.result (first_of (sources s)) (buy-is c.before))
@@ -309,14 +309,14 @@ enum-told-5 c = search rules
 
 -- ---- the tests on the sums
 
-one_side : (c : tie.After-enum-told5) → let s : tie.Start = start10 c.before.before in any_of (map (sideDiffers (first_of (sources s))) (sources s)) ≡ false
+one_side : (c : tie.After-enum-told5) → let s : tie.Start = start10 c.before.before in any_of (map (side_differs (first_of (sources s))) (sources s)) ≡ false
 one_side c = nowhere-tells _ (sym (answer-10 c.before.before) ∙ c.enum-told5.given.1)
 
 -- The first source, whose side is read again.
 abbrev first_read : tie.After-is-buy2 → tie.After-source-record2
 first_read c = c.before.before.before.before.before.before.before
 
-buy-again : (c : tie.After-is-buy2) → c.is-buy2.result ≡ isBuy (first_of (sources (at_first (first_read c)))).side
+buy-again : (c : tie.After-is-buy2) → c.is-buy2.result ≡ is_buy (first_of (sources (at_first (first_read c)))).side
 buy-again c =
     let a : tie.After-source-record2 = first_read c in
     (simp (read_back a.source-record2.result.side c.before.struct-told3.given.1.1.1.1.1.1.1.0.1) at c.is-buy2.ensures) ∙ side-is a

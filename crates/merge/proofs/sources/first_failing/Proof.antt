@@ -13,7 +13,7 @@ use mir.Syntax.{w64}
 use mir.Val.{to_z}
 use Rattle.rules.specs.Refusal.{any_of}
 use Rattle.rules.specs.declared.Record.{Record}
-use Rattle.merge_sources.specs.Sources.{failsTest, sourceRecords}
+use Rattle.merge_sources.specs.Sources.{fails_test, source_records}
 use Rattle.merge_sources.proofs.Places.{none-at-first, none-next, place_here, place-at-last}
 use Rattle.merge_sources.proofs.SourceList.{record-count, record-test, found-record}
 use Rattle.merge.proofs.sources.first_failing.Statement.{statement}
@@ -22,7 +22,7 @@ use Rattle.merge.proofs.sources.first_failing.Tie as tie
 -- ---- the tests of this call
 
 abbrev fails : ℤ → ℤ → ℤ → Bool → List ℤ → List ℤ → List Bool
-fails number account series buy cells pairs = map (failsTest number account series buy) (sourceRecords cells pairs)
+fails number account series buy cells pairs = map (fails_test number account series buy) (source_records cells pairs)
 
 abbrev invariant-loop : tie.invariant-loop
 invariant-loop records pairs rows number account series buy count i₀ i =
@@ -39,13 +39,13 @@ module _ (s : tie.Start invariant-loop decreases-loop) where
   list = s.args.pairs.now
 
   abbrev test : Record → Bool
-  test = failsTest s.args.number s.args.account s.args.series s.args.buy
+  test = fails_test s.args.number s.args.account s.args.series s.args.buy
 
   abbrev all : List Bool
-  all = map test (sourceRecords cells list)
+  all = map test (source_records cells list)
 
   many : length all ≡ length list / 2
-  many = length-map (sourceRecords cells list) test ∙ record-count cells list
+  many = length-map (source_records cells list) test ∙ record-count cells list
 
 -- The invariant over the request's figures, and the test of this turn's source.
 so_far : (a : tie.At-loop invariant-loop decreases-loop) → any_of (take a.loop.i (all a.before.before)) ≡ false

@@ -12,15 +12,15 @@ use mir.Facts.{to_z-of_z, to_z_pos}
 use mir.Syntax.{w64}
 use mir.Val.{SFits, to_z, of_z}
 use Rattle.integers.proofs.Linear.{zarith, +-lin}
-use Rattle.rules.specs.NamedRecord.{nextSuffix}
+use Rattle.rules.specs.NamedRecord.{next_suffix}
 use Rattle.rules.specs.Refusal.{any_of}
-use Rattle.rules.specs.Plan.{suffixIsAbove}
+use Rattle.rules.specs.Plan.{suffix_is_above}
 use Rattle.rules.specs.Layout.{rows_of}
-use Rattle.rules.specs.Tables.{recordsLayout}
-use Rattle.rules.specs.Merge.{mergeInverses}
+use Rattle.rules.specs.Tables.{records_layout}
+use Rattle.rules.specs.Merge.{merge_inverses}
 use Rattle.soundness.proofs.NamedRecord.{next_of}
-use Rattle.merge_sources.specs.Sources.{sourcesIn}
-use Rattle.merge_sources.specs.Pairs.{pair_at, timesEarlier}
+use Rattle.merge_sources.specs.Sources.{sources_in}
+use Rattle.merge_sources.specs.Pairs.{pair_at, times_earlier}
 use Rattle.merge_sources.proofs.Places.{none-at-first, none-next, none-at-last, one_holds}
 use Rattle.merge_sources.proofs.Earlier.{times-earlier, times-range}
 use Rattle.merge_sources.proofs.Inverses.{suffix-count, suffix-at}
@@ -29,7 +29,7 @@ use Rattle.merge.proofs.sources.suffix_above.Statement.{statement}
 use Rattle.merge.proofs.sources.suffix_above.Tie as tie
 
 abbrev above : List ℤ → List ℤ → List Bool
-above cells pairs = map suffixIsAbove (mergeInverses (pos 0) (pos 0) [] (sourcesIn cells pairs))
+above cells pairs = map suffix_is_above (merge_inverses (pos 0) (pos 0) [] (sources_in cells pairs))
 
 abbrev invariant-loop : tie.invariant-loop
 invariant-loop records pairs suffixes count i₀ i = (i ≤ length pairs / 2) × (any_of (take i (above records pairs)) ≡ false)
@@ -61,9 +61,9 @@ module _ (c : tie.After-shared-slice-known2 invariant-loop decreases-loop) where
   small : suffix < 65536
   small = omega (arith, c.shared-slice-known2.given here.loop.i)
 
-  next-is : next_of (rows_of recordsLayout cells) (pair_at list here.loop.i).major ≡ pos suffix +ℤ pos 1
-  unfolding nextSuffix
-  next-is = ap nextSuffix kept.1
+  next-is : next_of (rows_of records_layout cells) (pair_at list here.loop.i).major ≡ pos suffix +ℤ pos 1
+  unfolding next_suffix
+  next-is = ap next_suffix kept.1
 
   -- As the code has it.
   bits : to_z w64 suffix ≡ pos suffix
@@ -80,14 +80,14 @@ module _ (c : tie.After-times-earlier invariant-loop decreases-loop) where
   i = (here k).loop.i
 
   abbrev times : ℤ
-  times = timesEarlier (list k) i
+  times = times_earlier (list k) i
 
   abbrev sum : ℤ
   sum = to_z w64 (of_z w64 (to_z w64 (suffix k) +ℤ pos 1)) +ℤ to_z w64 (of_z w64 c.times-earlier.result)
 
   times-small : (pos 0 ≤ℤ times) × (times ≤ℤ pos i)
   times-small =
-      let e : timesEarlier (list k) i ≡ _ = times-earlier (list k) i in
+      let e : times_earlier (list k) i ≡ _ = times-earlier (list k) i in
       let r = times-range (list k) i (pair_at (list k) i).major in
       rw e r
 

@@ -10,21 +10,21 @@ use lib.ListN.{length, take}
 use mir.Facts.{to_z-of_z}
 use mir.Syntax.{w64}
 use mir.Val.{SFits, to_z}
-use Rattle.rules.specs.NamedRecord.{noRecord}
+use Rattle.rules.specs.NamedRecord.{no_record}
 use Rattle.rules.specs.declared.Record.{Record}
-use Rattle.merge_sources.specs.Sources.{sourceRecords}
+use Rattle.merge_sources.specs.Sources.{source_records}
 use Rattle.merge_sources.proofs.SourceList.{record-count, record-found}
-use Rattle.merge_sources.proofs.Sums.{sumOver, quantityOf, quantities-sum, sum-at-first, sum-next, sum-at-last}
+use Rattle.merge_sources.proofs.Sums.{sum_over, quantity_of, quantities-sum, sum-at-first, sum-next, sum-at-last}
 use Rattle.merge_sources.proofs.SourceSums.{quantity-sum-fits}
 use Rattle.merge.proofs.sources.sum_of_quantities.Statement.{statement}
 use Rattle.merge.proofs.sources.sum_of_quantities.Tie as tie
 
 -- The sum of the first so many.
-abbrev sumFirst : List ℤ → List ℤ → ℕ → ℤ
-sumFirst cells pairs i = sumOver quantityOf (take i (sourceRecords cells pairs))
+abbrev sum_first : List ℤ → List ℤ → ℕ → ℤ
+sum_first cells pairs i = sum_over quantity_of (take i (source_records cells pairs))
 
 abbrev invariant-loop : tie.invariant-loop
-invariant-loop records pairs rows count sum₀ i₀ sum i = (i ≤ length pairs / 2) × (to_z w64 sum ≡ sumFirst records pairs i)
+invariant-loop records pairs rows count sum₀ i₀ sum i = (i ≤ length pairs / 2) × (to_z w64 sum ≡ sum_first records pairs i)
 
 abbrev decreases-loop : tie.decreases-loop
 decreases-loop records pairs rows count sum₀ i₀ sum i = length pairs / 2 - i
@@ -36,7 +36,7 @@ module _ (s : tie.Start invariant-loop decreases-loop) where
   abbrev list : List ℤ
   list = s.args.pairs.now
 
-  sum_fits : (i : ℕ) → i ≤ length list / 2 → SFits w64 (sumFirst cells list i)
+  sum_fits : (i : ℕ) → i ≤ length list / 2 → SFits w64 (sum_first cells list i)
   sum_fits i h = quantity-sum-fits cells list s.pre.0 s.pre.2 i h s.pre.3
 
 -- One more source, in the words of the code.
@@ -56,18 +56,18 @@ module _ (c : tie.After-struct-told invariant-loop decreases-loop) where
   quantity-fits : SFits w64 r.quantity
   quantity-fits = sfits_of {w = w64} {z = r.quantity} c.struct_told.given.1.1.1.1.1.1.1.1.0.1
 
-  one_more : to_z w64 here.before.loop.sum +ℤ r.quantity ≡ sumFirst (cells s) (list s) (i + 1)
+  one_more : to_z w64 here.before.loop.sum +ℤ r.quantity ≡ sum_first (cells s) (list s) (i + 1)
   one_more =
       ap (λ (z : ℤ). z +ℤ r.quantity) here.before.loop.inv.1
-      ∙ ap (λ (x : Record). sumFirst (cells s) (list s) i +ℤ x.quantity)
+      ∙ ap (λ (x : Record). sum_first (cells s) (list s) i +ℤ x.quantity)
       (sym (record-found (cells s) (list s) i here.loop-test.taken r c.before.before.source-record.ensures))
-      ∙ sym (sum-next quantityOf (sourceRecords (cells s) (list s)) i noRecord (omega (arith, record-count (cells s) (list s), here.loop-test.taken)))
+      ∙ sym (sum-next quantity_of (source_records (cells s) (list s)) i no_record (omega (arith, record-count (cells s) (list s), here.loop-test.taken)))
 
   more-fits : SFits w64 (to_z w64 here.before.loop.sum +ℤ r.quantity)
   more-fits = subst (λ (z : ℤ). SFits w64 z) (sym one_more) (sum_fits s (i + 1) (omega (arith, here.loop-test.taken)))
 
 loop-holds : tie.Need-loop-init invariant-loop decreases-loop
-loop-holds c = (omega arith, sym (sum-at-first quantityOf []))
+loop-holds c = (omega arith, sym (sum-at-first quantity_of []))
 
 source-record-requires : tie.Need-source-record-requires invariant-loop decreases-loop
 source-record-requires c κs =
@@ -89,8 +89,8 @@ loop-again c = (omega arith, simp (to_z-of_z (quantity-fits c), to_z-of_z (more-
 returns : tie.Need-returns invariant-loop decreases-loop
 returns c =
     let s : tie.Start invariant-loop decreases-loop = c.before.before.before in
-    let rs : List Record = sourceRecords (cells s) (list s) in
-    c.before.loop.invariant.1 ∙ sum-at-last quantityOf rs c.before.loop.i (omega (arith, record-count (cells s) (list s), c.loop-test.false)) ∙ sym (quantities-sum rs)
+    let rs : List Record = source_records (cells s) (list s) in
+    c.before.loop.invariant.1 ∙ sum-at-last quantity_of rs c.before.loop.i (omega (arith, record-count (cells s) (list s), c.loop-test.false)) ∙ sym (quantities-sum rs)
 
 pub sum-of-quantities-spec : {M : Type 1} → statement M
 sum-of-quantities-spec = tie.close (tie.spec invariant-loop decreases-loop loop-holds source-record-requires add-sum add-i loop-less loop-again returns)

@@ -10,22 +10,22 @@ use lib.ListN.{length, get_or, take}
 use mir.Facts.{to_z-of_z}
 use mir.Syntax.{w64}
 use mir.Val.{SFits, to_z}
-use Rattle.rules.specs.NamedRecord.{noRecord}
+use Rattle.rules.specs.NamedRecord.{no_record}
 use Rattle.rules.specs.declared.Record.{Record}
-use Rattle.merge_sources.specs.Sources.{sourceRecords}
+use Rattle.merge_sources.specs.Sources.{source_records}
 use Rattle.merge_sources.proofs.SourceList.{record-count, record-found, record-at}
-use Rattle.merge_sources.proofs.Sums.{sumOver, value_of, values-sum, sum-at-first, sum-next, sum-at-last}
+use Rattle.merge_sources.proofs.Sums.{sum_over, value_of, values-sum, sum-at-first, sum-next, sum-at-last}
 use Rattle.merge_sources.proofs.SumRanges.{Priced}
 use Rattle.merge_sources.proofs.SourceSums.{source-priced, value-fits, value-sum-fits}
 use Rattle.merge.proofs.sources.sum_of_values.Statement.{statement}
 use Rattle.merge.proofs.sources.sum_of_values.Tie as tie
 
 -- The sum of the first so many.
-abbrev sumFirst : List ℤ → List ℤ → ℕ → ℤ
-sumFirst cells pairs i = sumOver value_of (take i (sourceRecords cells pairs))
+abbrev sum_first : List ℤ → List ℤ → ℕ → ℤ
+sum_first cells pairs i = sum_over value_of (take i (source_records cells pairs))
 
 abbrev invariant-loop : tie.invariant-loop
-invariant-loop records pairs rows count sum₀ i₀ sum i = (i ≤ length pairs / 2) × (to_z w64 sum ≡ sumFirst records pairs i)
+invariant-loop records pairs rows count sum₀ i₀ sum i = (i ≤ length pairs / 2) × (to_z w64 sum ≡ sum_first records pairs i)
 
 abbrev decreases-loop : tie.decreases-loop
 decreases-loop records pairs rows count sum₀ i₀ sum i = length pairs / 2 - i
@@ -51,12 +51,12 @@ module _ (c : tie.After-struct-told invariant-loop decreases-loop) where
   abbrev r : Record
   r = c.before.before.source-record.result
 
-  r-at : get_or (sourceRecords (cells s) (list s)) i noRecord ≡ r
+  r-at : get_or (source_records (cells s) (list s)) i no_record ≡ r
   r-at = record-found (cells s) (list s) i here.loop-test.taken r c.before.before.source-record.ensures
 
   r-priced : Priced r
   r-priced =
-      subst Priced (sym (record-at (cells s) (list s) i here.loop-test.taken noRecord) ∙ r-at)
+      subst Priced (sym (record-at (cells s) (list s) i here.loop-test.taken no_record) ∙ r-at)
       (source-priced (cells s) (list s) s.pre.0 s.pre.2 s.pre.4 i here.loop-test.taken)
 
   product-fits : SFits w64 (r.quantity *ℤ r.price)
@@ -68,11 +68,11 @@ module _ (c : tie.After-struct-told invariant-loop decreases-loop) where
   price-fits : SFits w64 r.price
   price-fits = sfits_of {w = w64} {z = r.price} c.struct_told.given.1.1.1.1.1.1.1.1.1.0.1
 
-  one_more : to_z w64 here.before.loop.sum +ℤ (r.quantity *ℤ r.price) ≡ sumFirst (cells s) (list s) (i + 1)
+  one_more : to_z w64 here.before.loop.sum +ℤ (r.quantity *ℤ r.price) ≡ sum_first (cells s) (list s) (i + 1)
   one_more =
       ap (λ (z : ℤ). z +ℤ (r.quantity *ℤ r.price)) here.before.loop.inv.1
-      ∙ ap (λ (x : Record). sumFirst (cells s) (list s) i +ℤ value_of x) (sym r-at)
-      ∙ sym (sum-next value_of (sourceRecords (cells s) (list s)) i noRecord (omega (arith, record-count (cells s) (list s), here.loop-test.taken)))
+      ∙ ap (λ (x : Record). sum_first (cells s) (list s) i +ℤ value_of x) (sym r-at)
+      ∙ sym (sum-next value_of (source_records (cells s) (list s)) i no_record (omega (arith, record-count (cells s) (list s), here.loop-test.taken)))
 
   more-fits : SFits w64 (to_z w64 here.before.loop.sum +ℤ (r.quantity *ℤ r.price))
   more-fits =
@@ -105,7 +105,7 @@ loop-again c =
 returns : tie.Need-returns invariant-loop decreases-loop
 returns c =
     let s : tie.Start invariant-loop decreases-loop = c.before.before.before in
-    let rs : List Record = sourceRecords (cells s) (list s) in
+    let rs : List Record = source_records (cells s) (list s) in
     c.before.loop.invariant.1 ∙ sum-at-last value_of rs c.before.loop.i (omega (arith, record-count (cells s) (list s), c.loop-test.false)) ∙ sym (values-sum rs)
 
 pub sum-of-values-spec : {M : Type 1} → statement M

@@ -9,26 +9,26 @@ use lib.Dec.{eqb}
 use lib.IntN.{ℤ}
 use lib.ListN.{length, drop}
 use mir.Facts.{to_z-of_z}
-use Rattle.rules.specs.Figures.{validId, validAccount, validSeries, validCount}
+use Rattle.rules.specs.Figures.{valid_id, valid_account, valid_series, valid_count}
 use Rattle.rules.specs.Refusal.{all_of}
-use Rattle.rules.specs.Merge.{pairsOf, mergeFigures}
+use Rattle.rules.specs.Merge.{pairs_of, merge_figures}
 use Rattle.figures.proofs.Chain.{Remaining, goes_on, stops, ends}
-use Rattle.merge_sources.proofs.PairTests.{validPairs, too_few, too_many, right-count}
+use Rattle.merge_sources.proofs.PairTests.{valid_pairs, too_few, too_many, right-count}
 use Rattle.merge_sources.proofs.pairs.figures_valid.Statement.{statement}
 use Rattle.merge_sources.proofs.pairs.figures_valid.Tie as tie
 
 -- the tests, in the order of the code
 abbrev tests : ℤ → ℤ → ℤ → List ℤ → List Bool
 tests id account series pairs =
-    validId id ∷ validAccount account ∷ validSeries series ∷ eqb (length pairs % 2) 0 ∷ validCount (length (pairsOf pairs)) ∷ all_of (validPairs pairs) ∷ []
+    valid_id id ∷ valid_account account ∷ valid_series series ∷ eqb (length pairs % 2) 0 ∷ valid_count (length (pairs_of pairs)) ∷ all_of (valid_pairs pairs) ∷ []
 
 -- what remains after so many of them
 abbrev After : ℕ → tie.Start → Type 0
 After k s =
-    Remaining (mergeFigures s.args.id s.args.account s.args.series s.args.pairs.now) (drop k (tests s.args.id s.args.account s.args.series s.args.pairs.now))
+    Remaining (merge_figures s.args.id s.args.account s.args.series s.args.pairs.now) (drop k (tests s.args.id s.args.account s.args.series s.args.pairs.now))
 
 all-remain : (s : tie.Start) → After 0 s
-unfolding mergeFigures
+unfolding merge_figures
 all-remain s = record { is = refl }
 
 -- a test that is true, or false, on its own
@@ -38,19 +38,19 @@ holds m e = goes_on m (sym e) refl
 fails : {whole t : Bool} {rest : List Bool} → Remaining whole (t ∷ rest) → t ≡ false → false ≡ whole
 fails m e = stops m (sym e) refl
 
-id-test : (c : tie.After-valid-id) → c.valid-id.result ≡ validId c.before.args.id
+id-test : (c : tie.After-valid-id) → c.valid-id.result ≡ valid_id c.before.args.id
 id-test c = simp (to_z-of_z c.before.ranges.id) at c.valid-id.ensures
 
 after1 : (c : tie.Else1) → After 1 c.before.before
 after1 c = goes_on (all-remain c.before.before) (id-test c.before) c.if1.false
 
-account-test : (c : tie.After-valid-account) → c.valid-account.result ≡ validAccount c.before.before.before.args.account
+account-test : (c : tie.After-valid-account) → c.valid-account.result ≡ valid_account c.before.before.before.args.account
 account-test c = simp (to_z-of_z c.before.before.before.ranges.account) at c.valid-account.ensures
 
 after2 : (c : tie.Else2) → After 2 c.before.before.before.before
 after2 c = goes_on (after1 c.before.before) (account-test c.before) c.if2.false
 
-series-test : (c : tie.After-valid-series) → c.valid-series.result ≡ validSeries c.before.before.before.before.before.args.series
+series-test : (c : tie.After-valid-series) → c.valid-series.result ≡ valid_series c.before.before.before.before.before.args.series
 series-test c = simp (to_z-of_z c.before.before.before.before.before.ranges.series) at c.valid-series.ensures
 
 after3 : (c : tie.Else3) → After 3 c.before.before.before.before.before.before

@@ -8,15 +8,15 @@ use mathlib.Core.List.{List, []}
 use lib.IntN.{ℤ}
 use lib.ListN.{length, take}
 use Rattle.rules.specs.Refusal.{any_of}
-use Rattle.rules.specs.Merge.{pairsOf}
-use Rattle.merge_sources.specs.Pairs.{repeatsFrom, repeatedPlace}
+use Rattle.rules.specs.Merge.{pairs_of}
+use Rattle.merge_sources.specs.Pairs.{repeats_from, repeated_place}
 use Rattle.merge_sources.proofs.Places.{none-at-first, none-next, place_here, place-at-last}
 use Rattle.merge_sources.proofs.Earlier.{repeat-count, repeat-at}
 use Rattle.merge_sources.proofs.pairs.first_repeated.Statement.{statement}
 use Rattle.merge_sources.proofs.pairs.first_repeated.Tie as tie
 
 abbrev repeats : List ℤ → List Bool
-repeats pairs = repeatsFrom [] (pairsOf pairs)
+repeats pairs = repeats_from [] (pairs_of pairs)
 
 abbrev invariant-loop : tie.invariant-loop
 invariant-loop pairs count i₀ i = (i ≤ length pairs / 2) × (any_of (take i (repeats pairs)) ≡ false)
@@ -34,7 +34,7 @@ stands-earlier-requires : tie.Need-stands-earlier-requires invariant-loop decrea
 stands-earlier-requires c κs = omega arith
 
 returns : tie.Need-returns invariant-loop decreases-loop
-unfolding repeatedPlace
+unfolding repeated_place
 returns c =
     let a : tie.At-loop invariant-loop decreases-loop = c.before.before.before in
     sym (place_here (repeats (list a)) a.loop.i (omega (arith, repeat-count (list a))) a.loop.invariant.1
@@ -55,7 +55,7 @@ loop-again c =
     )
 
 returns-2 : tie.Need-returns-2 invariant-loop decreases-loop
-unfolding repeatedPlace
+unfolding repeated_place
 returns-2 c =
     let a : tie.At-loop invariant-loop decreases-loop = c.before in
     sym (place-at-last (repeats (list a)) a.loop.i (omega (arith, repeat-count (list a))) a.loop.invariant.1)

@@ -10,34 +10,34 @@ use lib.ListN.{length, get_or, take}
 use mir.Facts.{to_z-of_z}
 use mir.Syntax.{w64}
 use mir.Val.{SFits}
-use Rattle.rules.specs.Figures.{validId, validSuffix}
+use Rattle.rules.specs.Figures.{valid_id, valid_suffix}
 use Rattle.rules.specs.Refusal.{all_of}
 use Rattle.figures.proofs.Tests.{failed, passed}
 use Rattle.merge_sources.proofs.Places.{all-at-first}
-use Rattle.merge_sources.proofs.PairTests.{validPairs, pairs-in-range, id-out-of-range, suffix-out-of-range, pair-in-range}
+use Rattle.merge_sources.proofs.PairTests.{valid_pairs, pairs-in-range, id-out-of-range, suffix-out-of-range, pair-in-range}
 use Rattle.merge_sources.proofs.pairs.pairs_valid.Statement.{statement}
 use Rattle.merge_sources.proofs.pairs.pairs_valid.Tie as tie
 
 abbrev invariant-loop : tie.invariant-loop
-invariant-loop pairs count i₀ i = (i ≤ length pairs / 2) × (all_of (take i (validPairs pairs)) ≡ true)
+invariant-loop pairs count i₀ i = (i ≤ length pairs / 2) × (all_of (take i (valid_pairs pairs)) ≡ true)
 
 abbrev decreases-loop : tie.decreases-loop
 decreases-loop pairs count i₀ i = length pairs / 2 - i
 
-abbrev theId : tie.After-valid-id invariant-loop decreases-loop → ℤ
-theId c = get_or c.before.before.before.before.args.pairs.now (2 * c.before.before.before.loop.i) (pos 0)
+abbrev the_id : tie.After-valid-id invariant-loop decreases-loop → ℤ
+the_id c = get_or c.before.before.before.before.args.pairs.now (2 * c.before.before.before.loop.i) (pos 0)
 
-id-test : (c : tie.After-valid-id invariant-loop decreases-loop) → c.valid-id.result ≡ validId (theId c)
-id-test c = let f : SFits w64 (theId c) = sfits_of c.before.valid-id-arg.given in simp (to_z-of_z f) at c.valid-id.ensures
+id-test : (c : tie.After-valid-id invariant-loop decreases-loop) → c.valid-id.result ≡ valid_id (the_id c)
+id-test c = let f : SFits w64 (the_id c) = sfits_of c.before.valid-id-arg.given in simp (to_z-of_z f) at c.valid-id.ensures
 
-abbrev theSuffix : tie.After-valid-suffix invariant-loop decreases-loop → ℤ
-theSuffix c = get_or c.before.before.before.before.before.before.before.args.pairs.now (2 * c.before.before.before.before.before.before.loop.i + 1) (pos 0)
+abbrev the_suffix : tie.After-valid-suffix invariant-loop decreases-loop → ℤ
+the_suffix c = get_or c.before.before.before.before.before.before.before.args.pairs.now (2 * c.before.before.before.before.before.before.loop.i + 1) (pos 0)
 
-suffix-test : (c : tie.After-valid-suffix invariant-loop decreases-loop) → c.valid-suffix.result ≡ validSuffix (theSuffix c)
-suffix-test c = let f : SFits w64 (theSuffix c) = sfits_of c.before.valid-suffix-arg.given in simp (to_z-of_z f) at c.valid-suffix.ensures
+suffix-test : (c : tie.After-valid-suffix invariant-loop decreases-loop) → c.valid-suffix.result ≡ valid_suffix (the_suffix c)
+suffix-test c = let f : SFits w64 (the_suffix c) = sfits_of c.before.valid-suffix-arg.given in simp (to_z-of_z f) at c.valid-suffix.ensures
 
 loop-holds : tie.Need-loop-init invariant-loop decreases-loop
-loop-holds c = (omega arith, all-at-first (validPairs c.args.pairs.now))
+loop-holds c = (omega arith, all-at-first (valid_pairs c.args.pairs.now))
 
 mul-valid-id : tie.Need-overflow-mul-valid-id invariant-loop decreases-loop
 mul-valid-id c = omega arith

@@ -11,14 +11,14 @@ use mir.Facts.{to_z-of_z}
 use mir.Syntax.{w64}
 use mir.Val.{SFits}
 use Rattle.rules.specs.Keyed.{same}
-use Rattle.rules.specs.Merge.{isAmong}
-use Rattle.merge_sources.specs.Pairs.{pair_at, earlierPairs, standsEarlier}
+use Rattle.rules.specs.Merge.{is_among}
+use Rattle.merge_sources.specs.Pairs.{pair_at, earlier_pairs, stands_earlier}
 use Rattle.merge_sources.proofs.Earlier.{stands-earlier, earlier-here, earlier-there, earlier-nowhere}
 use Rattle.merge_sources.proofs.pairs.stands_earlier.Statement.{statement}
 use Rattle.merge_sources.proofs.pairs.stands_earlier.Tie as tie
 
 abbrev invariant-loop : tie.invariant-loop
-invariant-loop pairs place id suffix j₀ j = (j ≤ place) × (isAmong (pair_at pairs place) (earlierPairs pairs j) ≡ standsEarlier pairs place)
+invariant-loop pairs place id suffix j₀ j = (j ≤ place) × (is_among (pair_at pairs place) (earlier_pairs pairs j) ≡ stands_earlier pairs place)
 
 abbrev decreases-loop : tie.decreases-loop
 decreases-loop pairs place id suffix j₀ j = j

@@ -11,12 +11,12 @@ use lib.Signed.{◌≤ℤ◌}
 use mir.Facts.{to_z-of_z}
 use mir.Syntax.{w64}
 use mir.Val.{SFits, to_z, of_z}
-use Rattle.integers.specs.Order.{eqZ}
+use Rattle.integers.specs.Order.{eq_z}
 use Rattle.integers.proofs.Linear.{zarith, +-lin}
-use Rattle.integers.proofs.Parts.{true-eqZ, false-eqZ}
-use Rattle.integers.proofs.Bits.{ofZ-inj}
-use Rattle.rules.specs.Merge.{timesIn}
-use Rattle.merge_sources.specs.Pairs.{pair_at, earlierIds, timesEarlier}
+use Rattle.integers.proofs.Parts.{true-eq_z, false-eq_z}
+use Rattle.integers.proofs.Bits.{of_z-inj}
+use Rattle.rules.specs.Merge.{times_in}
+use Rattle.merge_sources.specs.Pairs.{pair_at, earlier_ids, times_earlier}
 use Rattle.merge_sources.proofs.Earlier.{times-earlier, times-here, times-there, times-nowhere, times-range}
 use Rattle.merge_sources.proofs.pairs.times_earlier.Statement.{statement}
 use Rattle.merge_sources.proofs.pairs.times_earlier.Tie as tie
@@ -26,7 +26,7 @@ id_at pairs place = (pair_at pairs place).major
 
 abbrev invariant-loop : tie.invariant-loop
 invariant-loop pairs place id times₀ j₀ times j =
-    (j ≤ place) × (pos 0 ≤ℤ to_z w64 times) × (to_z w64 times +ℤ timesIn (earlierIds pairs j) (id_at pairs place) ≡ timesEarlier pairs place)
+    (j ≤ place) × (pos 0 ≤ℤ to_z w64 times) × (to_z w64 times +ℤ times_in (earlier_ids pairs j) (id_at pairs place) ≡ times_earlier pairs place)
 
 abbrev decreases-loop : tie.decreases-loop
 decreases-loop pairs place id times₀ j₀ times j = j
@@ -45,10 +45,10 @@ module _ (a : tie.At-loop invariant-loop decreases-loop) where
   counted-small : (counted ≤ℤ pos place) × (place < 1000)
   counted-small =
       let id : ℤ = id_at list place in
-      let rest : ℤ = timesIn (earlierIds list a.loop.j) id in
+      let rest : ℤ = times_in (earlier_ids list a.loop.j) id in
       let low : pos 0 ≤ℤ rest = (times-range list a.loop.j id).0 in
-      let high : timesEarlier list place ≤ℤ pos place = subst (λ (z : ℤ). z ≤ℤ pos place) (sym (times-earlier list place)) (times-range list place id).1 in
-      let e : counted +ℤ rest ≡ timesEarlier list place = a.loop.inv.2 in
+      let high : times_earlier list place ≤ℤ pos place = subst (λ (z : ℤ). z ≤ℤ pos place) (sym (times-earlier list place)) (times-range list place id).1 in
+      let e : counted +ℤ rest ≡ times_earlier list place = a.loop.inv.2 in
       (omega (zarith, +-lin counted rest), a.before.before.pre.1)
 
   raised-fits : SFits w64 (counted +ℤ pos 1)
@@ -66,14 +66,14 @@ unfolding pair_at
 id-fits a = sfits_of a.before.id.given
 
 same_id : (c : tie.Then1 invariant-loop decreases-loop) →
-    eqZ (id_at (list c.before.before.before) (c.before.before.before.loop.j - 1)) (id_at (list c.before.before.before) (place c.before.before.before)) ≡ true
+    eq_z (id_at (list c.before.before.before) (c.before.before.before.loop.j - 1)) (id_at (list c.before.before.before) (place c.before.before.before)) ≡ true
 unfolding pair_at
-same_id c = true-eqZ _ _ (ofZ-inj (cell-fits c.before) (id-fits c.before.before.before) c.if1.true)
+same_id c = true-eq_z _ _ (of_z-inj (cell-fits c.before) (id-fits c.before.before.before) c.if1.true)
 
 other-id : (c : tie.Else1 invariant-loop decreases-loop) →
-    eqZ (id_at (list c.before.before.before) (c.before.before.before.loop.j - 1)) (id_at (list c.before.before.before) (place c.before.before.before)) ≡ false
+    eq_z (id_at (list c.before.before.before) (c.before.before.before.loop.j - 1)) (id_at (list c.before.before.before) (place c.before.before.before)) ≡ false
 unfolding pair_at
-other-id c = false-eqZ _ _ (λ e. c.if1.false (ap (of_z w64) e))
+other-id c = false-eq_z _ _ (λ e. c.if1.false (ap (of_z w64) e))
 
 mul-id : tie.Need-overflow-mul-id invariant-loop decreases-loop
 mul-id c = omega arith
@@ -88,7 +88,7 @@ loop-holds : tie.Need-loop-init invariant-loop decreases-loop
 loop-holds c =
     let xs : List ℤ = c.before.args.pairs.now in
     let i : ℕ = c.before.args.place in
-    let s : ℤ = timesIn (earlierIds xs i) (id_at xs i) in
+    let s : ℤ = times_in (earlier_ids xs i) (id_at xs i) in
     let e : pos 0 +ℤ s ≡ s = omega (zarith, +-lin (pos 0) s) in
     (omega arith, omega zarith, e ∙ sym (times-earlier xs i))
 

@@ -1,11 +1,11 @@
 -- `reader::fields::is_digit` meets its contract. Assumes nothing.
 use borrow.Author.Rules.{rules}
-use Rattle.text.specs.Scan.{isDigit}
+use Rattle.text.specs.Scan.{is_digit}
 use Rattle.reader.proofs.fields.is_digit.Statement.{statement}
 use Rattle.reader.proofs.fields.is_digit.Tie as tie
 
 returns : tie.Need-returns
-unfolding isDigit
+unfolding is_digit
 returns c = search rules
 
 pub is-digit-spec : {M : Type 1} → statement M

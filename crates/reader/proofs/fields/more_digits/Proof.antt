@@ -5,7 +5,7 @@ use mathlib.Core.Path.{◌≡◌, sym, ◌∙◌}
 use mathlib.Core.Bool.{true}
 use borrow.Author.Rules.{rules}
 use borrow.Author.Tests.{not-true, not-false}
-use Rattle.text.specs.Scan.{isDigit}
+use Rattle.text.specs.Scan.{is_digit}
 use Rattle.reader.proofs.Places.{before-end}
 use Rattle.reader.proofs.MoreDigits.{DigitsSoFar, digit-range, no-digits, value-widens, digit-read, digits-end, digits-full}
 use Rattle.reader.proofs.fields.more_digits.Statement.{statement}
@@ -30,7 +30,7 @@ module _ (c : tie.Else1 invariant-loop decreases-loop) where
   abbrev b : ℕ
   b = c.before.before.byte_at.result
 
-  digit : isDigit b ≡ true
+  digit : is_digit b ≡ true
   digit = sym c.before.is_digit.ensures ∙ not-false _ c.if1.false
 
   range : (48 ≤ b) × (b ≤ 57)

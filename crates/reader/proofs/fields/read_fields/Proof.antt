@@ -8,8 +8,8 @@ use lib.ListN.{length, drop}
 use mir.Facts.{to_z-of_z}
 use mir.Syntax.{w64}
 use mir.Val.{SFits}
-use Rattle.text.specs.Scan.{takeField}
-use Rattle.reader.specs.Read.{numberAs}
+use Rattle.text.specs.Scan.{take_field}
+use Rattle.reader.specs.Read.{number_as}
 use Rattle.reader.specs.declared.Number.{Number}
 use Rattle.reader.proofs.FieldsSoFar.{FieldsSoFar, none_read, one-read, no-more-fields, cells-full}
 use Rattle.reader.proofs.fields.read_fields.Statement.{statement}
@@ -26,7 +26,7 @@ loop-holds c = none_read c.before.args.figures.now
 
 -- What the field at the turn's place says of an answer.
 abbrev Reads : tie.In-loop invariant-loop decreases-loop → Number → Type 0
-Reads c n = numberAs c.before.before.before.args.text.now n ≡ takeField (drop c.before.loop.next c.before.before.before.args.text.now)
+Reads c n = number_as c.before.before.before.args.text.now n ≡ take_field (drop c.before.loop.next c.before.before.before.args.text.now)
 
 returns : tie.Need-returns invariant-loop decreases-loop
 returns c =

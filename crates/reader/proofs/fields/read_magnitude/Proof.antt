@@ -8,7 +8,7 @@ use mathlib.Core.Option.{some}
 use borrow.Author.Rules.{rules}
 use borrow.Author.Tests.{not-true, not-false}
 use lib.ListN.{length}
-use Rattle.text.specs.Scan.{isDigit}
+use Rattle.text.specs.Scan.{is_digit}
 use Rattle.reader.proofs.Places.{before-end}
 use Rattle.reader.proofs.MoreDigits.{digit-range}
 use Rattle.reader.proofs.Numbers.{no-magnitude, magnitude-zero, magnitude-more}
@@ -23,7 +23,7 @@ at c = c.before.before.args.at
 
 -- A digit stands there, before the end of the text.
 module _ (c : tie.Else1) where
-  digit : isDigit c.before.before.byte_at.result ≡ true
+  digit : is_digit c.before.before.byte_at.result ≡ true
   digit = sym c.before.is_digit.ensures ∙ not-false _ c.if1.false
 
   range : (48 ≤ c.before.before.byte_at.result) × (c.before.before.byte_at.result ≤ 57)

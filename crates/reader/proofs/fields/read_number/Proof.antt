@@ -7,8 +7,8 @@ use mathlib.Core.Option.{some}
 use borrow.Author.Rules.{rules}
 use lib.IntN.{ℤ}
 use lib.ListN.{drop}
-use Rattle.text.specs.Scan.{taken, takeMagnitude}
-use Rattle.reader.specs.Read.{magnitudeAs}
+use Rattle.text.specs.Scan.{taken, take_magnitude}
+use Rattle.reader.specs.Read.{magnitude_as}
 use Rattle.reader.specs.declared.Magnitude.{Magnitude}
 use Rattle.reader.specs.declared.Magnitude.TheVariants.{Read}
 use Rattle.reader.proofs.Places.{before-end}
@@ -25,7 +25,7 @@ module _ (c : tie.After-byte-at) where
 
   -- What the magnitude from a place on says of an answer.
   abbrev Reads : ℕ → Magnitude → Type 0
-  Reads place m = magnitudeAs text m ≡ takeMagnitude (drop place text)
+  Reads place m = magnitude_as text m ≡ take_magnitude (drop place text)
 
 -- ---- after a minus
 

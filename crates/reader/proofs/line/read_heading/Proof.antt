@@ -5,7 +5,7 @@ use mathlib.Core.Path.{◌≡◌, sym, ◌∙◌, ap}
 use mathlib.Core.List.{List, ◌∷◌}
 use borrow.Author.Rules.{rules}
 use lib.ListN.{length, drop}
-use Rattle.rules.specs.Reader.{takeHeading}
+use Rattle.rules.specs.Reader.{take_heading}
 use Rattle.reader.proofs.Places.{before-end, begins}
 use Rattle.reader.proofs.Headings.{no-heading}
 use Rattle.reader.proofs.line.read_heading.Statement.{statement}
@@ -26,28 +26,28 @@ module _ (c : tie.After-byte-at) where
   within e above = before-end text at c.byte_at.ensures (omega arith)
 
 returns : tie.Need-returns
-unfolding takeHeading
-returns c = sym (ap takeHeading (starts c.before c.if1.true (omega arith)))
+unfolding take_heading
+returns c = sym (ap take_heading (starts c.before c.if1.true (omega arith)))
 
 returns-2 : tie.Need-returns-2
-unfolding takeHeading
-returns-2 c = sym (ap takeHeading (starts c.before.before c.if2.true (omega arith)))
+unfolding take_heading
+returns-2 c = sym (ap take_heading (starts c.before.before c.if2.true (omega arith)))
 
 returns-3 : tie.Need-returns-3
-unfolding takeHeading
-returns-3 c = sym (ap takeHeading (starts c.before.before.before c.if3.true (omega arith)))
+unfolding take_heading
+returns-3 c = sym (ap take_heading (starts c.before.before.before c.if3.true (omega arith)))
 
 returns-4 : tie.Need-returns-4
-unfolding takeHeading
-returns-4 c = sym (ap takeHeading (starts c.before.before.before.before c.if4.true (omega arith)))
+unfolding take_heading
+returns-4 c = sym (ap take_heading (starts c.before.before.before.before c.if4.true (omega arith)))
 
 returns-5 : tie.Need-returns-5
-unfolding takeHeading
-returns-5 c = c.Read-step.ensures ∙ sym (ap takeHeading (starts c.before.before.before.before.before.before c.before.if5.true (omega arith)))
+unfolding take_heading
+returns-5 c = c.Read-step.ensures ∙ sym (ap take_heading (starts c.before.before.before.before.before.before c.before.if5.true (omega arith)))
 
 returns-6 : tie.Need-returns-6
-unfolding takeHeading
-returns-6 c = sym (ap takeHeading (starts c.before.before.before.before.before.before c.if6.true (omega arith)))
+unfolding take_heading
+returns-6 c = sym (ap take_heading (starts c.before.before.before.before.before.before c.if6.true (omega arith)))
 
 returns-7 : tie.Need-returns-7
 returns-7 c =

@@ -4,9 +4,9 @@ use native.Mathlib.Omega.{arith}
 use mathlib.Core.Path.{◌≡◌, ◌∙◌, ap, subst}
 use borrow.Author.Rules.{rules}
 use lib.ListN.{length, drop}
-use Rattle.text.specs.Scan.{takeFields}
-use Rattle.rules.specs.Reader.{takeHeading}
-use Rattle.reader.specs.Read.{headingAs, fieldsAs}
+use Rattle.text.specs.Scan.{take_fields}
+use Rattle.rules.specs.Reader.{take_heading}
+use Rattle.reader.specs.Read.{heading_as, fields_as}
 use Rattle.reader.specs.declared.Headed.{Headed}
 use Rattle.reader.specs.declared.Headed.TheVariants.{Read}
 use Rattle.reader.proofs.Places.{before-end}
@@ -16,7 +16,7 @@ use Rattle.reader.proofs.line.read_line.Tie as tie
 
 -- What the heading at the place says of an answer.
 abbrev Reads : tie.Start → Headed → Type 0
-Reads s h = headingAs s.args.text.now h ≡ takeHeading (drop s.args.at s.args.text.now)
+Reads s h = heading_as s.args.text.now h ≡ take_heading (drop s.args.at s.args.text.now)
 
 returns : tie.Need-returns
 returns c =
@@ -40,8 +40,8 @@ module _ (c : tie.After-byte-at) where
   same-cells : length read.read-fields.last.1.1.0 ≡ 2003
   same-cells = omega (arith, read.read-fields.kept.1.1.0, start.pre)
 
-  fields : fieldsAs start.args.text.now read.read-fields.last.1.1.0 read.read-fields.result ≡ takeFields 2003 (drop headed.heading.given.0.1.0 start.args.text.now)
-  fields = read.read-fields.ensures.0 ∙ ap (λ (most : ℕ). takeFields most (drop headed.heading.given.0.1.0 start.args.text.now)) start.pre
+  fields : fields_as start.args.text.now read.read-fields.last.1.1.0 read.read-fields.result ≡ take_fields 2003 (drop headed.heading.given.0.1.0 start.args.text.now)
+  fields = read.read-fields.ensures.0 ∙ ap (λ (most : ℕ). take_fields most (drop headed.heading.given.0.1.0 start.args.text.now)) start.pre
 
 returns-2 : tie.Need-returns-2
 returns-2 c =

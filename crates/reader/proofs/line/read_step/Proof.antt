@@ -5,7 +5,7 @@ use mathlib.Core.Path.{◌≡◌, sym, ap}
 use mathlib.Core.List.{List, ◌∷◌}
 use borrow.Author.Rules.{rules}
 use lib.ListN.{length, drop}
-use Rattle.rules.specs.Reader.{stepOfLetter, stepHeading, takeStep}
+use Rattle.rules.specs.Reader.{step_of_letter, step_heading, take_step}
 use Rattle.reader.proofs.Places.{before-end}
 use Rattle.reader.proofs.Headings.{no-tab, begins-step, no_step}
 use Rattle.reader.proofs.line.read_step.Statement.{statement}
@@ -36,28 +36,28 @@ module _ (c : tie.After-byte-at2) {letter : ℕ} (e : c.byte-at2.result ≡ lett
   within = omega (arith, before-end (text byte) (at byte + 1) c.byte-at2.ensures (omega arith))
 
 returns-2 : tie.Need-returns-2
-unfolding takeStep stepOfLetter stepHeading
-returns-2 c = sym (ap takeStep (starts c.before c.if2.true (omega arith)))
+unfolding take_step step_of_letter step_heading
+returns-2 c = sym (ap take_step (starts c.before c.if2.true (omega arith)))
 
 returns-3 : tie.Need-returns-3
-unfolding takeStep stepOfLetter stepHeading
-returns-3 c = sym (ap takeStep (starts c.before.before c.if3.true (omega arith)))
+unfolding take_step step_of_letter step_heading
+returns-3 c = sym (ap take_step (starts c.before.before c.if3.true (omega arith)))
 
 returns-4 : tie.Need-returns-4
-unfolding takeStep stepOfLetter stepHeading
-returns-4 c = sym (ap takeStep (starts c.before.before.before c.if4.true (omega arith)))
+unfolding take_step step_of_letter step_heading
+returns-4 c = sym (ap take_step (starts c.before.before.before c.if4.true (omega arith)))
 
 returns-5 : tie.Need-returns-5
-unfolding takeStep stepOfLetter stepHeading
-returns-5 c = sym (ap takeStep (starts c.before.before.before.before c.if5.true (omega arith)))
+unfolding take_step step_of_letter step_heading
+returns-5 c = sym (ap take_step (starts c.before.before.before.before c.if5.true (omega arith)))
 
 returns-6 : tie.Need-returns-6
-unfolding takeStep stepOfLetter stepHeading
-returns-6 c = sym (ap takeStep (starts c.before.before.before.before.before c.if6.true (omega arith)))
+unfolding take_step step_of_letter step_heading
+returns-6 c = sym (ap take_step (starts c.before.before.before.before.before c.if6.true (omega arith)))
 
 returns-7 : tie.Need-returns-7
-unfolding takeStep stepOfLetter stepHeading
-returns-7 c = sym (ap takeStep (starts c.before.before.before.before.before.before c.if7.true (omega arith)))
+unfolding take_step step_of_letter step_heading
+returns-7 c = sym (ap take_step (starts c.before.before.before.before.before.before c.if7.true (omega arith)))
 
 returns-8 : tie.Need-returns-8
 returns-8 c =

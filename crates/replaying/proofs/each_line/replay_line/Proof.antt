@@ -6,8 +6,8 @@ use borrow.Author.Rules.{rules}
 use lib.IntN.{ℤ}
 use lib.ListN.{take}
 use lib.Seq.{length-take-le}
-use Rattle.rules.specs.Reader.{requestNamed}
-use Rattle.rules.specs.Tables.{Tables, allTables}
+use Rattle.rules.specs.Reader.{request_named}
+use Rattle.rules.specs.Tables.{Tables, all_tables}
 use Rattle.rules.specs.declared.Heading.{Heading}
 use Rattle.verdict.specs.declared.Verdict.{Verdict}
 use Rattle.reader.specs.declared.LineRead.{LineRead}
@@ -25,7 +25,7 @@ module _ (c : tie.After-read-request) where
   s = c.before.before.before
 
   abbrev start : Tables
-  start = allTables s.args.records.now s.args.positions.now s.args.processes.now
+  start = all_tables s.args.records.now s.args.positions.now s.args.processes.now
 
   abbrev text : List ℕ
   text = s.args.text.now
@@ -80,10 +80,10 @@ module _ (c : tie.After-book-line) where
   k = c.before.before.before.before.before
 
   abbrev after : Tables
-  after = allTables c.book-line.new.0 c.book-line.new.1.0 c.book-line.new.1.1.0
+  after = all_tables c.book-line.new.0 c.book-line.new.1.0 c.book-line.new.1.1.0
 
   abbrev By : Verdict → Type 0
-  By v = RequestBooked (start (at-line k)) (requestNamed (heading k) (take (count k) (figures (at-line k)))) v after
+  By v = RequestBooked (start (at-line k)) (request_named (heading k) (take (count k) (figures (at-line k)))) v after
 
 returns-2 : tie.Need-returns-2
 returns-2 c =

@@ -9,8 +9,8 @@ use lib.ListN.{length, drop, length-drop}
 use mir.Facts.{to_z_pos}
 use mir.Syntax.{w64}
 use Rattle.text.specs.Scan.{taken}
-use Rattle.rules.specs.Tables.{Tables, allTables}
-use Rattle.rules.specs.Handle.{answeredBy}
+use Rattle.rules.specs.Tables.{Tables, all_tables}
+use Rattle.rules.specs.Handle.{answered_by}
 use Rattle.rules.specs.declared.Reply.TheVariants as Reply
 use Rattle.scan.proofs.ReadBack.{read_back}
 use Rattle.replaying.specs.LineReplayed.{LineBooked, LineReplayed}
@@ -23,7 +23,7 @@ use Rattle.replaying.proofs.each_line.replay_lines.Tie as tie
 
 abbrev invariant-loop : tie.invariant-loop
 invariant-loop records₀ positions₀ processes₀ passes2 passes19 text figures₀ at₀ line₀ records positions processes figures at line =
-    ReplayedSoFar (allTables records₀ positions₀ processes₀) text records positions processes figures at line
+    ReplayedSoFar (all_tables records₀ positions₀ processes₀) text records positions processes figures at line
 
 abbrev decreases-loop : tie.decreases-loop
 decreases-loop records₀ positions₀ processes₀ passes2 passes19 text figures₀ at₀ line₀ records positions processes figures at line = length text - at
@@ -45,16 +45,16 @@ module _ (c : tie.After-replay-line invariant-loop decreases-loop) where
   s = l.before.before
 
   abbrev start : Tables
-  start = allTables s.args.records.now s.args.positions.now s.args.processes.now
+  start = all_tables s.args.records.now s.args.positions.now s.args.processes.now
 
   abbrev text : List ℕ
   text = s.args.text.now
 
   abbrev before : Tables
-  before = allTables l.loop.records l.loop.positions l.loop.processes
+  before = all_tables l.loop.records l.loop.positions l.loop.processes
 
   abbrev after : Tables
-  after = allTables c.replay-line.new.0 c.replay-line.new.1.0 c.replay-line.new.1.1.0
+  after = all_tables c.replay-line.new.0 c.replay-line.new.1.0 c.replay-line.new.1.1.0
 
   abbrev By : Became → Type 0
   By b = LineReplayed before text l.loop.at b after
@@ -83,7 +83,7 @@ cast-bad c = record { sfits = omega (arith, small (a c)) }
 
 returns : tie.Need-returns invariant-loop decreases-loop
 returns c =
-    ap (λ (line : ℤ). answeredBy (Reply.BadLine line) (after (a c))) (to_z_pos w64 (small (a c)))
+    ap (λ (line : ℤ). answered_by (Reply.BadLine line) (after (a c))) (to_z_pos w64 (small (a c)))
     ∙ stops-bad (start (a c)) (text (a c)) _ _ _ _ _ _ (l (a c)).loop.inv (turn (a c)).loop-test.taken _ _ _
     (subst (By (a c)) c.enum_told.given.1 (a c).replay-line.ensures.0)
 
@@ -104,7 +104,7 @@ returns-2 c =
     let number : ℤ = c.before.number.given.0.0 in
     let place : ℤ = c.before.number.given.0.1.0 in
     simp (read_back number c.known-told.given.0.1, read_back place c.known-told.given.1.0.1)
-    (ap (λ (line : ℤ). answeredBy (Reply.LineRefused line number place) (after (b c))) (to_z_pos w64 (small (b c)))
+    (ap (λ (line : ℤ). answered_by (Reply.LineRefused line number place) (after (b c))) (to_z_pos w64 (small (b c)))
     ∙ stops-refused (start (b c)) (text (b c)) _ _ _ _ _ _ (l (b c)).loop.inv (turn (b c)).loop-test.taken _ _ _ number place
     (subst (By (b c)) c.before.number.given.1 (b c).replay-line.ensures.0))
 
@@ -148,8 +148,8 @@ returns-3 c =
     let k : tie.At-loop invariant-loop decreases-loop = c.before in
     let s₀ : tie.Start invariant-loop decreases-loop = k.before.before in
     let few : k.loop.line < 2 ^ 63 = omega (arith, k.loop.invariant.few, k.loop.invariant.within) in
-    ap (λ (line : ℤ). answeredBy (Reply.Replayed line) (allTables k.loop.records k.loop.positions k.loop.processes)) (to_z_pos w64 few)
-    ∙ all-replayed (allTables s₀.args.records.now s₀.args.positions.now s₀.args.processes.now) s₀.args.text.now _ _ _ _ _ _ k.loop.invariant c.loop-test.false
+    ap (λ (line : ℤ). answered_by (Reply.Replayed line) (all_tables k.loop.records k.loop.positions k.loop.processes)) (to_z_pos w64 few)
+    ∙ all-replayed (all_tables s₀.args.records.now s₀.args.positions.now s₀.args.processes.now) s₀.args.text.now _ _ _ _ _ _ k.loop.invariant c.loop-test.false
 
 pub replay-lines-spec : {M : Type 1} → statement M
 replay-lines-spec =

@@ -1,12 +1,12 @@
 -- `scan::rows::position_cells` meets its contract: the cells are the figures in order, each read back from its bits.
 -- Assumes nothing.
-use Rattle.rules.specs.Tables.{positionCells}
+use Rattle.rules.specs.Tables.{position_cells}
 use Rattle.scan.proofs.ReadBack.{read_back}
 use Rattle.scan.proofs.rows.position_cells.Statement.{statement}
 use Rattle.scan.proofs.rows.position_cells.Tie as tie
 
 returns : tie.Need-returns
-unfolding positionCells
+unfolding position_cells
 returns c =
     let p = c.before.args.p in
     let known = c.struct_told.given in

@@ -9,13 +9,13 @@ use lib.IntN.{ℤ, pos}
 use lib.ListN.{length, get_or}
 use mir.Syntax.{w64}
 use mir.Val.{Fits}
-use Rattle.rules.specs.Tables.{recordsLayout}
+use Rattle.rules.specs.Tables.{records_layout}
 use Rattle.scan.proofs.ReadBack.{read_back}
 use Rattle.scan.proofs.rows.record_at.Statement.{statement}
 use Rattle.scan.proofs.rows.record_at.Tie as tie
 
 -- the row's cells, from its first one on: each is within the slice, and its place fits a `usize`, in bytes too
-module _ (s : tie.Start) (k : ℕ) (h : k < recordsLayout.width) where
+module _ (s : tie.Start) (k : ℕ) (h : k < records_layout.width) where
   within : s.args.at + k < length s.args.cells.now
   within = omega arith
 

@@ -1,12 +1,12 @@
 -- `scan::rows::record_cells` meets its contract: the cells are the figures in order, each read back from its bits.
 -- Assumes nothing.
-use Rattle.rules.specs.Tables.{recordCells}
+use Rattle.rules.specs.Tables.{record_cells}
 use Rattle.scan.proofs.ReadBack.{read_back}
 use Rattle.scan.proofs.rows.record_cells.Statement.{statement}
 use Rattle.scan.proofs.rows.record_cells.Tie as tie
 
 returns : tie.Need-returns
-unfolding recordCells
+unfolding record_cells
 returns c =
     let r = c.before.args.r in
     let known = c.struct_told.given in

@@ -10,13 +10,13 @@ use mir.Facts.{to_z_pos}
 use mir.Syntax.{w64}
 use mir.Val.{to_z}
 use Rattle.integers.proofs.Linear.{zarith}
-use Rattle.rules.specs.Layout.{roomFor}
+use Rattle.rules.specs.Layout.{room_for}
 use Rattle.scan.proofs.ReadBack.{read_back}
 use Rattle.scan.proofs.Room.{room-at-most, no-count, count-in-range}
 use Rattle.scan.proofs.soundness.count_sound.Statement.{statement}
 use Rattle.scan.proofs.soundness.count_sound.Tie as tie
 
-room : (c : tie.After-room-for) → c.room_for.result ≡ roomFor c.before.before.args.header c.before.before.args.width c.before.before.args.most (length c.before.before.args.cells.now)
+room : (c : tie.After-room-for) → c.room_for.result ≡ room_for c.before.before.args.header c.before.before.args.width c.before.before.args.most (length c.before.before.args.cells.now)
 room c = c.room_for.ensures
 
 room_small : (c : tie.After-room-for) → c.room_for.result < 2 ^ 63
@@ -25,7 +25,7 @@ room_small c =
     omega (arith, room c, room-at-most s.args.header s.args.width s.args.most (length s.args.cells.now), s.requires.2)
 
 room_back : (c : tie.After-room-for)
-    → to_z w64 c.room_for.result ≡ pos (roomFor c.before.before.args.header c.before.before.args.width c.before.before.args.most (length c.before.before.args.cells.now))
+    → to_z w64 c.room_for.result ≡ pos (room_for c.before.before.args.header c.before.before.args.width c.before.before.args.most (length c.before.before.args.cells.now))
 room_back c = to_z_pos w64 (room_small c) ∙ ap pos (room c)
 
 returns : tie.Need-returns

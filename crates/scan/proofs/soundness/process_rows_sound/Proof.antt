@@ -4,22 +4,22 @@ use mathlib.Core.Path.{◌≡◌, ap, ◌∙◌}
 use mathlib.Core.Logic.{⊎_elim}
 use mathlib.Core.Bool.{true}
 use borrow.Author.Rules.{rules}
-use Rattle.rules.specs.ProcessRows.{processNumber, soundProcess}
-use Rattle.rules.specs.Tables.{processAt, processesLayout}
+use Rattle.rules.specs.ProcessRows.{process_number, sound_process}
+use Rattle.rules.specs.Tables.{process_at, processes_layout}
 use Rattle.figures.proofs.Tests.{failed, passed}
 use Rattle.scan.proofs.RowsScan.{RowsLeft, first-neighbours, all_left, none_left, row-fails, not-rising, row-passes, last-passes}
 use Rattle.scan.proofs.soundness.process_rows_sound.Statement.{statement}
 use Rattle.scan.proofs.soundness.process_rows_sound.Tie as tie
 
 abbrev invariant-loop : tie.invariant-loop
-invariant-loop cells count left₀ at₀ left at = RowsLeft processesLayout processNumber soundProcess cells count left at
+invariant-loop cells count left₀ at₀ left at = RowsLeft processes_layout process_number sound_process cells count left at
 
 abbrev decreases-loop : tie.decreases-loop
 decreases-loop cells count left₀ at₀ left at = left
 
 row-answer : (c : tie.After-sound-process invariant-loop decreases-loop)
-    → c.sound-process.result ≡ soundProcess (processAt c.before.before.before.before.args.cells.now c.before.before.before.loop.at)
-row-answer c = c.sound-process.ensures ∙ ap soundProcess c.before.process-at.ensures
+    → c.sound-process.result ≡ sound_process (process_at c.before.before.before.before.args.cells.now c.before.before.before.loop.at)
+row-answer c = c.sound-process.ensures ∙ ap sound_process c.before.process-at.ensures
 
 returns : tie.Need-returns invariant-loop decreases-loop
 returns c = row-fails c.before.before.before.before.loop.invariant c.before.before.before.loop-test.true (failed (row-answer c.before) c.if1.true)
@@ -30,18 +30,18 @@ returns-2 c =
     let a : tie.At-loop invariant-loop decreases-loop = k.before.before.before.before.before.before.before.before in
     not-rising a.loop.invariant k.before.before.before.if2.true
     (failed
-    (first-neighbours a.before.args.cells.now a.loop.at processesLayout.width k.before.before.key-below-arg.given k.before.key-below-arg2.given k.key_below.ensures)
+    (first-neighbours a.before.args.cells.now a.loop.at processes_layout.width k.before.before.key-below-arg.given k.before.key-below-arg2.given k.key_below.ensures)
     c.if3.true)
 
 loop-again : tie.Need-loop-preserved invariant-loop decreases-loop
 loop-again c =
     let i : tie.In-loop invariant-loop decreases-loop = c.before.before.before.before in
     let a : tie.At-loop invariant-loop decreases-loop = i.before in
-    let sound : soundProcess (processAt a.before.args.cells.now a.loop.at) ≡ true = passed (row-answer c.before.before) c.before.if1.false in
+    let sound : sound_process (process_at a.before.args.cells.now a.loop.at) ≡ true = passed (row-answer c.before.before) c.before.if1.false in
     ⊎_elim
     (λ w.
     row-passes a.loop.invariant i.loop-test.true sound
-    (passed (first-neighbours a.before.args.cells.now a.loop.at processesLayout.width w.1.given w.2.given w.3.ensures) w.4.left))
+    (passed (first-neighbours a.before.args.cells.now a.loop.at processes_layout.width w.1.given w.2.given w.3.ensures) w.4.left))
     (λ w. last-passes a.loop.invariant i.loop-test.true sound w.left)
     c.if2.branch
 

@@ -3,24 +3,24 @@
 use mathlib.Core.Path.{◌≡◌}
 use mathlib.Core.Bool.{true}
 use borrow.Author.Rules.{rules}
-use Rattle.rules.specs.Layout.{countIsSound}
-use Rattle.rules.specs.ProcessRows.{processNumber, soundProcess}
-use Rattle.rules.specs.Tables.{processesLayout, soundProcesses}
+use Rattle.rules.specs.Layout.{count_is_sound}
+use Rattle.rules.specs.ProcessRows.{process_number, sound_process}
+use Rattle.rules.specs.Tables.{processes_layout, sound_processes}
 use Rattle.cells.proofs.RowCells.{processes-lawful}
 use Rattle.scan.proofs.TableScan.{count-passed, unsound-count, count-there, read-count-casts, counted-rows-within, rows-decide}
 use Rattle.scan.proofs.soundness.processes_sound.Statement.{statement}
 use Rattle.scan.proofs.soundness.processes_sound.Tie as tie
 
-sound : (c : tie.Else1) → countIsSound processesLayout c.before.before.args.cells.now ≡ true
-sound c = count-passed processesLayout c.before.before.args.cells.now c.before.count-sound.ensures c.if1.false
+sound : (c : tie.Else1) → count_is_sound processes_layout c.before.before.args.cells.now ≡ true
+sound c = count-passed processes_layout c.before.before.args.cells.now c.before.count-sound.ensures c.if1.false
 
 returns : tie.Need-returns
-unfolding soundProcesses
-returns c = unsound-count processesLayout processNumber soundProcess c.before.before.args.cells.now c.before.count-sound.ensures c.if1.true
+unfolding sound_processes
+returns c = unsound-count processes_layout process_number sound_process c.before.before.args.cells.now c.before.count-sound.ensures c.if1.true
 
 returns-2 : tie.Need-returns-2
-unfolding soundProcesses
-returns-2 c = rows-decide processesLayout processNumber soundProcess c.before.before.before.before.args.cells.now (sound c.before.before) c.before.count.given c.process-rows-sound.ensures
+unfolding sound_processes
+returns-2 c = rows-decide processes_layout process_number sound_process c.before.before.before.before.args.cells.now (sound c.before.before) c.before.count.given c.process-rows-sound.ensures
 
 pub processes-sound-spec : {M : Type 1} → statement M
 processes-sound-spec =
@@ -28,7 +28,7 @@ processes-sound-spec =
     (tie.spec
     (λ c κs. search rules)
     returns
-    (λ c. count-there processesLayout processes-lawful _ (sound c))
-    (λ c. read-count-casts processesLayout processes-lawful _ (sound c.before) c.count.given)
-    (λ c κs. counted-rows-within processesLayout processes-lawful _ (sound c.before) c.count.given)
+    (λ c. count-there processes_layout processes-lawful _ (sound c))
+    (λ c. read-count-casts processes_layout processes-lawful _ (sound c.before) c.count.given)
+    (λ c κs. counted-rows-within processes_layout processes-lawful _ (sound c.before) c.count.given)
     returns-2)

@@ -8,16 +8,16 @@ use borrow.Author.Rules.{rules}
 use mir.Facts.{to_z-of_z}
 use mir.Syntax.{w64}
 use mir.Val.{to_z, of_z}
-use Rattle.rules.specs.Rows.{recordKey}
-use Rattle.rules.specs.Tables.{recordAt, recordsLayout}
+use Rattle.rules.specs.Rows.{record_key}
+use Rattle.rules.specs.Tables.{record_at, records_layout}
 use Rattle.figures.proofs.Tests.{failed, passed}
-use Rattle.scan.specs.Scan.{rowsRiseSound, soundRecordOn}
+use Rattle.scan.specs.Scan.{rows_rise_sound, sound_record_on}
 use Rattle.scan.proofs.RowsScan.{RowsLeft, neighbours, all_left, none_left, row-fails, not-rising, row-passes, last-passes}
 use Rattle.scan.proofs.soundness.record_rows_sound.Statement.{statement}
 use Rattle.scan.proofs.soundness.record_rows_sound.Tie as tie
 
 abbrev invariant-loop : tie.invariant-loop
-invariant-loop cells count today left₀ at₀ left at = RowsLeft recordsLayout recordKey (soundRecordOn (to_z w64 today)) cells count left at
+invariant-loop cells count today left₀ at₀ left at = RowsLeft records_layout record_key (sound_record_on (to_z w64 today)) cells count left at
 
 abbrev decreases-loop : tie.decreases-loop
 decreases-loop cells count today left₀ at₀ left at = left
@@ -26,14 +26,14 @@ decreases-loop cells count today left₀ at₀ left at = left
 abbrev day : tie.Start invariant-loop decreases-loop → ℤ
 day s = to_z w64 (of_z w64 s.args.today)
 
-as-asked : (s : tie.Start invariant-loop decreases-loop) {r : Bool} → r ≡ rowsRiseSound recordsLayout recordKey (soundRecordOn (day s)) s.args.count s.args.cells.now
-    → r ≡ rowsRiseSound recordsLayout recordKey (soundRecordOn s.args.today) s.args.count s.args.cells.now
-as-asked s e = e ∙ ap (λ (z : ℤ). rowsRiseSound recordsLayout recordKey (soundRecordOn z) s.args.count s.args.cells.now) (to_z-of_z s.ranges.today)
+as-asked : (s : tie.Start invariant-loop decreases-loop) {r : Bool} → r ≡ rows_rise_sound records_layout record_key (sound_record_on (day s)) s.args.count s.args.cells.now
+    → r ≡ rows_rise_sound records_layout record_key (sound_record_on s.args.today) s.args.count s.args.cells.now
+as-asked s e = e ∙ ap (λ (z : ℤ). rows_rise_sound records_layout record_key (sound_record_on z) s.args.count s.args.cells.now) (to_z-of_z s.ranges.today)
 
 row-answer : (c : tie.After-sound-record-on invariant-loop decreases-loop)
     → c.sound-record-on.result
-    ≡ soundRecordOn (day c.before.before.before.before) (recordAt c.before.before.before.before.args.cells.now c.before.before.before.loop.at)
-row-answer c = c.sound-record-on.ensures ∙ ap (soundRecordOn (day c.before.before.before.before)) c.before.record-at.ensures
+    ≡ sound_record_on (day c.before.before.before.before) (record_at c.before.before.before.before.args.cells.now c.before.before.before.loop.at)
+row-answer c = c.sound-record-on.ensures ∙ ap (sound_record_on (day c.before.before.before.before)) c.before.record-at.ensures
 
 returns : tie.Need-returns invariant-loop decreases-loop
 returns c =
@@ -47,18 +47,18 @@ returns-2 c =
     as-asked a.before
     (not-rising a.loop.invariant k.before.before.before.before.before.if2.true
     (failed
-    (neighbours a.before.args.cells.now a.loop.at recordsLayout.width k.before.before.before.before.key-below-arg.given k.before.before.before.key-below-arg2.given k.before.before.key-below-arg3.given k.before.key-below-arg4.given k.key_below.ensures)
+    (neighbours a.before.args.cells.now a.loop.at records_layout.width k.before.before.before.before.key-below-arg.given k.before.before.before.key-below-arg2.given k.before.before.key-below-arg3.given k.before.key-below-arg4.given k.key_below.ensures)
     c.if3.true))
 
 loop-again : tie.Need-loop-preserved invariant-loop decreases-loop
 loop-again c =
     let i : tie.In-loop invariant-loop decreases-loop = c.before.before.before.before in
     let a : tie.At-loop invariant-loop decreases-loop = i.before in
-    let sound : soundRecordOn (day a.before) (recordAt a.before.args.cells.now a.loop.at) ≡ true = passed (row-answer c.before.before) c.before.if1.false in
+    let sound : sound_record_on (day a.before) (record_at a.before.args.cells.now a.loop.at) ≡ true = passed (row-answer c.before.before) c.before.if1.false in
     ⊎_elim
     (λ w.
     row-passes a.loop.invariant i.loop-test.true sound
-    (passed (neighbours a.before.args.cells.now a.loop.at recordsLayout.width w.1.given w.2.given w.3.given w.4.given w.5.ensures) w.6.left))
+    (passed (neighbours a.before.args.cells.now a.loop.at records_layout.width w.1.given w.2.given w.3.given w.4.given w.5.ensures) w.6.left))
     (λ w. last-passes a.loop.invariant i.loop-test.true sound w.left)
     c.if2.branch
 

@@ -8,10 +8,10 @@ use Prim.Native.Nat.{◌≤◌}
 use lib.ListN.{length}
 use mathlib.Core.List.{List}
 use Rattle.integers.specs.Order.{in_range}
-use Rattle.rules.specs.Figures.{lastDay}
-use Rattle.rules.specs.Layout.{countIsSound}
-use Rattle.rules.specs.Rows.{recordKey, soundRecord}
-use Rattle.rules.specs.Tables.{recordsLayout, currentDay}
+use Rattle.rules.specs.Figures.{last_day}
+use Rattle.rules.specs.Layout.{count_is_sound}
+use Rattle.rules.specs.Rows.{record_key, sound_record}
+use Rattle.rules.specs.Tables.{records_layout, current_day}
 use Rattle.cells.proofs.Count.{sound-header}
 use Rattle.cells.proofs.RowCells.{records-lawful}
 use Rattle.figures.proofs.Tests.{failed, passed}
@@ -24,18 +24,18 @@ use Rattle.scan.proofs.soundness.records_sound.Tie as tie
 abbrev cells : tie.Start → List ℤ
 cells s = s.args.cells.now
 
-sound : (c : tie.Else1) → countIsSound recordsLayout (cells c.before.before) ≡ true
-sound c = count-passed recordsLayout (cells c.before.before) c.before.count-sound.ensures c.if1.false
+sound : (c : tie.Else1) → count_is_sound records_layout (cells c.before.before) ≡ true
+sound c = count-passed records_layout (cells c.before.before) c.before.count-sound.ensures c.if1.false
 
 -- there is a cell 1
 day-there : (c : tie.Else1) → 2 ≤ length (cells c.before.before)
-day-there c = sound-header recordsLayout records-lawful (cells c.before.before) (sound c)
+day-there c = sound-header records_layout records-lawful (cells c.before.before) (sound c)
 
-day-answer : (c : tie.After-in-range) → c.in-range.result ≡ in_range (pos 0) (pos lastDay) (currentDay (cells c.before.before.before.before))
-day-answer c = simp (read_back (currentDay (cells c.before.before.before.before)) c.before.today.given) at c.in-range.ensures
+day-answer : (c : tie.After-in-range) → c.in-range.result ≡ in_range (pos 0) (pos last_day) (current_day (cells c.before.before.before.before))
+day-answer c = simp (read_back (current_day (cells c.before.before.before.before)) c.before.today.given) at c.in-range.ensures
 
 returns : tie.Need-returns
-returns c = unsound-rows (cells c.before.before) (unsound-count recordsLayout recordKey soundRecord (cells c.before.before) c.before.count-sound.ensures c.if1.true)
+returns c = unsound-rows (cells c.before.before) (unsound-count records_layout record_key sound_record (cells c.before.before) c.before.count-sound.ensures c.if1.true)
 
 returns-2 : tie.Need-returns-2
 returns-2 c = day-out-of-range (cells c.before.before.before.before.before) (failed (day-answer c.before) c.if2.true)
@@ -45,7 +45,7 @@ returns-3 c =
     let e : tie.Else2 = c.before.before in
     let xs : List ℤ = cells e.before.before.before.before.before in
     rows-decide-days xs (sound e.before.before.before) (passed (day-answer e.before) e.if2.false) c.before.count.given
-    (rw (read_back (currentDay xs) e.before.before.today.given) at c.record-rows-sound.ensures)
+    (rw (read_back (current_day xs) e.before.before.today.given) at c.record-rows-sound.ensures)
 
 pub records-sound-spec : {M : Type 1} → statement M
 records-sound-spec =
@@ -56,7 +56,7 @@ records-sound-spec =
     (λ c. day-there c)
     (λ c κs. search rules)
     returns-2
-    (λ c. count-there recordsLayout records-lawful _ (sound c.before.before.before))
-    (λ c. read-count-casts recordsLayout records-lawful _ (sound c.before.before.before.before) c.count.given)
-    (λ c κs. counted-rows-within recordsLayout records-lawful _ (sound c.before.before.before.before) c.count.given)
+    (λ c. count-there records_layout records-lawful _ (sound c.before.before.before))
+    (λ c. read-count-casts records_layout records-lawful _ (sound c.before.before.before.before) c.count.given)
+    (λ c κs. counted-rows-within records_layout records-lawful _ (sound c.before.before.before.before) c.count.given)
     returns-3)

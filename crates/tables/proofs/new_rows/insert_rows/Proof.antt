@@ -9,10 +9,10 @@ use lib.ListN.{length, length-take, length-drop}
 use mir.Syntax.{w64}
 use mir.Val.{to_z}
 use Rattle.rules.specs.Layout.{encode, start_of}
-use Rattle.rules.specs.Tables.{recordCells, recordsLayout}
+use Rattle.rules.specs.Tables.{record_cells, records_layout}
 use Rattle.shifter.specs.Insertion.{inserted}
 use Rattle.shifter.proofs.Placed.{rows_split, raised-cell, insertion}
-use Rattle.tables.specs.NewRows.{newRows}
+use Rattle.tables.specs.NewRows.{new_rows}
 use Rattle.tables.proofs.NewRows.{suffix-range, news-cells, news-fit, news-inserted}
 use Rattle.tables.proofs.new_rows.insert_rows.Statement.{statement}
 use Rattle.tables.proofs.new_rows.insert_rows.Tie as tie
@@ -22,7 +22,7 @@ module _ (s : tie.Start) where
   added = suc (length s.args.quantities.now)
 
   abbrev new : List ℤ
-  new = encode recordCells (newRows s.args.inverse s.args.first s.args.quantities.now)
+  new = encode record_cells (new_rows s.args.inverse s.args.first s.args.quantities.now)
 
 -- The place and the cells of all rows, by the count.
 module _ (c : tie.After-count) where
@@ -32,13 +32,13 @@ module _ (c : tie.After-count) where
   abbrev n : ℕ
   n = c.count.result
 
-  fit : (s.args.place ≤ n) × (start_of recordsLayout (n + added s) ≤ length s.args.cells.now) × (n + added s ≤ 4096)
+  fit : (s.args.place ≤ n) × (start_of records_layout (n + added s) ≤ length s.args.cells.now) × (n + added s ≤ 4096)
   fit =
-      subst (λ (m : ℕ). (s.args.place ≤ m) × (start_of recordsLayout (m + added s) ≤ length s.args.cells.now) × (m + added s ≤ 4096)) (sym c.count.ensures)
+      subst (λ (m : ℕ). (s.args.place ≤ m) × (start_of records_layout (m + added s) ≤ length s.args.cells.now) × (m + added s ≤ 4096)) (sym c.count.ensures)
       (news-fit s.args.cells.now s.args.place s.args.inverse s.args.first s.args.quantities.now s.pre)
 
-  split : n * recordsLayout.width ≡ s.args.place * recordsLayout.width + (n - s.args.place) * recordsLayout.width
-  split = rows_split recordsLayout.width n s.args.place fit.0
+  split : n * records_layout.width ≡ s.args.place * records_layout.width + (n - s.args.place) * records_layout.width
+  split = rows_split records_layout.width n s.args.place fit.0
 
 shift-in-rows-requires : tie.Need-shift-in-rows-requires
 shift-in-rows-requires c κs =
@@ -50,12 +50,12 @@ returns : tie.Need-returns
 returns c =
     let a : tie.After-count = c.before.before.before in
     let s : tie.Start = s a in
-    let size : length (new s) ≡ added s * recordsLayout.width = news-cells s.args.inverse s.args.first s.args.quantities.now in
+    let size : length (new s) ≡ added s * records_layout.width = news-cells s.args.inverse s.args.first s.args.quantities.now in
     let e : n a + length s.args.quantities.now + 1 ≡ n a + added s = omega arith in
-    insertion recordsLayout.header recordsLayout.width s.args.cells.now (new s) c.before.shift-in-rows.new.0 (added s) (n a) s.args.place _
+    insertion records_layout.header records_layout.width s.args.cells.now (new s) c.before.shift-in-rows.new.0 (added s) (n a) s.args.place _
     (ap (to_z w64) e ∙ raised-cell (n a) (added s) (fit a).2) (omega arith) (fit a).0 size (fit a).1
     (rw size c.before.shift-in-rows.ensures)
-    ∙ ap (λ (m : ℕ). inserted recordsLayout.header recordsLayout.width (new s) (added s) m s.args.place s.args.cells.now) a.count.ensures
+    ∙ ap (λ (m : ℕ). inserted records_layout.header records_layout.width (new s) (added s) m s.args.place s.args.cells.now) a.count.ensures
     ∙ news-inserted s.args.cells.now s.args.place s.args.inverse s.args.first s.args.quantities.now s.pre
 
 pub insert-rows-spec : {M : Type 1} → statement M

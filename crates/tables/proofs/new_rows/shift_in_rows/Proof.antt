@@ -7,11 +7,11 @@ use borrow.Author.Rules.{rules}
 use lib.IntN.{ℤ}
 use lib.ListN.{length, take, drop}
 use Rattle.rules.specs.Layout.{encode}
-use Rattle.rules.specs.Tables.{recordCells, recordsLayout}
+use Rattle.rules.specs.Tables.{record_cells, records_layout}
 use Rattle.cells.proofs.RowCells.{records-lawful}
 use Rattle.shifter.specs.Insertion.{raised}
 use Rattle.shifter.proofs.RowsFilled.{rows-shifted}
-use Rattle.tables.specs.NewRows.{rowsLike, newRows}
+use Rattle.tables.specs.NewRows.{rows_like, new_rows}
 use Rattle.tables.proofs.NewRows.{news-cells}
 use Rattle.tables.proofs.new_rows.shift_in_rows.Statement.{statement}
 use Rattle.tables.proofs.new_rows.shift_in_rows.Tie as tie
@@ -22,10 +22,10 @@ returns c =
     let u : tie.After-move-up = o.before.before.before in
     let s : tie.Start = u.before.before in
     let part : List ℤ = s.args.part.now in
-    let new : List ℤ = encode recordCells (newRows s.args.inverse s.args.first s.args.quantities.now) in
-    let size : length new ≡ suc (length s.args.quantities.now) * recordsLayout.width = news-cells s.args.inverse s.args.first s.args.quantities.now in
-    let by : (length s.args.quantities.now + 1) * recordsLayout.width ≡ length new = omega (arith, size) in
-    rows-shifted recordsLayout records-lawful s.args.inverse (rowsLike s.args.first s.args.first.suffix s.args.quantities.now) s.args.used part
+    let new : List ℤ = encode record_cells (new_rows s.args.inverse s.args.first s.args.quantities.now) in
+    let size : length new ≡ suc (length s.args.quantities.now) * records_layout.width = news-cells s.args.inverse s.args.first s.args.quantities.now in
+    let by : (length s.args.quantities.now + 1) * records_layout.width ≡ length new = omega (arith, size) in
+    rows-shifted records_layout records-lawful s.args.inverse (rows_like s.args.first s.args.first.suffix s.args.quantities.now) s.args.used part
     u.move_up.new.0 o.write-record.new.0 c.before.write-rows.new.0 (omega (arith, size, s.requires.0))
     (u.move_up.ensures ∙ ap (λ (n : ℕ). raised n s.args.used part) by) o.write-record.ensures c.before.write-rows.ensures
     ∙ ap (λ (n : ℕ). new ++ (take s.args.used part ++ drop (s.args.used + n) part)) size

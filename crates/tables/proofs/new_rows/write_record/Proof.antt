@@ -6,13 +6,13 @@ use mathlib.Core.List.{List}
 use lib.IntN.{ℤ}
 use lib.ListN.{length}
 use borrow.Author.Rules.{rules}
-use Rattle.rules.specs.Tables.{recordsLayout}
+use Rattle.rules.specs.Tables.{records_layout}
 use Rattle.cells.proofs.RowCells.{records-lawful}
 use Rattle.shifter.specs.Insertion.{replaced}
 use Rattle.tables.proofs.new_rows.write_record.Statement.{statement}
 use Rattle.tables.proofs.new_rows.write_record.Tie as tie
 
-wide : (c : tie.After-record-cells) → length c.record-cells.result ≡ recordsLayout.width
+wide : (c : tie.After-record-cells) → length c.record-cells.result ≡ records_layout.width
 wide c = ap length c.record-cells.ensures ∙ records-lawful.put-length c.before.args.r
 
 replace-row-requires : tie.Need-replace-row-requires

@@ -9,10 +9,10 @@ use mir.Facts.{to_z-of_z}
 use mir.Syntax.{w64}
 use mir.Val.{SFits, to_z}
 use borrow.Author.Rules.{rules}
-use Rattle.rules.specs.Tables.{recordCells}
+use Rattle.rules.specs.Tables.{record_cells}
 use Rattle.scan.proofs.ReadBack.{read_back}
 use Rattle.shifter.specs.Insertion.{replaced}
-use Rattle.tables.specs.NewRows.{numberedAs}
+use Rattle.tables.specs.NewRows.{numbered_as}
 use Rattle.tables.proofs.RowsWritten.{WrittenSoFar, written_start, row_fits, suffix-fits, written_next, written-end}
 use Rattle.tables.proofs.new_rows.write_rows.Statement.{statement}
 use Rattle.tables.proofs.new_rows.write_rows.Tie as tie
@@ -40,7 +40,7 @@ module _ (c : tie.After-numbered-as invariant-loop decreases-loop) where
   abbrev quantity : ℤ
   quantity = get_or start.args.quantities.now turn.loop.at (pos 0)
 
-  row : c.numbered-as.result ≡ numberedAs start.args.first suffix quantity
+  row : c.numbered-as.result ≡ numbered_as start.args.first suffix quantity
   row = simp (read_back quantity c.before.before.quantity.given) at c.numbered-as.ensures
 
   next_fits : SFits w64 (suffix +ℤ pos 1)
@@ -65,7 +65,7 @@ write-record-requires c κs =
 loop-again : tie.Need-loop-preserved invariant-loop decreases-loop
 loop-again c =
     let a : tie.After-numbered-as invariant-loop decreases-loop = c.before.before in
-    let put : c.before.write-record.new.0 ≡ replaced 0 (recordCells (numberedAs (start a).args.first (suffix a) (quantity a))) ((start a).args.place + (turn a).loop.at) (turn a).loop.part =
+    let put : c.before.write-record.new.0 ≡ replaced 0 (record_cells (numbered_as (start a).args.first (suffix a) (quantity a))) ((start a).args.place + (turn a).loop.at) (turn a).loop.part =
     rw (row a) at c.before.write-record.ensures in
     subst
     (λ (z : ℤ). WrittenSoFar (start a).args.part.now (start a).args.place (start a).args.first (start a).args.quantities.now c.before.write-record.new.0 z ((turn a).loop.at + 1))

@@ -2,11 +2,11 @@
 use mathlib.Core.Path.{◌≡◌, ap, ◌∙◌}
 use Prim.Native.Nat.{ℕ}
 use mir.Facts.{to_z-of_z}
-use Rattle.rules.specs.Rows.{key_of, positionKey, soundPosition}
-use Rattle.rules.specs.Tables.{positionsLayout}
-use Rattle.cells.proofs.Count.{length-rowsOf}
+use Rattle.rules.specs.Rows.{key_of, position_key, sound_position}
+use Rattle.rules.specs.Tables.{positions_layout}
+use Rattle.cells.proofs.Count.{length-rows_of}
 use Rattle.cells.proofs.SoundCells.{positions-known}
-use Rattle.lookup.specs.Lookup.{rowFound}
+use Rattle.lookup.specs.Lookup.{row_found}
 use Rattle.lookup.proofs.TableLookup.{positions-first, table-searchable}
 use borrow.Author.Rules.{rules}
 use Rattle.tables.proofs.positions.find_position.Statement.{statement}
@@ -17,13 +17,13 @@ count-requires c κs = search rules
 
 find-row-requires : tie.Need-find-row-requires
 find-row-requires c κs =
-    table-searchable positionsLayout positionKey positions-first c.before.args.cells.now soundPosition (positions-known c.before.args.cells.now c.before.requires) c.count.result c.count.ensures
+    table-searchable positions_layout position_key positions-first c.before.args.cells.now sound_position (positions-known c.before.args.cells.now c.before.requires) c.count.result c.count.ensures
 
 returns : tie.Need-returns
 returns c =
     let s : tie.Start = c.before.before in
-    let answer : c.find-row.result ≡ rowFound positionsLayout.header positionsLayout.width (key_of s.args.account s.args.series) c.before.count.result s.args.cells.now = simp (to_z-of_z s.ranges.account, to_z-of_z s.ranges.series) at c.find-row.ensures in
-    answer ∙ ap (λ (n : ℕ). rowFound positionsLayout.header positionsLayout.width (key_of s.args.account s.args.series) n s.args.cells.now) (c.before.count.ensures ∙ length-rowsOf positionsLayout s.args.cells.now)
+    let answer : c.find-row.result ≡ row_found positions_layout.header positions_layout.width (key_of s.args.account s.args.series) c.before.count.result s.args.cells.now = simp (to_z-of_z s.ranges.account, to_z-of_z s.ranges.series) at c.find-row.ensures in
+    answer ∙ ap (λ (n : ℕ). row_found positions_layout.header positions_layout.width (key_of s.args.account s.args.series) n s.args.cells.now) (c.before.count.ensures ∙ length-rows_of positions_layout s.args.cells.now)
 
 pub find-position-spec : {M : Type 1} → statement M
 find-position-spec = tie.close (tie.spec count-requires find-row-requires returns)

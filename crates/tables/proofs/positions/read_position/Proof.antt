@@ -6,11 +6,11 @@ use mathlib.Core.Path.{◌≡◌, sym, ◌∙◌}
 use lib.ListN.{length}
 use mir.Facts.{to_z-of_z}
 use borrow.Author.Rules.{rules}
-use Rattle.rules.specs.Rows.{zeroPosition}
+use Rattle.rules.specs.Rows.{zero_position}
 use Rattle.rules.specs.Layout.{start_of, rows_of}
-use Rattle.rules.specs.Tables.{positionsLayout}
+use Rattle.rules.specs.Tables.{positions_layout}
 use Rattle.cells.proofs.SoundCells.{positions-known}
-use Rattle.lookup.specs.Lookup.{positionFound}
+use Rattle.lookup.specs.Lookup.{position_found}
 use Rattle.lookup.specs.declared.Found.TheVariants.{Row}
 use Rattle.lookup.proofs.TableLookup.{position-found, position-read, position-zeros}
 use Rattle.tables.proofs.positions.read_position.Statement.{statement}
@@ -21,14 +21,14 @@ module _ (c : tie.After-found) where
   abbrev s : tie.Start
   s = c.before.before
 
-  found : positionFound s.args.cells.now s.args.account s.args.series ≡ Row c.found.given.0.0
+  found : position_found s.args.cells.now s.args.account s.args.series ≡ Row c.found.given.0.0
   found = sym s.pre.1 ∙ c.found.given.1
 
-  within : start_of positionsLayout (suc c.found.given.0.0) ≤ length s.args.cells.now
+  within : start_of positions_layout (suc c.found.given.0.0) ≤ length s.args.cells.now
   within =
-      let below : c.found.given.0.0 < length (rows_of positionsLayout s.args.cells.now)
+      let below : c.found.given.0.0 < length (rows_of positions_layout s.args.cells.now)
       = (position-found s.args.cells.now s.args.account s.args.series c.found.given.0.0 found).0 in
-      omega (arith, (positions-known s.args.cells.now s.pre.0).rows-within, mul-le-mul_right positionsLayout.width below)
+      omega (arith, (positions-known s.args.cells.now s.pre.0).rows-within, mul-le-mul_right positions_layout.width below)
 
 enum-known-found : tie.Need-enum-known-found
 enum-known-found c = search rules
@@ -51,7 +51,7 @@ returns c =
     c.position_at.ensures ∙ sym (position-read s.args.cells.now s.args.account s.args.series c.before.before.found.given.0.0 (found c.before.before))
 
 returns-2 : tie.Need-returns-2
-unfolding zeroPosition
+unfolding zero_position
 returns-2 c =
     let s : tie.Start = c.before.before in
     simp (to_z-of_z s.ranges.account, to_z-of_z s.ranges.series)

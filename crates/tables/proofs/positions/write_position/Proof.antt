@@ -6,13 +6,13 @@ use mathlib.Core.Option.{none}
 use lib.ListN.{length}
 use borrow.Author.Rules.{rules}
 use Rattle.rules.specs.Keyed.{find}
-use Rattle.rules.specs.Rows.{positionKey, soundPosition}
-use Rattle.rules.specs.Layout.{roomOf, rows_of}
-use Rattle.rules.specs.Tables.{positionsLayout, soundPositions}
+use Rattle.rules.specs.Rows.{position_key, sound_position}
+use Rattle.rules.specs.Layout.{room_of, rows_of}
+use Rattle.rules.specs.Tables.{positions_layout, sound_positions}
 use Rattle.cells.specs.SoundTable.{SoundPositions}
 use Rattle.cells.proofs.RowCells.{positions-lawful}
 use Rattle.cells.proofs.SoundCells.{positions-known}
-use Rattle.lookup.specs.Lookup.{foundIn, place_in}
+use Rattle.lookup.specs.Lookup.{found_in, place_in}
 use Rattle.lookup.specs.declared.Found.TheVariants.{Row}
 use Rattle.lookup.proofs.TableLookup.{positions-first, table-absent}
 use Rattle.tables.proofs.RowFits.{room-for-one, insertion-fits, replacement-fits}
@@ -34,7 +34,7 @@ module _ (c : tie.After-found) where
   abbrev row : ℕ
   row = c.found.given.0.0
 
-  there : Row row ≡ foundIn positionsLayout (positionKey (start f).args.p) (start f).args.cells.now
+  there : Row row ≡ found_in positions_layout (position_key (start f).args.p) (start f).args.cells.now
   there = sym c.found.given.1 ∙ (start f).pre.3
 
 -- No row with the key, the place where it belongs, and room for it.
@@ -45,12 +45,12 @@ module _ (c : tie.After-found2) where
   abbrev place : ℕ
   place = c.found2.given.0.0
 
-  lacking : (find positionKey (positionKey (start g).args.p) (rows_of positionsLayout (start g).args.cells.now) ≡ none)
-      × (place ≡ place_in positionsLayout (positionKey (start g).args.p) (start g).args.cells.now)
-  lacking = table-absent positionsLayout positionKey positions-first (start g).args.cells.now (positionKey (start g).args.p) place (sym (start g).pre.3 ∙ c.found2.given.1)
+  lacking : (find position_key (position_key (start g).args.p) (rows_of positions_layout (start g).args.cells.now) ≡ none)
+      × (place ≡ place_in positions_layout (position_key (start g).args.p) (start g).args.cells.now)
+  lacking = table-absent positions_layout position_key positions-first (start g).args.cells.now (position_key (start g).args.p) place (sym (start g).pre.3 ∙ c.found2.given.1)
 
-  room : length (rows_of positionsLayout (start g).args.cells.now) < roomOf positionsLayout (start g).args.cells.now
-  room = room-for-one positionKey (start g).args.p (rows_of positionsLayout (start g).args.cells.now) lacking.0 (start g).pre.2
+  room : length (rows_of positions_layout (start g).args.cells.now) < room_of positions_layout (start g).args.cells.now
+  room = room-for-one position_key (start g).args.p (rows_of positions_layout (start g).args.cells.now) lacking.0 (start g).pre.2
 
 replace-row-requires : tie.Need-replace-row-requires
 replace-row-requires c κs =
@@ -58,8 +58,8 @@ replace-row-requires c κs =
     let f : tie.After-position-cells = f a in
     omega (
       arith,
-      replacement-fits positionsLayout positions-lawful positionKey positions-first soundPosition (start f).args.cells.now (table (start f))
-          f.before.count.result f.before.count.ensures (positionKey (start f).args.p)
+      replacement-fits positions_layout positions-lawful position_key positions-first sound_position (start f).args.cells.now (table (start f))
+          f.before.count.result f.before.count.ensures (position_key (start f).args.p)
           f.position-cells.result (start f).args.p f.position-cells.ensures
           (row a) (there a),
     )
@@ -70,28 +70,28 @@ insert-row-requires c κs =
     let f : tie.After-position-cells = g a in
     omega (
       arith,
-      insertion-fits positionsLayout positions-lawful positionKey positions-first soundPosition (start f).args.cells.now (table (start f))
-          f.before.count.result f.before.count.ensures (positionKey (start f).args.p)
+      insertion-fits positions_layout positions-lawful position_key positions-first sound_position (start f).args.cells.now (table (start f))
+          f.before.count.result f.before.count.ensures (position_key (start f).args.p)
           f.position-cells.result (start f).args.p f.position-cells.ensures
           (omega arith) (room a) (place a) (lacking a).1,
     )
 
 returns : tie.Need-returns
-unfolding soundPositions
+unfolding sound_positions
 returns c =
     let a : tie.After-found = c.before.before.before.before.before in
     let f : tie.After-position-cells = f a in
-    put-replaced positionsLayout positions-lawful positionKey positions-first soundPosition (start f).args.cells.now (table (start f))
+    put-replaced positions_layout positions-lawful position_key positions-first sound_position (start f).args.cells.now (table (start f))
     (start f).args.p (start f).pre.1 f.before.count.result f.before.count.ensures
     f.position-cells.result f.position-cells.ensures
     c.before.replace-row.new.0 (row a) (there a) c.before.replace-row.ensures
 
 returns-2 : tie.Need-returns-2
-unfolding soundPositions
+unfolding sound_positions
 returns-2 c =
     let a : tie.After-found2 = c.before.before.before.before.before in
     let f : tie.After-position-cells = g a in
-    put-inserted positionsLayout positions-lawful positionKey positions-first soundPosition (start f).args.cells.now (table (start f))
+    put-inserted positions_layout positions-lawful position_key positions-first sound_position (start f).args.cells.now (table (start f))
     (start f).args.p (start f).pre.1 f.before.count.result f.before.count.ensures
     f.position-cells.result f.position-cells.ensures
     c.before.insert-row.new.0 (lacking a).0 (room a) (place a) (lacking a).1 c.before.insert-row.ensures

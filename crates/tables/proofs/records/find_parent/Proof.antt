@@ -2,9 +2,9 @@
 use Prim.Native.Nat.{suc, ◌≤◌}
 use native.Mathlib.Omega.{arith}
 use lib.ListN.{length}
-use Rattle.rules.specs.Rows.{recordKey, soundRecord}
+use Rattle.rules.specs.Rows.{record_key, sound_record}
 use Rattle.rules.specs.Layout.{start_of}
-use Rattle.rules.specs.Tables.{recordsLayout}
+use Rattle.rules.specs.Tables.{records_layout}
 use Rattle.cells.specs.SoundTable.{SoundRecords}
 use Rattle.cells.proofs.SoundCells.{records-known}
 use Rattle.scan.proofs.ReadBack.{read_back}
@@ -19,13 +19,13 @@ module _ (s : tie.Start) where
   table : SoundRecords s.args.cells.now
   table = records-known s.args.cells.now s.requires.0
 
-  within : start_of recordsLayout (suc s.args.row) ≤ length s.args.cells.now
+  within : start_of records_layout (suc s.args.row) ≤ length s.args.cells.now
   within = row-cells s.args.cells.now table s.args.row s.pre.1
 
 find-by-distance-requires : tie.Need-find-by-distance-requires
 find-by-distance-requires c κs =
     let s : tie.Start = c.before.before.before in
-    (first-searchable recordsLayout recordKey records-first soundRecord s.args.cells.now (table s) _ (omega (arith, s.requires.1)), omega arith)
+    (first-searchable records_layout record_key records-first sound_record s.args.cells.now (table s) _ (omega (arith, s.requires.1)), omega arith)
 
 returns : tie.Need-returns
 returns c =

@@ -1,8 +1,8 @@
 -- `tables::records::insert_record` meets its contract: the row's cells go in at the place of its key, where the key is absent. Assumes nothing.
 use native.Mathlib.Omega.{arith}
 use borrow.Author.Rules.{rules}
-use Rattle.rules.specs.Rows.{recordKey, soundRecord}
-use Rattle.rules.specs.Tables.{recordsLayout, soundRecordRows}
+use Rattle.rules.specs.Rows.{record_key, sound_record}
+use Rattle.rules.specs.Tables.{records_layout, sound_record_rows}
 use Rattle.cells.specs.SoundTable.{SoundRecords}
 use Rattle.cells.proofs.RowCells.{records-lawful}
 use Rattle.cells.proofs.SoundCells.{records-known}
@@ -22,17 +22,17 @@ insert-row-requires c κs =
     let s : tie.Start = n.before.before in
     omega (
       arith,
-      insertion-fits recordsLayout records-lawful recordKey records-first soundRecord s.args.cells.now (table s) n.count.result n.count.ensures
-          (recordKey s.args.r) r.record-cells.result s.args.r r.record-cells.ensures (omega arith) s.requires.3 s.args.place s.requires.4,
+      insertion-fits records_layout records-lawful record_key records-first sound_record s.args.cells.now (table s) n.count.result n.count.ensures
+          (record_key s.args.r) r.record-cells.result s.args.r r.record-cells.ensures (omega arith) s.requires.3 s.args.place s.requires.4,
     )
 
 returns : tie.Need-returns
-unfolding soundRecordRows
+unfolding sound_record_rows
 returns c =
     let r : tie.After-record-cells = c.before.before.before.before in
     let n : tie.After-count = r.before in
     let s : tie.Start = n.before.before in
-    put-inserted recordsLayout records-lawful recordKey records-first soundRecord s.args.cells.now (table s)
+    put-inserted records_layout records-lawful record_key records-first sound_record s.args.cells.now (table s)
     s.args.r s.requires.1 n.count.result n.count.ensures r.record-cells.result r.record-cells.ensures
     c.before.insert-row.new.0 s.requires.2 s.requires.3 s.args.place s.requires.4 c.before.insert-row.ensures
 

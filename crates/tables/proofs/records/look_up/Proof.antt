@@ -2,11 +2,11 @@
 use mathlib.Core.Path.{◌≡◌, ap, ◌∙◌}
 use Prim.Native.Nat.{ℕ}
 use mir.Facts.{to_z-of_z}
-use Rattle.rules.specs.Rows.{key_of, recordKey, soundRecord}
-use Rattle.rules.specs.Tables.{recordsLayout}
-use Rattle.cells.proofs.Count.{length-rowsOf}
+use Rattle.rules.specs.Rows.{key_of, record_key, sound_record}
+use Rattle.rules.specs.Tables.{records_layout}
+use Rattle.cells.proofs.Count.{length-rows_of}
 use Rattle.cells.proofs.SoundCells.{records-known}
-use Rattle.lookup.specs.Lookup.{rowSought}
+use Rattle.lookup.specs.Lookup.{row_sought}
 use Rattle.lookup.proofs.TableLookup.{records-first, table-searchable}
 use borrow.Author.Rules.{rules}
 use Rattle.tables.proofs.records.look_up.Statement.{statement}
@@ -17,13 +17,13 @@ count-requires c κs = search rules
 
 look-up-requires : tie.Need-look-up-requires
 look-up-requires c κs =
-    table-searchable recordsLayout recordKey records-first c.before.args.cells.now soundRecord (records-known c.before.args.cells.now c.before.requires) c.count.result c.count.ensures
+    table-searchable records_layout record_key records-first c.before.args.cells.now sound_record (records-known c.before.args.cells.now c.before.requires) c.count.result c.count.ensures
 
 returns : tie.Need-returns
 returns c =
     let s : tie.Start = c.before.before in
-    let answer : c.look_up.result ≡ rowSought recordsLayout.header recordsLayout.width (key_of s.args.id s.args.suffix) c.before.count.result s.args.cells.now = simp (to_z-of_z s.ranges.id, to_z-of_z s.ranges.suffix) at c.look_up.ensures in
-    answer ∙ ap (λ (n : ℕ). rowSought recordsLayout.header recordsLayout.width (key_of s.args.id s.args.suffix) n s.args.cells.now) (c.before.count.ensures ∙ length-rowsOf recordsLayout s.args.cells.now)
+    let answer : c.look_up.result ≡ row_sought records_layout.header records_layout.width (key_of s.args.id s.args.suffix) c.before.count.result s.args.cells.now = simp (to_z-of_z s.ranges.id, to_z-of_z s.ranges.suffix) at c.look_up.ensures in
+    answer ∙ ap (λ (n : ℕ). row_sought records_layout.header records_layout.width (key_of s.args.id s.args.suffix) n s.args.cells.now) (c.before.count.ensures ∙ length-rows_of records_layout s.args.cells.now)
 
 pub look-up-spec : {M : Type 1} → statement M
 look-up-spec = tie.close (tie.spec count-requires look-up-requires returns)

@@ -3,7 +3,7 @@ use native.Mathlib.Omega.{arith}
 use Prim.Native.Nat.{suc, ◌+◌, ◌*◌, ◌≤◌}
 use lib.ListN.{length}
 use Rattle.rules.specs.Layout.{start_of}
-use Rattle.rules.specs.Tables.{recordsLayout}
+use Rattle.rules.specs.Tables.{records_layout}
 use Rattle.cells.proofs.SoundCells.{records-known}
 use Rattle.tables.proofs.RowStatus.{row-cells}
 use borrow.Author.Rules.{rules}
@@ -11,7 +11,7 @@ use Rattle.tables.proofs.records.read_record.Statement.{statement}
 use Rattle.tables.proofs.records.read_record.Tie as tie
 
 module _ (s : tie.Start) where
-  within : start_of recordsLayout (suc s.args.row) ≤ length s.args.cells.now
+  within : start_of records_layout (suc s.args.row) ≤ length s.args.cells.now
   within = row-cells s.args.cells.now (records-known s.args.cells.now s.requires.0) s.args.row s.requires.1
 
 mul-record-at : tie.Need-overflow-mul-record-at

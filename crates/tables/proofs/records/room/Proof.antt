@@ -1,7 +1,7 @@
 -- `tables::records::room` meets its contract: the layout's numbers. Assumes nothing.
 use mathlib.Core.Path.{◌∙◌}
 use borrow.Author.Rules.{rules}
-use Rattle.rules.specs.Tables.{recordsLayout}
+use Rattle.rules.specs.Tables.{records_layout}
 use Rattle.scan.proofs.Room.{layout-room}
 use Rattle.tables.proofs.records.room.Statement.{statement}
 use Rattle.tables.proofs.records.room.Tie as tie
@@ -10,7 +10,7 @@ room-for-requires : tie.Need-room-for-requires
 room-for-requires c κs = search rules
 
 returns : tie.Need-returns
-returns c = c.room_for.ensures ∙ layout-room recordsLayout c.before.args.cells.now
+returns c = c.room_for.ensures ∙ layout-room records_layout c.before.args.cells.now
 
 pub room-spec : {M : Type 1} → statement M
 room-spec = tie.close (tie.spec room-for-requires returns)

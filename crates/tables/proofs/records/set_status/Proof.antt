@@ -5,14 +5,14 @@ use lib.ListN.{length}
 use mir.Facts.{to_z-of_z}
 use borrow.Author.Rules.{rules}
 use Rattle.rules.specs.Layout.{start_of}
-use Rattle.rules.specs.Tables.{recordsLayout}
+use Rattle.rules.specs.Tables.{records_layout}
 use Rattle.cells.proofs.SoundCells.{records-known}
 use Rattle.tables.proofs.RowStatus.{row-cells, row-in-status}
 use Rattle.tables.proofs.records.set_status.Statement.{statement}
 use Rattle.tables.proofs.records.set_status.Tie as tie
 
 module _ (s : tie.Start) where
-  within : start_of recordsLayout (suc s.args.row) ≤ length s.args.cells.now
+  within : start_of records_layout (suc s.args.row) ≤ length s.args.cells.now
   within = row-cells s.args.cells.now (records-known s.args.cells.now s.requires.0) s.args.row s.requires.1
 
 mul-status : tie.Need-overflow-mul-status

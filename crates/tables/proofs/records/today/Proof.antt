@@ -1,5 +1,5 @@
 -- `tables::records::today` meets its contract: cell 1 of a sound table, read back from its bits. Assumes nothing.
-use Rattle.rules.specs.Tables.{currentDay}
+use Rattle.rules.specs.Tables.{current_day}
 use Rattle.cells.proofs.SoundCells.{records-known}
 use Rattle.scan.proofs.ReadBack.{read_back}
 use Rattle.tables.proofs.records.today.Statement.{statement}
@@ -10,4 +10,4 @@ today-spec =
     tie.close
     (tie.spec
     (λ c. (records-known c.args.cells.now c.requires).header-within)
-    (λ c. read_back (currentDay c.before.args.cells.now) c.result.given))
+    (λ c. read_back (current_day c.before.args.cells.now) c.result.given))

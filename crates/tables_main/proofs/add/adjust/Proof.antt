@@ -7,14 +7,14 @@ use lib.IntN.{ℤ, pos}
 use lib.ListN.{length}
 use mir.Facts.{to_z-of_z, sfits_lit}
 use borrow.Author.Rules.{rules, sfits_of}
-use Rattle.integers.proofs.Bits.{ofZ-inj}
-use Rattle.rules.specs.Rows.{key_of, recordKey, adjustedRecord}
+use Rattle.integers.proofs.Bits.{of_z-inj}
+use Rattle.rules.specs.Rows.{key_of, record_key, adjusted_record}
 use Rattle.rules.specs.Layout.{rows_of, row_at}
-use Rattle.rules.specs.Tables.{recordsLayout, soundRecordRows}
+use Rattle.rules.specs.Tables.{records_layout, sound_record_rows}
 use Rattle.rules.specs.declared.Record.{Record}
 use Rattle.figures.proofs.Tests.{passed}
 use Rattle.cells.proofs.SoundCells.{record-rows-sound, records-known}
-use Rattle.lookup.specs.Lookup.{recordSought}
+use Rattle.lookup.specs.Lookup.{record_sought}
 use Rattle.lookup.proofs.TableLookup.{records-first}
 use Rattle.lookup.proofs.TableSought.{table-present}
 use Rattle.tables.proofs.RowStatus.{adjusted-row-sound}
@@ -25,7 +25,7 @@ module _ (c : tie.Else1) where
   abbrev start : tie.Start
   start = c.before.before.before
 
-  sound : soundRecordRows start.args.cells.now ≡ true
+  sound : sound_record_rows start.args.cells.now ≡ true
   sound = record-rows-sound start.args.cells.now (passed c.before.records-sound.ensures c.if1.false)
 
 -- The row that the lookup found is one of the table's.
@@ -33,12 +33,12 @@ module _ (c : tie.After-row) where
   abbrev tested : tie.Else1
   tested = c.before.before.before.before
 
-  answer : c.before.before.look_up.result ≡ recordSought (start tested).args.cells.now (start tested).args.id (start tested).args.suffix
+  answer : c.before.before.look_up.result ≡ record_sought (start tested).args.cells.now (start tested).args.id (start tested).args.suffix
   answer = simp (to_z-of_z (start tested).fits.id, to_z-of_z (start tested).fits.suffix) at c.before.before.look_up.ensures
 
-  there : c.row.given.0.0 < length (rows_of recordsLayout (start tested).args.cells.now)
+  there : c.row.given.0.0 < length (rows_of records_layout (start tested).args.cells.now)
   there =
-      (table-present recordsLayout recordKey records-first (start tested).args.cells.now (key_of (start tested).args.id (start tested).args.suffix) _ _ _
+      (table-present records_layout record_key records-first (start tested).args.cells.now (key_of (start tested).args.id (start tested).args.suffix) _ _ _
       (sym answer ∙ c.row.given.1)).row_within
 
 -- Its status is 0.
@@ -46,10 +46,10 @@ module _ (c : tie.Else2) where
   abbrev found : tie.After-row
   found = c.before.before.before.before.before.before
 
-  status-zero : (row_at recordsLayout (start (tested found)).args.cells.now found.row.given.0.0).status ≡ pos 0
+  status-zero : (row_at records_layout (start (tested found)).args.cells.now found.row.given.0.0).status ≡ pos 0
   status-zero =
       sym (ap (λ (r : Record). r.status) c.before.before.before.read-record.ensures)
-      ∙ ofZ-inj (sfits_of c.before.struct_told.given.1.1.1.1.0.1) (sfits_lit tt) c.if2.false
+      ∙ of_z-inj (sfits_of c.before.struct_told.given.1.1.1.1.0.1) (sfits_lit tt) c.if2.false
 
 look-up-requires : tie.Need-look-up-requires
 look-up-requires c κs = sound c.before
@@ -58,7 +58,7 @@ read-record-requires : tie.Need-read-record-requires
 read-record-requires c κs = (sound (tested c.before.before), there c.before.before)
 
 set-status-requires : tie.Need-set-status-requires
-unfolding adjustedRecord
+unfolding adjusted_record
 set-status-requires c κs =
     let f : tie.After-row = found c.before in
     let cells : List ℤ = (start (tested f)).args.cells.now in (

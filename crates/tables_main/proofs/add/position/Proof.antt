@@ -10,15 +10,15 @@ use lib.IntN.{ℤ}
 use mir.Syntax.{w64}
 use mir.Val.{to_z, of_z}
 use borrow.Author.Rules.{rules}
-use Rattle.rules.specs.Keyed.{absentFrom}
-use Rattle.rules.specs.Rows.{positionKey, soundPosition}
-use Rattle.rules.specs.Layout.{roomOf, rows_of, row_at}
-use Rattle.rules.specs.Tables.{positionsLayout, soundPositions}
+use Rattle.rules.specs.Keyed.{absent_from}
+use Rattle.rules.specs.Rows.{position_key, sound_position}
+use Rattle.rules.specs.Layout.{room_of, rows_of, row_at}
+use Rattle.rules.specs.Tables.{positions_layout, sound_positions}
 use Rattle.rules.specs.declared.Position.{Position}
 use Rattle.cells.proofs.SoundCells.{positions-known}
 use Rattle.figures.proofs.Tests.{passed}
-use Rattle.keys.proofs.Clauses.{absentFrom-nil, absentFrom-new, absentFrom-old}
-use Rattle.lookup.specs.Lookup.{positionFound}
+use Rattle.keys.proofs.Clauses.{absent_from-nil, absent_from-new, absent_from-old}
+use Rattle.lookup.specs.Lookup.{position_found}
 use Rattle.lookup.specs.declared.Found.TheVariants.{Row, Absent}
 use Rattle.lookup.proofs.TableLookup.{position-found, position_absent}
 use Rattle.tables_main.proofs.add.position.Statement.{statement}
@@ -42,21 +42,21 @@ new s =
     }
 
 abbrev rows : tie.Start → List Position
-rows s = rows_of positionsLayout s.args.cells.now
+rows s = rows_of positions_layout s.args.cells.now
 
 -- There is room for the rows, with the new one where its key is absent.
 abbrev Room : tie.Start → Type 0
-Room s = length (rows s) + absentFrom positionKey (rows s) (new s ∷ []) ≤ roomOf positionsLayout s.args.cells.now
+Room s = length (rows s) + absent_from position_key (rows s) (new s ∷ []) ≤ room_of positions_layout s.args.cells.now
 
 -- The table and the position passed their tests.
 module _ (c : tie.Else2) where
   abbrev start : tie.Start
   start = c.before.before.before.before.before
 
-  table-sound : soundPositions start.args.cells.now ≡ true
+  table-sound : sound_positions start.args.cells.now ≡ true
   table-sound = passed c.before.before.before.positions-sound.ensures c.before.before.if1.false
 
-  position-sound : soundPosition (new start) ≡ true
+  position-sound : sound_position (new start) ≡ true
   position-sound = passed c.before.sound-position.ensures c.if2.false
 
 module _ (c : tie.After-find-position) where
@@ -66,7 +66,7 @@ module _ (c : tie.After-find-position) where
   abbrev from : tie.Start
   from = start tested
 
-  answer : c.find-position.result ≡ positionFound from.args.cells.now (new from).account (new from).series
+  answer : c.find-position.result ≡ position_found from.args.cells.now (new from).account (new from).series
   answer = c.find-position.ensures
 
   -- A row is written over.
@@ -75,9 +75,9 @@ module _ (c : tie.After-find-position) where
       omega (
         arith,
         (positions-known from.args.cells.now (table-sound tested)).rows_fit,
-        absentFrom-old positionKey (rows from) (new from) (row_at positionsLayout from.args.cells.now row) []
+        absent_from-old position_key (rows from) (new from) (row_at positions_layout from.args.cells.now row) []
             (position-found from.args.cells.now (new from).account (new from).series row (sym answer ∙ e)).1,
-        absentFrom-nil positionKey (rows from),
+        absent_from-nil position_key (rows from),
       )
 
   -- A row is made.
@@ -87,9 +87,9 @@ module _ (c : tie.After-find-position) where
         arith,
         c.before.before.room.ensures,
         c.before.before.before.before.count.ensures,
-        absentFrom-new positionKey (rows from) (new from) []
+        absent_from-new position_key (rows from) (new from) []
             (position_absent from.args.cells.now (new from).account (new from).series place (sym answer ∙ e)),
-        absentFrom-nil positionKey (rows from),
+        absent_from-nil position_key (rows from),
       )
 
 fits : (c : tie.At-match-branch) → Room (from c.before)

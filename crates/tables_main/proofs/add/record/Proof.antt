@@ -5,13 +5,13 @@ use mathlib.Core.Path.{◌≡◌, sym, ◌∙◌}
 use mathlib.Core.Bool.{true}
 use lib.ListN.{length}
 use borrow.Author.Rules.{rules}
-use Rattle.rules.specs.Rows.{recordKey, soundRecord}
-use Rattle.rules.specs.Layout.{roomOf, rows_of}
-use Rattle.rules.specs.Tables.{recordsLayout, soundRecordRows}
+use Rattle.rules.specs.Rows.{record_key, sound_record}
+use Rattle.rules.specs.Layout.{room_of, rows_of}
+use Rattle.rules.specs.Tables.{records_layout, sound_record_rows}
 use Rattle.rules.specs.declared.Record.{Record}
 use Rattle.cells.proofs.SoundCells.{record-rows-sound}
 use Rattle.figures.proofs.Tests.{passed}
-use Rattle.lookup.specs.Lookup.{recordSought}
+use Rattle.lookup.specs.Lookup.{record_sought}
 use Rattle.lookup.proofs.TableLookup.{records-first}
 use Rattle.lookup.specs.SoughtRows.{AbsentAt}
 use Rattle.lookup.proofs.TableSought.{table-lacks}
@@ -27,10 +27,10 @@ module _ (c : tie.Else2) where
   abbrev new : Record
   new = c.before.before.before.before.before.original.result
 
-  table-sound : soundRecordRows start.args.cells.now ≡ true
+  table-sound : sound_record_rows start.args.cells.now ≡ true
   table-sound = record-rows-sound start.args.cells.now (passed c.before.before.before.records-sound.ensures c.before.before.if1.false)
 
-  record-sound : soundRecord new ≡ true
+  record-sound : sound_record new ≡ true
   record-sound = passed c.before.sound-record.ensures c.if2.false
 
 -- The lookup found no row.
@@ -41,20 +41,20 @@ module _ (c : tie.After-place) where
   abbrev tested : tie.Else2
   tested = looked.before.before.before.before
 
-  answer : looked.look_up.result ≡ recordSought (start tested).args.cells.now (new tested).id (new tested).suffix
+  answer : looked.look_up.result ≡ record_sought (start tested).args.cells.now (new tested).id (new tested).suffix
   answer =
       simp (read_back (new tested).id looked.before.before.struct_told.given.0.1, read_back (new tested).suffix looked.before.struct-told2.given.1.0.1)
       at looked.look_up.ensures
 
-  absent : AbsentAt recordsLayout recordKey (start tested).args.cells.now (recordKey (new tested)) c.place.given.0.0 c.place.given.0.1.0
-  absent = table-lacks recordsLayout recordKey records-first (start tested).args.cells.now (recordKey (new tested)) _ _ (sym answer ∙ c.place.given.1)
+  absent : AbsentAt records_layout record_key (start tested).args.cells.now (record_key (new tested)) c.place.given.0.0 c.place.given.0.1.0
+  absent = table-lacks records_layout record_key records-first (start tested).args.cells.now (record_key (new tested)) _ _ (sym answer ∙ c.place.given.1)
 
 -- There is room.
 module _ (c : tie.Else3) where
   abbrev lacking : tie.After-place
   lacking = c.before.before.before.before.before.before
 
-  room : length (rows_of recordsLayout (start (tested lacking)).args.cells.now) < roomOf recordsLayout (start (tested lacking)).args.cells.now
+  room : length (rows_of records_layout (start (tested lacking)).args.cells.now) < room_of records_layout (start (tested lacking)).args.cells.now
   room = omega (arith, c.if3.false, c.before.count.ensures, c.before.before.before.room.ensures)
 
 look-up-requires : tie.Need-look-up-requires

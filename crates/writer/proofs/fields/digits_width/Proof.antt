@@ -3,13 +3,13 @@ use Prim.Native.Nat.{◌+◌, ◌-◌}
 use mathlib.Core.Path.{◌≡◌}
 use native.Mathlib.Omega.{arith}
 use lib.ListN.{length}
-use Rattle.text.specs.Decimal.{digitsOf}
+use Rattle.text.specs.Decimal.{digits_of}
 use Rattle.writer.proofs.Widths.{width_one, width-of-tenth, width-bound}
 use Rattle.writer.proofs.fields.digits_width.Statement.{statement}
 use Rattle.writer.proofs.fields.digits_width.Tie as tie
 
 abbrev invariant-loop : tie.invariant-loop
-invariant-loop n width₀ left₀ width left = width + length (digitsOf left) ≡ length (digitsOf n) + (1 - left)
+invariant-loop n width₀ left₀ width left = width + length (digits_of left) ≡ length (digits_of n) + (1 - left)
 
 abbrev decreases-loop : tie.decreases-loop
 decreases-loop n width₀ left₀ width left = left

@@ -10,23 +10,23 @@ use lib.Seq.{take_all}
 use mir.Facts.{to_z-of_z}
 use mir.Syntax.{w64}
 use mir.Val.{SFits}
-use Rattle.text.specs.Decimal.{numberText}
-use Rattle.text.specs.Fields.{fieldsText}
+use Rattle.text.specs.Decimal.{number_text}
+use Rattle.text.specs.Fields.{fields_text}
 use Rattle.writer.proofs.NumberTexts.{width-next}
 use Rattle.writer.proofs.fields.fields_width.Statement.{statement}
 use Rattle.writer.proofs.fields.fields_width.Tie as tie
 
 abbrev invariant-loop : tie.invariant-loop
-invariant-loop figures width₀ i₀ width i = (i ≤ length figures) × (width ≡ length (fieldsText (take i figures))) × (width ≤ 22 * i)
+invariant-loop figures width₀ i₀ width i = (i ≤ length figures) × (width ≡ length (fields_text (take i figures))) × (width ≤ 22 * i)
 
 abbrev decreases-loop : tie.decreases-loop
 decreases-loop figures width₀ i₀ width i = length figures - i
 
 loop-holds : tie.Need-loop-init invariant-loop decreases-loop
-unfolding fieldsText
+unfolding fields_text
 loop-holds c = (search rules, refl, search rules)
 
-number : (a : tie.After-number-width invariant-loop decreases-loop) → a.number-width.result ≡ length (numberText (get_or a.before.before.before.before.args.figures.now a.before.before.before.loop.i (pos 0)))
+number : (a : tie.After-number-width invariant-loop decreases-loop) → a.number-width.result ≡ length (number_text (get_or a.before.before.before.before.args.figures.now a.before.before.before.loop.i (pos 0)))
 number a =
     let f : SFits w64 (get_or a.before.before.before.before.args.figures.now a.before.before.before.loop.i (pos 0)) = sfits_of a.before.figure.given in
     simp (to_z-of_z f) at a.number-width.ensures.0
@@ -38,7 +38,7 @@ loop-again c =
 returns : tie.Need-returns invariant-loop decreases-loop
 returns c =
     let all : take c.before.loop.i c.before.before.args.figures.now ≡ c.before.before.args.figures.now = take_all c.before.loop.i c.before.before.args.figures.now c.loop-test.false in
-    omega (arith, ap (λ (l : List ℤ). length (fieldsText l)) all)
+    omega (arith, ap (λ (l : List ℤ). length (fields_text l)) all)
 
 pub fields-width-spec : {M : Type 1} → statement M
 fields-width-spec =

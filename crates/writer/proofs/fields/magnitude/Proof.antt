@@ -9,7 +9,7 @@ use lib.IntN.{pos, nat_abs, ◌+ℤ◌, ◌-ℤ◌}
 use mir.Facts.{to_z-of_z, Fits-nat_abs}
 use mir.Syntax.{w64}
 use mir.Val.{SFits, to_z, of_z}
-use Rattle.integers.proofs.Order.{ltZ-le}
+use Rattle.integers.proofs.Order.{lt_z-le}
 use Rattle.writer.proofs.Magnitudes.{one-more-fits, less_one, less-one-fits, above_zero}
 use Rattle.writer.proofs.fields.magnitude.Statement.{statement}
 use Rattle.writer.proofs.fields.magnitude.Tie as tie
@@ -47,7 +47,7 @@ add-result-2 c =
 cast-result-2 : tie.Need-overflow-cast-result-2
 cast-result-2 c =
     let left : lt_z c.before.args.z (pos 0) ≡ false = simp (same c.before) at c.if1.false in
-    simp (same c.before) (yes_non_neg (ltZ-le c.before.args.z (pos 0) left), Fits-nat_abs tt c.before.ranges.z)
+    simp (same c.before) (yes_non_neg (lt_z-le c.before.args.z (pos 0) left), Fits-nat_abs tt c.before.ranges.z)
 
 returns : tie.Need-returns
 returns c = simp (same c.before, more c, opposite c) (omega (arith, above_zero c.before.args.z (below c)))

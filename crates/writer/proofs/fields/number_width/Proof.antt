@@ -6,12 +6,12 @@ use lib.IntN.{nat_abs}
 use lib.ListN.{length}
 use mir.Facts.{to_z-of_z}
 use Rattle.integers.proofs.Linear.{zarith}
-use Rattle.text.specs.Decimal.{digitsOf}
+use Rattle.text.specs.Decimal.{digits_of}
 use Rattle.writer.proofs.NumberTexts.{below-zero, not-below-zero}
 use Rattle.writer.proofs.fields.number_width.Statement.{statement}
 use Rattle.writer.proofs.fields.number_width.Tie as tie
 
-digits : (a : tie.After-digits-width) → a.digits-width.result ≡ length (digitsOf (nat_abs a.before.before.args.z))
+digits : (a : tie.After-digits-width) → a.digits-width.result ≡ length (digits_of (nat_abs a.before.before.args.z))
 digits a =
     let m : a.before.magnitude.result ≡ nat_abs a.before.before.args.z = simp (to_z-of_z a.before.before.ranges.z) at a.before.magnitude.ensures in
     rw m at a.digits-width.ensures.0

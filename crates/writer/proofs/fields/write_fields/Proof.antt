@@ -9,21 +9,21 @@ use lib.Seq.{take_all}
 use mir.Facts.{to_z-of_z}
 use mir.Syntax.{w64}
 use mir.Val.{SFits, to_z, of_z}
-use Rattle.text.specs.Decimal.{numberText}
-use Rattle.text.specs.Fields.{fieldsText}
+use Rattle.text.specs.Decimal.{number_text}
+use Rattle.text.specs.Fields.{fields_text}
 use Rattle.text.proofs.WrittenLaws.{Wrote, written-nothing, wrote-length}
 use Rattle.writer.proofs.NumbersWritten.{field_room, field-written}
 use Rattle.writer.proofs.fields.write_fields.Statement.{statement}
 use Rattle.writer.proofs.fields.write_fields.Tie as tie
 
 abbrev invariant-loop : tie.invariant-loop
-invariant-loop text₀ at figures next₀ i₀ text next i = (i ≤ length figures) × Wrote (fieldsText (take i figures)) at text₀ next text
+invariant-loop text₀ at figures next₀ i₀ text next i = (i ≤ length figures) × Wrote (fields_text (take i figures)) at text₀ next text
 
 abbrev decreases-loop : tie.decreases-loop
 decreases-loop text₀ at figures next₀ i₀ text next i = length figures - i
 
 loop-holds : tie.Need-loop-init invariant-loop decreases-loop
-unfolding fieldsText
+unfolding fields_text
 loop-holds c = (omega arith, (omega arith, sym (written-nothing c.before.args.at c.before.args.text.now)))
 
 -- the figure that is read, and room for its field
@@ -34,7 +34,7 @@ module _ (a : tie.After-figure invariant-loop decreases-loop) where
       let f : SFits w64 (get_or a.before.before.before.before.args.figures.now a.before.before.loop.i (pos 0)) = sfits_of a.figure.given in
       to_z-of_z f
 
-  room : a.before.before.loop.next + 1 + length (numberText (get_or a.before.before.before.before.args.figures.now a.before.before.loop.i (pos 0)))
+  room : a.before.before.loop.next + 1 + length (number_text (get_or a.before.before.before.before.args.figures.now a.before.before.loop.i (pos 0)))
       ≤ length a.before.before.loop.text
   room = field_room _ _ _ _ a.before.loop-test.taken a.before.before.before.before.pre _ _ a.before.before.loop.inv.1
 
@@ -56,14 +56,14 @@ loop-again c =
 
 -- past the last figure
 whole : (c : tie.After-loop invariant-loop decreases-loop)
-    → Wrote (fieldsText c.before.before.before.args.figures.now) c.before.before.before.args.at c.before.before.before.args.text.now c.before.loop.next
+    → Wrote (fields_text c.before.before.before.args.figures.now) c.before.before.before.args.at c.before.before.before.args.text.now c.before.loop.next
     c.before.loop.text
 whole c =
     let all : take c.before.loop.i c.before.before.before.args.figures.now ≡ c.before.before.before.args.figures.now = take_all c.before.loop.i c.before.before.before.args.figures.now c.loop-test.false in
     rw all at c.before.loop.invariant.1
 
 same_length : tie.Need-same-length invariant-loop decreases-loop
-same_length c = wrote-length (fieldsText c.before.before.before.args.figures.now) _ _ _ _ c.before.before.before.requires (whole c)
+same_length c = wrote-length (fields_text c.before.before.before.args.figures.now) _ _ _ _ c.before.before.before.requires (whole c)
 
 pub write-fields-spec : {M : Type 1} → statement M
 write-fields-spec =

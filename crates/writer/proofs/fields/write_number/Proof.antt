@@ -7,14 +7,14 @@ use lib.IntN.{nat_abs}
 use lib.ListN.{length}
 use mir.Facts.{to_z-of_z}
 use Rattle.integers.proofs.Linear.{zarith}
-use Rattle.text.specs.Decimal.{minus, digitsOf, numberText}
+use Rattle.text.specs.Decimal.{minus, digits_of, number_text}
 use Rattle.writer.proofs.NumberTexts.{below-zero, not-below-zero}
 use Rattle.writer.proofs.NumbersWritten.{negative-written}
 use Rattle.writer.proofs.fields.write_number.Statement.{statement}
 use Rattle.writer.proofs.fields.write_number.Tie as tie
 
 -- below zero
-signed : (t : tie.Then1) → numberText t.before.before.args.z ≡ minus ∷ digitsOf (nat_abs t.before.before.args.z)
+signed : (t : tie.Then1) → number_text t.before.before.args.z ≡ minus ∷ digits_of (nat_abs t.before.before.args.z)
 signed t = below-zero t.before.before.args.z (omega (zarith, simp (to_z-of_z t.before.before.ranges.z) at t.if1.true))
 
 magnitude : (m : tie.After-magnitude) → m.magnitude.result ≡ nat_abs m.before.before.before.before.before.before.before.before.args.z
@@ -25,7 +25,7 @@ write-byte-requires c κs = omega (arith, ap length (signed c.before))
 
 write-digits-requires : tie.Need-write-digits-requires
 write-digits-requires c κs =
-    omega (arith, ap length (signed c.before.before.before.before.before.before), ap (λ n. length (digitsOf n)) (magnitude c))
+    omega (arith, ap length (signed c.before.before.before.before.before.before), ap (λ n. length (digits_of n)) (magnitude c))
 
 returns : tie.Need-returns
 returns c =
@@ -35,7 +35,7 @@ returns c =
     c.before.before.write-digits.ensures
 
 -- not below zero
-plain : (m : tie.After-magnitude2) → numberText m.before.before.before.before.args.z ≡ digitsOf m.magnitude2.result
+plain : (m : tie.After-magnitude2) → number_text m.before.before.before.before.args.z ≡ digits_of m.magnitude2.result
 plain m =
     let same : m.magnitude2.result ≡ nat_abs m.before.before.before.before.args.z = simp (to_z-of_z m.before.before.before.before.ranges.z) at m.magnitude2.ensures in
     rw same (not-below-zero m.before.before.before.before.args.z (omega (zarith, simp (to_z-of_z m.before.before.before.before.ranges.z) at m.before.before.if1.false)))

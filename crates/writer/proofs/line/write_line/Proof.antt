@@ -3,15 +3,15 @@ use Prim.Native.Nat.{◌+◌, ◌≤◌}
 use borrow.Author.Rules.{rules}
 use native.Mathlib.Omega.{arith}
 use lib.ListN.{length}
-use Rattle.rules.specs.Line.{headingText}
-use Rattle.text.specs.Fields.{fieldsText}
+use Rattle.rules.specs.Line.{heading_text}
+use Rattle.text.specs.Fields.{fields_text}
 use Rattle.writer.proofs.LineWritten.{line-length, line-written}
 use Rattle.writer.proofs.line.write_line.Statement.{statement}
 use Rattle.writer.proofs.line.write_line.Tie as tie
 
 -- room for all parts
 room : (s : tie.Start)
-    → s.args.at + (length (headingText s.args.heading) + length (fieldsText s.args.figures.now) + length (fieldsText s.args.more.now) + 1) ≤ length s.args.text.now
+    → s.args.at + (length (heading_text s.args.heading) + length (fields_text s.args.figures.now) + length (fields_text s.args.more.now) + 1) ≤ length s.args.text.now
 room s = omega (arith, line-length s.args.heading s.args.figures.now s.args.more.now)
 
 write-heading-requires : tie.Need-write-heading-requires

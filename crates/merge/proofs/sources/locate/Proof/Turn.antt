@@ -16,24 +16,24 @@ use mir.Syntax.{w16, w64}
 use mir.Val.{Fits, SFits, to_z, of_z}
 use Rattle.integers.proofs.Linear.{zarith, abs-lin}
 use Rattle.rules.specs.Keyed.{Key, find}
-use Rattle.rules.specs.Rows.{recordKey}
+use Rattle.rules.specs.Rows.{record_key}
 use Rattle.rules.specs.Refusal.{any_of}
 use Rattle.rules.specs.Layout.{rows_of}
-use Rattle.rules.specs.Tables.{recordsLayout}
-use Rattle.rules.specs.Merge.{isMissing}
-use Rattle.lookup.specs.Lookup.{soughtIn}
+use Rattle.rules.specs.Tables.{records_layout}
+use Rattle.rules.specs.Merge.{is_missing}
+use Rattle.lookup.specs.Lookup.{sought_in}
 use Rattle.lookup.proofs.TableLookup.{records-first}
 use Rattle.lookup.specs.SoughtRows.{PresentAt}
 use Rattle.lookup.proofs.TableSought.{table-present, table-lacks}
 use Rattle.verdict.proofs.SoundReads.{greatest-range}
-use Rattle.merge_sources.specs.Sources.{sourcesIn}
+use Rattle.merge_sources.specs.Sources.{sources_in}
 use Rattle.merge_sources.specs.Pairs.{pair_at}
 use Rattle.merge_sources.proofs.SourceList.{source-count}
 use Rattle.merge_sources.proofs.SourceRows.{KnownTo, RowOfPair, SuffixOfPair, row_small}
 use Rattle.merge.proofs.sources.locate.Tie as tie
 
 abbrev pub missing : List ℤ → List ℤ → List Bool
-missing cells pairs = map isMissing (sourcesIn cells pairs)
+missing cells pairs = map is_missing (sources_in cells pairs)
 
 abbrev pub Inv-loop : tie.invariant-loop
 Inv-loop records pairs rows₀ suffixes₀ count i₀ rows suffixes i =
@@ -63,12 +63,12 @@ module _ (a : tie.At-loop Inv-loop μ-loop) where
   pair = pair_at list a.loop.i
 
   pub many : length (missing cells list) ≡ length list / 2
-  many = length-map (sourcesIn cells list) isMissing ∙ source-count cells list
+  many = length-map (sources_in cells list) is_missing ∙ source-count cells list
 
 abbrev pub turn : tie.After-look-up Inv-loop μ-loop → tie.At-loop Inv-loop μ-loop
 turn c = c.before.before.before.before
 
-answer : (c : tie.After-look-up Inv-loop μ-loop) → c.look_up.result ≡ soughtIn recordsLayout (pair (turn c)) (cells (turn c))
+answer : (c : tie.After-look-up Inv-loop μ-loop) → c.look_up.result ≡ sought_in records_layout (pair (turn c)) (cells (turn c))
 unfolding pair_at
 answer c =
     let a : tie.At-loop Inv-loop μ-loop = turn c in
@@ -76,10 +76,10 @@ answer c =
     let g : SFits w64 (get_or (list a) (2 * a.loop.i + 1) (pos 0)) = sfits_of c.before.look-up-arg2.given in
     simp (to_z-of_z f, to_z-of_z g) at c.look_up.ensures
 
-pub absent : (c : tie.After-enum-told Inv-loop μ-loop) → let a = turn c.before.before in find recordKey (pair a) (rows_of recordsLayout (cells a)) ≡ none
+pub absent : (c : tie.After-enum-told Inv-loop μ-loop) → let a = turn c.before.before in find record_key (pair a) (rows_of records_layout (cells a)) ≡ none
 absent c =
     let a : tie.At-loop Inv-loop μ-loop = turn c.before.before in
-    (table-lacks recordsLayout recordKey records-first (cells a) (pair a) _ _ (sym (answer c.before.before) ∙ c.enum_told.given.1)).absent
+    (table-lacks records_layout record_key records-first (cells a) (pair a) _ _ (sym (answer c.before.before) ∙ c.enum_told.given.1)).absent
 
 module _ (c : tie.After-known-told Inv-loop μ-loop) where
   abbrev here : tie.At-loop Inv-loop μ-loop
@@ -91,8 +91,8 @@ module _ (c : tie.After-known-told Inv-loop μ-loop) where
   abbrev suffix : ℤ
   suffix = c.before.row.given.0.1.0
 
-  pub there : PresentAt recordsLayout recordKey (cells here) (pair here) row suffix c.before.row.given.0.1.1.0
-  there = table-present recordsLayout recordKey records-first (cells here) (pair here) row suffix _ (sym (answer c.before.before.before) ∙ c.before.row.given.1)
+  pub there : PresentAt records_layout record_key (cells here) (pair here) row suffix c.before.row.given.0.1.1.0
+  there = table-present records_layout record_key records-first (cells here) (pair here) row suffix _ (sym (answer c.before.before.before) ∙ c.before.row.given.1)
 
   pub small : row < 65536
   small = row_small (cells here) (list here) here.loop.i row there.found-is (start here).pre.0
