@@ -17,62 +17,62 @@ module _ (s : tie.Start) where
   v = to_z-of_z s.ranges.value
 
   q : to_z w64 (of_z w64 s.args.quantity) ≡ s.args.quantity
-  q = to_z-of_z s.fits.quantity
+  q = to_z-of_z s.ranges.quantity
 
   quotient : to_z w64 (of_z w64 (quot_z s.args.value s.args.quantity)) ≡ quot_z s.args.value s.args.quantity
-  quotient = to_z-of_z (quot_fits _ _ s.pre)
+  quotient = to_z-of_z (quot_fits _ _ s.requires)
 
   rest : to_z w64 (of_z w64 (rem_z s.args.value s.args.quantity)) ≡ rem_z s.args.value s.args.quantity
-  rest = to_z-of_z (rem-fits _ _ s.pre)
+  rest = to_z-of_z (rem-fits _ _ s.requires)
 
   twice : to_z w64 (of_z w64 (rem_z s.args.value s.args.quantity +ℤ rem_z s.args.value s.args.quantity))
       ≡ rem_z s.args.value s.args.quantity +ℤ rem_z s.args.value s.args.quantity
-  twice = to_z-of_z (twice-fits _ _ s.pre)
+  twice = to_z-of_z (twice-fits _ _ s.requires)
 
   least : to_z w64 (of_z w64 (pos 0 -ℤ s.args.quantity)) ≡ pos 0 -ℤ s.args.quantity
-  least = to_z-of_z (least_fits _ _ s.pre)
+  least = to_z-of_z (least_fits _ _ s.requires)
 
-div-quotient : tie.Need-nonzero-div-quotient
+div-quotient : tie.Need-nonzero_div-quotient
 div-quotient c = simp (v c, q c) (divisor-bits _ _ c.requires, quot_fits _ _ c.requires)
 
-rem-rest : tie.Need-nonzero-rem-rest
+rem-rest : tie.Need-nonzero_rem-rest
 rem-rest c = simp (v c, q c) (divisor-bits _ _ c.requires, quot_fits _ _ c.requires)
 
-add_twice : tie.Need-overflow-add-twice
+add_twice : tie.Need-overflow_add-twice
 add_twice c = simp (v c, q c, rest c) (twice-fits _ _ c.requires)
 
-sub-least : tie.Need-overflow-sub-least
+sub-least : tie.Need-overflow_sub-least
 sub-least c = simp (q c) (least_fits _ _ c.requires)
 
-add-result : tie.Need-overflow-add-result
+add-result : tie.Need-overflow_add-result
 add-result c = simp (v c.before, q c.before, quotient c.before) (up_fits _ _ c.before.requires)
 
-sub-result : tie.Need-overflow-sub-result
+sub-result : tie.Need-overflow_sub-result
 sub-result c =
     let s : tie.Start = c.before.before in
     simp (v s, q s, quotient s) (down_fits _ _ s.requires)
 
-returns : tie.Need-returns
+returns : tie.Need-returns-then-quantity-twice
 returns c =
     let s : tie.Start = c.before in
     simp (v s, q s, quotient s, to_z-of_z (up_fits _ _ s.requires))
-    (rounds-up _ _ s.requires.positive (omega (zarith, simp (v s, q s, rest s, twice s) at c.if1.true)))
+    (rounds-up _ _ s.requires.positive (omega (zarith, simp (v s, q s, rest s, twice s) at c.if-quantity-twice.true)))
 
-returns-2 : tie.Need-returns-2
+returns-2 : tie.Need-returns-then-twice-least
 returns-2 c =
     let s : tie.Start = c.before.before in
     simp (v s, q s, quotient s, to_z-of_z (down_fits _ _ s.requires))
-    (rounds-down _ _ s.requires.positive (omega (zarith, simp (v s, q s, rest s, twice s, least s) at c.if2.true)))
+    (rounds-down _ _ s.requires.positive (omega (zarith, simp (v s, q s, rest s, twice s, least s) at c.if-twice-least.true)))
 
-returns-3 : tie.Need-returns-3
+returns-3 : tie.Need-returns-else-twice-least
 returns-3 c =
     let s : tie.Start = c.before.before in
     simp (v s, q s, quotient s)
     (stays _ _ s.requires.positive
-    (omega (zarith, simp (v s, q s, rest s, twice s) at c.before.if1.false))
-    (omega (zarith, simp (v s, q s, rest s, twice s, least s) at c.if2.false)))
+    (omega (zarith, simp (v s, q s, rest s, twice s) at c.before.if-quantity-twice.false))
+    (omega (zarith, simp (v s, q s, rest s, twice s, least s) at c.if-twice-least.false)))
 
-pub average-spec : {M : Type 1} → statement M
-average-spec =
+pub average_spec : {M : Type 1} → statement M
+average_spec =
     tie.close
     (tie.spec div-quotient rem-rest add_twice sub-least add-result sub-result returns returns-2 returns-3)

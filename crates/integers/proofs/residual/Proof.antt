@@ -18,47 +18,47 @@ module _ (a : tie.After-average) where
   v = to_z-of_z a.before.ranges.value
 
   q : to_z w64 (of_z w64 a.before.args.quantity) ≡ a.before.args.quantity
-  q = to_z-of_z a.before.fits.quantity
+  q = to_z-of_z a.before.ranges.quantity
 
   r : to_z w64 (of_z w64 a.average.result) ≡ average_of a.before.args.value a.before.args.quantity
   r =
-      let f : SFits w64 a.average.result = sfits_of a.average.ok in
+      let f : SFits w64 a.average.result = sfits_of a.average.type_inv in
       to_z-of_z f ∙ simp (v, q) at a.average.ensures
 
   product : to_z w64 (of_z w64 (a.before.args.quantity *ℤ average_of a.before.args.value a.before.args.quantity))
       ≡ a.before.args.quantity *ℤ average_of a.before.args.value a.before.args.quantity
-  product = to_z-of_z (product-fits _ _ a.before.pre)
+  product = to_z-of_z (product-fits _ _ a.before.requires)
 
   above : to_z w64 (of_z w64 (a.before.args.quantity *ℤ average_of a.before.args.value a.before.args.quantity -ℤ a.before.args.value))
       ≡ a.before.args.quantity *ℤ average_of a.before.args.value a.before.args.quantity -ℤ a.before.args.value
-  above = to_z-of_z (above-fits _ _ a.before.pre)
+  above = to_z-of_z (above-fits _ _ a.before.requires)
 
   below : to_z w64 (of_z w64 (a.before.args.value -ℤ a.before.args.quantity *ℤ average_of a.before.args.value a.before.args.quantity))
       ≡ a.before.args.value -ℤ a.before.args.quantity *ℤ average_of a.before.args.value a.before.args.quantity
-  below = to_z-of_z (below-fits _ _ a.before.pre)
+  below = to_z-of_z (below-fits _ _ a.before.requires)
 
 average-requires : tie.Need-average-requires
 average-requires c κs = search rules
 
-mul-product : tie.Need-overflow-mul-product
+mul-product : tie.Need-overflow_mul-product
 mul-product c = simp (q c, r c) (product-fits _ _ c.before.requires)
 
-sub-above : tie.Need-overflow-sub-above
+sub-above : tie.Need-overflow_sub-above
 sub-above c = simp (v c, q c, r c, product c) (above-fits _ _ c.before.requires)
 
-sub-below : tie.Need-overflow-sub-below
+sub-below : tie.Need-overflow_sub-below
 sub-below c = simp (v c, q c, r c, product c) (below-fits _ _ c.before.requires)
 
-returns : tie.Need-returns
+returns : tie.Need-returns-then-buy
 returns c =
     let a : tie.After-average = c.before in
-    simp (v a, q a, r a, product a, above a, c.if1.true) (sym (residual-buy _ _))
+    simp (v a, q a, r a, product a, above a, c.if-buy.true) (sym (residual-buy _ _))
 
-returns-2 : tie.Need-returns-2
+returns-2 : tie.Need-returns-else-buy
 returns-2 c =
     let a : tie.After-average = c.before in
-    simp (v a, q a, r a, product a, below a, c.if1.false) (sells _ _ a.before.requires)
+    simp (v a, q a, r a, product a, below a, c.if-buy.false) (sells _ _ a.before.requires)
 
-pub residual-spec : {M : Type 1} → statement M
-residual-spec =
+pub residual_spec : {M : Type 1} → statement M
+residual_spec =
     tie.close (tie.spec average-requires mul-product sub-above sub-below returns returns-2)
