@@ -5,16 +5,16 @@ use Rattle.figures.proofs.Tests.{below-range, not-below-range}
 use Rattle.figures.proofs.in_range.Statement.{statement}
 use Rattle.figures.proofs.in_range.Tie as tie
 
-returns : tie.Need-returns
+returns : tie.Need-returns-then-z-low
 returns c =
     let s : tie.Start = c.before in
-    below-range _ _ _ (simp (to_z-of_z s.ranges.z, to_z-of_z s.ranges.low) at c.if1.true)
+    below-range _ _ _ (simp (to_z-of_z s.ranges.z, to_z-of_z s.ranges.low) at c.if-z-low.true)
 
-returns-2 : tie.Need-returns-2
+returns-2 : tie.Need-returns
 returns-2 c =
     let s : tie.Start = c.before in
     simp (to_z-of_z s.ranges.z, to_z-of_z s.ranges.high)
-    (not-below-range _ _ _ (simp (to_z-of_z s.ranges.z, to_z-of_z s.ranges.low) at c.if1.false))
+    (not-below-range _ _ _ (simp (to_z-of_z s.ranges.z, to_z-of_z s.ranges.low) at c.if-z-low.false))
 
-pub in-range-spec : {M : Type 1} → statement M
-in-range-spec = tie.close (tie.spec returns returns-2)
+pub in_range_spec : {M : Type 1} → statement M
+in_range_spec = tie.close (tie.spec returns returns-2)

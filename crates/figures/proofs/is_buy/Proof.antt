@@ -5,13 +5,13 @@ use Rattle.figures.proofs.Tests.{is-literal, not-literal, literal-test}
 use Rattle.figures.proofs.is_buy.Statement.{statement}
 use Rattle.figures.proofs.is_buy.Tie as tie
 
-returns : tie.Need-returns
+returns : tie.Need-returns-then-side-eq1
 unfolding is_buy
-returns c = simp (is-literal 1 tt c.before.ranges.side c.if1.true)
+returns c = simp (is-literal 1 tt c.ranges.side c.if-side-eq1.true)
 
-returns-2 : tie.Need-returns-2
+returns-2 : tie.Need-returns
 unfolding is_buy
-returns-2 c = simp (not-literal 1 c.before.ranges.side c.if1.false, literal-test 3 tt c.before.ranges.side)
+returns-2 c = simp (not-literal 1 c.ranges.side c.if-side-eq1.false, literal-test 3 tt c.ranges.side)
 
-pub is-buy-spec : {M : Type 1} → statement M
-is-buy-spec = tie.close (tie.spec returns returns-2)
+pub is_buy_spec : {M : Type 1} → statement M
+is_buy_spec = tie.close (tie.spec returns returns-2)

@@ -27,23 +27,23 @@ negated_fits amount small =
     let range : (neg_ℤ (pos 1000000) ≤ℤ amount) × (amount ≤ℤ pos 1000000) = in_range-true (neg_ℤ (pos 1000000)) (pos 1000000) amount small in
     omega (zarith, minus-lin (pos 0) amount)
 
-buys : (c : tie.After-is-buy) → c.is-buy.result ≡ is_buy c.before.args.side
-buys c = simp (to_z-of_z c.before.ranges.side) at c.is-buy.ensures
+buys : (c : tie.After-is_buy) → c.is_buy.result ≡ is_buy c.args.side
+buys c = simp (to_z-of_z c.ranges.side) at c.is_buy.ensures
 
-returns : tie.Need-returns
+returns : tie.Need-returns-then-is_buy
 returns c =
     let s : tie.Start = c.before.before in
-    simp (to_z-of_z s.ranges.amount) (bought s.args.side s.args.amount (sym (buys c.before) ∙ c.if1.true))
+    simp (to_z-of_z s.ranges.amount) (bought s.args.side s.args.amount (sym (buys c.before) ∙ c.if-is_buy.true))
 
-sub-result : tie.Need-overflow-sub-result
+sub-result : tie.Need-overflow_sub-result
 sub-result c =
     let s : tie.Start = c.before.before in
     simp (to_z-of_z s.ranges.amount) (negated_fits s.args.amount s.requires)
 
-returns-2 : tie.Need-returns-2
+returns-2 : tie.Need-returns
 returns-2 c =
     let s : tie.Start = c.before.before in
-    simp (to_z-of_z s.ranges.amount, to_z-of_z (negated_fits s.args.amount s.requires)) (sold s.args.side s.args.amount (sym (buys c.before) ∙ c.if1.false))
+    simp (to_z-of_z s.ranges.amount, to_z-of_z (negated_fits s.args.amount s.requires)) (sold s.args.side s.args.amount (sym (buys c.before) ∙ c.if-is_buy.false))
 
-pub signed-spec : {M : Type 1} → statement M
-signed-spec = tie.close (tie.spec (λ c κs. search rules) returns sub-result returns-2)
+pub signed_spec : {M : Type 1} → statement M
+signed_spec = tie.close (tie.spec (λ c κs. search rules) returns sub-result returns-2)

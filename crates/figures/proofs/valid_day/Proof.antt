@@ -8,7 +8,7 @@ use Rattle.figures.proofs.valid_day.Tie as tie
 
 returns : tie.Need-returns
 unfolding valid_day
-returns c = simp (to_z-of_z c.before.ranges.z) at c.in-range.ensures
+returns c = simp (to_z-of_z c.ranges.z) at c.in_range.ensures
 
-pub valid-day-spec : {M : Type 1} → statement M
-valid-day-spec = tie.close (tie.spec (λ c κs. search rules) returns)
+pub valid_day_spec : {M : Type 1} → statement M
+valid_day_spec = tie.close (tie.spec (λ c κs. search rules) returns)

@@ -12,32 +12,32 @@ all-remain : (z : ℤ) → OneOf (valid_kind z) z (0 ∷ 4 ∷ 6 ∷ 10 ∷ 20 �
 unfolding valid_kind
 all-remain z = record { is = refl }
 
-past1 : (c : tie.Else1) → OneOf (valid_kind c.before.args.z) c.before.args.z (4 ∷ 6 ∷ 10 ∷ 20 ∷ 30 ∷ 901 ∷ [])
-past1 c = not-this 0 (all-remain _) c.before.ranges.z c.if1.false
+past1 : (c : tie.Else-z-eq-ORIGINAL) → OneOf (valid_kind c.args.z) c.args.z (4 ∷ 6 ∷ 10 ∷ 20 ∷ 30 ∷ 901 ∷ [])
+past1 c = not-this 0 (all-remain _) c.ranges.z c.if-z-eq-ORIGINAL.false
 
-past2 : (c : tie.Else2) → OneOf (valid_kind c.before.before.args.z) c.before.before.args.z (6 ∷ 10 ∷ 20 ∷ 30 ∷ 901 ∷ [])
-past2 c = not-this 4 (past1 c.before) c.before.before.ranges.z c.if2.false
+past2 : (c : tie.Else-z-eq-TRANSFER) → OneOf (valid_kind c.args.z) c.args.z (6 ∷ 10 ∷ 20 ∷ 30 ∷ 901 ∷ [])
+past2 c = not-this 4 (past1 c.before) c.ranges.z c.if-z-eq-TRANSFER.false
 
-past3 : (c : tie.Else3) → OneOf (valid_kind c.before.before.before.args.z) c.before.before.before.args.z (10 ∷ 20 ∷ 30 ∷ 901 ∷ [])
-past3 c = not-this 6 (past2 c.before) c.before.before.before.ranges.z c.if3.false
+past3 : (c : tie.Else-z-eq-SEPARATION) → OneOf (valid_kind c.args.z) c.args.z (10 ∷ 20 ∷ 30 ∷ 901 ∷ [])
+past3 c = not-this 6 (past2 c.before) c.ranges.z c.if-z-eq-SEPARATION.false
 
-past4 : (c : tie.Else4) → OneOf (valid_kind c.before.before.before.before.args.z) c.before.before.before.before.args.z (20 ∷ 30 ∷ 901 ∷ [])
-past4 c = not-this 10 (past3 c.before) c.before.before.before.before.ranges.z c.if4.false
+past4 : (c : tie.Else-z-eq-CLOSING_ERROR) → OneOf (valid_kind c.args.z) c.args.z (20 ∷ 30 ∷ 901 ∷ [])
+past4 c = not-this 10 (past3 c.before) c.ranges.z c.if-z-eq-CLOSING_ERROR.false
 
-past5 : (c : tie.Else5) → OneOf (valid_kind c.before.before.before.before.before.args.z) c.before.before.before.before.before.args.z (30 ∷ 901 ∷ [])
-past5 c = not-this 20 (past4 c.before) c.before.before.before.before.before.ranges.z c.if5.false
+past5 : (c : tie.Else-z-eq-GIVE_UP) → OneOf (valid_kind c.args.z) c.args.z (30 ∷ 901 ∷ [])
+past5 c = not-this 20 (past4 c.before) c.ranges.z c.if-z-eq-GIVE_UP.false
 
-past6 : (c : tie.Else6) → OneOf (valid_kind c.before.before.before.before.before.before.args.z) c.before.before.before.before.before.before.args.z (901 ∷ [])
-past6 c = not-this 30 (past5 c.before) c.before.before.before.before.before.before.ranges.z c.if6.false
+past6 : (c : tie.Else-z-eq-TAKE_UP) → OneOf (valid_kind c.args.z) c.args.z (901 ∷ [])
+past6 c = not-this 30 (past5 c.before) c.ranges.z c.if-z-eq-TAKE_UP.false
 
-pub valid-kind-spec : {M : Type 1} → statement M
-valid-kind-spec =
+pub valid_kind_spec : {M : Type 1} → statement M
+valid_kind_spec =
     tie.close
     (tie.spec
-    (λ c. this 0 (all-remain _) c.before.ranges.z tt c.if1.true)
-    (λ c. this 4 (past1 c.before) c.before.before.ranges.z tt c.if2.true)
-    (λ c. this 6 (past2 c.before) c.before.before.before.ranges.z tt c.if3.true)
-    (λ c. this 10 (past3 c.before) c.before.before.before.before.ranges.z tt c.if4.true)
-    (λ c. this 20 (past4 c.before) c.before.before.before.before.before.ranges.z tt c.if5.true)
-    (λ c. this 30 (past5 c.before) c.before.before.before.before.before.before.ranges.z tt c.if6.true)
-    (λ c. only-this 901 (past6 c) c.before.before.before.before.before.before.ranges.z tt))
+    (λ c. this 0 (all-remain _) c.ranges.z tt c.if-z-eq-ORIGINAL.true)
+    (λ c. this 4 (past1 c.before) c.ranges.z tt c.if-z-eq-TRANSFER.true)
+    (λ c. this 6 (past2 c.before) c.ranges.z tt c.if-z-eq-SEPARATION.true)
+    (λ c. this 10 (past3 c.before) c.ranges.z tt c.if-z-eq-CLOSING_ERROR.true)
+    (λ c. this 20 (past4 c.before) c.ranges.z tt c.if-z-eq-GIVE_UP.true)
+    (λ c. this 30 (past5 c.before) c.ranges.z tt c.if-z-eq-TAKE_UP.true)
+    (λ c. only-this 901 (past6 c) c.ranges.z tt))

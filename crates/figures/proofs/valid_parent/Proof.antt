@@ -28,18 +28,18 @@ past-zero true b = refl
 past-zero false true = refl
 past-zero false false = refl
 
-returns : tie.Need-returns
+returns : tie.Need-returns-then-suffix-eq0
 unfolding valid_parent
 returns c =
     let s : tie.Start = c.before in
-    simp (to_z-of_z s.ranges.parent) (at_zero s.args.parent s.args.suffix (is-literal 0 tt s.ranges.suffix c.if1.true))
+    simp (to_z-of_z s.ranges.parent) (at_zero s.args.parent s.args.suffix (is-literal 0 tt s.ranges.suffix c.if-suffix-eq0.true))
 
-returns-2 : tie.Need-returns-2
+returns-2 : tie.Need-returns
 unfolding valid_parent
 returns-2 c =
     let s : tie.Start = c.before in
-    simp (to_z-of_z s.ranges.parent, to_z-of_z s.ranges.suffix, not-literal 0 s.ranges.suffix c.if1.false)
+    simp (to_z-of_z s.ranges.parent, to_z-of_z s.ranges.suffix, not-literal 0 s.ranges.suffix c.if-suffix-eq0.false)
     (past-zero (lt_z s.args.parent s.args.suffix) (eq_z s.args.parent (pos 0)))
 
-pub valid-parent-spec : {M : Type 1} → statement M
-valid-parent-spec = tie.close (tie.spec returns returns-2)
+pub valid_parent_spec : {M : Type 1} → statement M
+valid_parent_spec = tie.close (tie.spec returns returns-2)

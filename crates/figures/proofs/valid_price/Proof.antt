@@ -8,7 +8,7 @@ use Rattle.figures.proofs.valid_price.Tie as tie
 
 returns : tie.Need-returns
 unfolding valid_price magnitude_at_most
-returns c = simp (to_z-of_z c.before.ranges.z) at c.in-range.ensures
+returns c = simp (to_z-of_z c.ranges.z) at c.in_range.ensures
 
-pub valid-price-spec : {M : Type 1} → statement M
-valid-price-spec = tie.close (tie.spec (λ c κs. search rules) returns)
+pub valid_price_spec : {M : Type 1} → statement M
+valid_price_spec = tie.close (tie.spec (λ c κs. search rules) returns)

@@ -54,17 +54,17 @@ module _ (q : ℤ) where
       go false p h e true f = rw (p, f)
       go false p h e false f = let sign : lt_z q (pos 0) ≡ true = omega zarith in rw (p, f, sign) (last-fails true (le_z (neg_ℤ (pos 1000000)) q && le_z q (pos 1000000)))
 
-returns : tie.Need-returns
+returns : tie.Need-returns-then-status-eq-INVERSE
 unfolding valid_signed_quantity
 returns c =
     let s : tie.Start = c.before.before in
-    simp (is-literal 2 tt s.ranges.status c.before.if1.true) ((simp (to_z-of_z s.ranges.q) at c.in-range.ensures) ∙ inverses s.args.q)
+    simp (is-literal 2 tt s.ranges.status c.if-status-eq-INVERSE.true) ((simp (to_z-of_z s.ranges.q) at c.in_range.ensures) ∙ inverses s.args.q)
 
-returns-2 : tie.Need-returns-2
+returns-2 : tie.Need-returns
 unfolding valid_signed_quantity
 returns-2 c =
     let s : tie.Start = c.before.before in
-    simp (not-literal 2 s.ranges.status c.before.if1.false) ((simp (to_z-of_z s.ranges.q) at c.in-range2.ensures) ∙ others s.args.q)
+    simp (not-literal 2 s.ranges.status c.if-status-eq-INVERSE.false) ((simp (to_z-of_z s.ranges.q) at c.in_range-2.ensures) ∙ others s.args.q)
 
-pub valid-signed-quantity-spec : {M : Type 1} → statement M
-valid-signed-quantity-spec = tie.close (tie.spec (λ c κs. search rules) returns (λ c κs. search rules) returns-2)
+pub valid_signed_quantity_spec : {M : Type 1} → statement M
+valid_signed_quantity_spec = tie.close (tie.spec (λ c κs. search rules) returns (λ c κs. search rules) returns-2)

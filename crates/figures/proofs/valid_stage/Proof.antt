@@ -12,24 +12,24 @@ all-remain : (z : ℤ) → OneOf (valid_stage z) z (6 ∷ 9 ∷ 10 ∷ 12 ∷ 0 
 unfolding valid_stage
 all-remain z = record { is = refl }
 
-past1 : (c : tie.Else1) → OneOf (valid_stage c.before.args.z) c.before.args.z (9 ∷ 10 ∷ 12 ∷ 0 ∷ [])
-past1 c = not-this 6 (all-remain _) c.before.ranges.z c.if1.false
+past1 : (c : tie.Else-z-eq-PENDING) → OneOf (valid_stage c.args.z) c.args.z (9 ∷ 10 ∷ 12 ∷ 0 ∷ [])
+past1 c = not-this 6 (all-remain _) c.ranges.z c.if-z-eq-PENDING.false
 
-past2 : (c : tie.Else2) → OneOf (valid_stage c.before.before.args.z) c.before.before.args.z (10 ∷ 12 ∷ 0 ∷ [])
-past2 c = not-this 9 (past1 c.before) c.before.before.ranges.z c.if2.false
+past2 : (c : tie.Else-z-eq-CLAIMED) → OneOf (valid_stage c.args.z) c.args.z (10 ∷ 12 ∷ 0 ∷ [])
+past2 c = not-this 9 (past1 c.before) c.ranges.z c.if-z-eq-CLAIMED.false
 
-past3 : (c : tie.Else3) → OneOf (valid_stage c.before.before.before.args.z) c.before.before.before.args.z (12 ∷ 0 ∷ [])
-past3 c = not-this 10 (past2 c.before) c.before.before.before.ranges.z c.if3.false
+past3 : (c : tie.Else-z-eq-REFUSED) → OneOf (valid_stage c.args.z) c.args.z (12 ∷ 0 ∷ [])
+past3 c = not-this 10 (past2 c.before) c.ranges.z c.if-z-eq-REFUSED.false
 
-past4 : (c : tie.Else4) → OneOf (valid_stage c.before.before.before.before.args.z) c.before.before.before.before.args.z (0 ∷ [])
-past4 c = not-this 12 (past3 c.before) c.before.before.before.before.ranges.z c.if4.false
+past4 : (c : tie.Else-z-eq-CANCELLED) → OneOf (valid_stage c.args.z) c.args.z (0 ∷ [])
+past4 c = not-this 12 (past3 c.before) c.ranges.z c.if-z-eq-CANCELLED.false
 
-pub valid-stage-spec : {M : Type 1} → statement M
-valid-stage-spec =
+pub valid_stage_spec : {M : Type 1} → statement M
+valid_stage_spec =
     tie.close
     (tie.spec
-    (λ c. this 6 (all-remain _) c.before.ranges.z tt c.if1.true)
-    (λ c. this 9 (past1 c.before) c.before.before.ranges.z tt c.if2.true)
-    (λ c. this 10 (past2 c.before) c.before.before.before.ranges.z tt c.if3.true)
-    (λ c. this 12 (past3 c.before) c.before.before.before.before.ranges.z tt c.if4.true)
-    (λ c. only-this 0 (past4 c) c.before.before.before.before.ranges.z tt))
+    (λ c. this 6 (all-remain _) c.ranges.z tt c.if-z-eq-PENDING.true)
+    (λ c. this 9 (past1 c.before) c.ranges.z tt c.if-z-eq-CLAIMED.true)
+    (λ c. this 10 (past2 c.before) c.ranges.z tt c.if-z-eq-REFUSED.true)
+    (λ c. this 12 (past3 c.before) c.ranges.z tt c.if-z-eq-CANCELLED.true)
+    (λ c. only-this 0 (past4 c) c.ranges.z tt))

@@ -9,7 +9,7 @@ use Rattle.figures.proofs.valid_total.Tie as tie
 
 returns : tie.Need-returns
 unfolding valid_total magnitude_at_most
-returns c = simp (to_z-of_z c.before.ranges.z) at c.in-range.ensures
+returns c = simp (to_z-of_z c.ranges.z) at c.in_range.ensures
 
-pub valid-total-spec : {M : Type 1} → statement M
-valid-total-spec = tie.close (tie.spec (λ c κs. search rules) returns)
+pub valid_total_spec : {M : Type 1} → statement M
+valid_total_spec = tie.close (tie.spec (λ c κs. search rules) returns)

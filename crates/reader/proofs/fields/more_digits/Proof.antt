@@ -11,49 +11,49 @@ use Rattle.reader.proofs.MoreDigits.{DigitsSoFar, digit-range, no-digits, value-
 use Rattle.reader.proofs.fields.more_digits.Statement.{statement}
 use Rattle.reader.proofs.fields.more_digits.Tie as tie
 
-abbrev invariant-loop : tie.invariant-loop
+abbrev invariant-loop : tie.invariant-loop-room
 invariant-loop text at first value₀ next₀ room₀ value next room = DigitsSoFar text at first value next room
 
-abbrev decreases-loop : tie.decreases-loop
+abbrev decreases-loop : tie.decreases-loop-room
 decreases-loop text at first value₀ next₀ room₀ value next room = room
 
-loop-holds : tie.Need-loop-init invariant-loop decreases-loop
-loop-holds c = no-digits c.before.requires
+loop-holds : tie.Need-loop-room-init invariant-loop decreases-loop
+loop-holds c = no-digits c.requires
 
-returns : tie.Need-returns invariant-loop decreases-loop
+returns : tie.Need-returns-then-not-is_digit invariant-loop decreases-loop
 returns c =
-    let l : tie.At-loop invariant-loop decreases-loop = c.before.before.before.before in
-    digits-end l.loop.invariant c.before.before.byte_at.ensures (sym c.before.is_digit.ensures ∙ not-true _ c.if1.true)
+    let l : tie.At-loop-room invariant-loop decreases-loop = c.before.before.before.before in
+    digits-end l.loop-room.invariant c.byte_at-b.ensures (sym c.is_digit.ensures ∙ c.if-not-is_digit.true)
 
 -- A digit stands there, before the end of the text, and there is room for it.
-module _ (c : tie.Else1 invariant-loop decreases-loop) where
+module _ (c : tie.Else-not-is_digit invariant-loop decreases-loop) where
   abbrev b : ℕ
-  b = c.before.before.byte_at.result
+  b = c.byte_at-b.result
 
   digit : is_digit b ≡ true
-  digit = sym c.before.is_digit.ensures ∙ not-false _ c.if1.false
+  digit = sym c.is_digit.ensures ∙ c.if-not-is_digit.false
 
   range : (48 ≤ b) × (b ≤ 57)
   range = digit-range b digit
 
-  widens : c.before.before.before.before.loop.value * 10 + 9 < 10 ^ 13
-  widens = value-widens c.before.before.before.before.loop.invariant c.before.before.before.loop-test.true
+  widens : c.loop-room.value * 10 + 9 < 10 ^ 13
+  widens = value-widens c.loop-room.invariant c.loop-room-test.true
 
-add-next : tie.Need-overflow-add-next invariant-loop decreases-loop
+add-next : tie.Need-overflow_add-next invariant-loop decreases-loop
 add-next c =
-    let l : tie.At-loop invariant-loop decreases-loop = c.before.before.before.before in
-    omega (arith, before-end l.before.before.args.text.now l.loop.next c.before.before.byte_at.ensures (omega (arith, (range c).0)))
+    let l : tie.At-loop-room invariant-loop decreases-loop = c.before.before.before.before in
+    omega (arith, before-end l.args.text.now l.loop-room.next c.byte_at-b.ensures (omega (arith, (range c).0)))
 
-loop-again : tie.Need-loop-preserved invariant-loop decreases-loop
+loop-again : tie.Need-loop-room-preserved invariant-loop decreases-loop
 loop-again c =
-    let t : tie.In-loop invariant-loop decreases-loop = c.before.before.before in
-    digit-read t.before.loop.invariant t.loop-test.true c.before.before.byte_at.ensures (digit c)
+    let t : tie.In-loop-room invariant-loop decreases-loop = c.before.before.before in
+    digit-read t.loop-room.invariant t.loop-room-test.true c.byte_at-b.ensures (digit c)
 
-returns-2 : tie.Need-returns-2 invariant-loop decreases-loop
-returns-2 c = digits-full c.before.loop.invariant c.loop-test.false
+returns-2 : tie.Need-returns invariant-loop decreases-loop
+returns-2 c = digits-full c.loop-room.invariant c.loop-room-test.false
 
-pub more-digits-spec : {M : Type 1} → statement M
-more-digits-spec =
+pub more_digits_spec : {M : Type 1} → statement M
+more_digits_spec =
     tie.close
     (tie.spec
     invariant-loop

@@ -15,40 +15,40 @@ use Rattle.reader.proofs.FieldsSoFar.{FieldsSoFar, none_read, one-read, no-more-
 use Rattle.reader.proofs.fields.read_fields.Statement.{statement}
 use Rattle.reader.proofs.fields.read_fields.Tie as tie
 
-abbrev invariant-loop : tie.invariant-loop
+abbrev invariant-loop : tie.invariant-loop-count
 invariant-loop text at figures₀ count₀ next₀ figures count next = FieldsSoFar text at (length figures₀) figures count next
 
-abbrev decreases-loop : tie.decreases-loop
+abbrev decreases-loop : tie.decreases-loop-count
 decreases-loop text at figures₀ count₀ next₀ figures count next = length figures₀ - count
 
-loop-holds : tie.Need-loop-init invariant-loop decreases-loop
-loop-holds c = none_read c.before.args.figures.now
+loop-holds : tie.Need-loop-count-init invariant-loop decreases-loop
+loop-holds c = none_read c.args.figures.now
 
 -- What the field at the turn's place says of an answer.
-abbrev Reads : tie.In-loop invariant-loop decreases-loop → Number → Type 0
-Reads c n = number_as c.before.before.before.args.text.now n ≡ take_field (drop c.before.loop.next c.before.before.before.args.text.now)
+abbrev Reads : tie.In-loop-count invariant-loop decreases-loop → Number → Type 0
+Reads c n = number_as c.args.text.now n ≡ take_field (drop c.loop-count.next c.args.text.now)
 
-returns : tie.Need-returns invariant-loop decreases-loop
+returns : tie.Need-returns-in-Nothing invariant-loop decreases-loop
 returns c =
-    let r : tie.After-read-field invariant-loop decreases-loop = c.before.before in
-    let l : tie.At-loop invariant-loop decreases-loop = r.before.before in
-    (no-more-fields l.loop.invariant (subst (Reads r.before) c.enum_told.given.1 r.read-field.ensures), omega (arith, l.loop.invariant.within, l.loop.invariant.same_size))
+    let r : tie.After-read_field invariant-loop decreases-loop = c.before in
+    let l : tie.At-loop-count invariant-loop decreases-loop = r.before.before in
+    (no-more-fields l.loop-count.invariant (subst (Reads r.before) c.in-Nothing.is r.read_field.ensures), omega (arith, l.loop-count.invariant.within, l.loop-count.invariant.same_size))
 
-loop-again : tie.Need-loop-preserved invariant-loop decreases-loop
+loop-again : tie.Need-loop-count-preserved invariant-loop decreases-loop
 loop-again c =
-    let r : tie.After-read-field invariant-loop decreases-loop = c.before.before.before in
-    let l : tie.At-loop invariant-loop decreases-loop = r.before.before in
-    let value : ℤ = c.before.value.given.0.0 in
-    let fits : SFits w64 value = sfits_of c.known-told.given.0.1 in
-    rw (to_z-of_z fits) (one-read l.loop.invariant r.before.loop-test.true (subst (Reads r.before) c.before.value.given.1 r.read-field.ensures))
+    let r : tie.After-read_field invariant-loop decreases-loop = c.before in
+    let l : tie.At-loop-count invariant-loop decreases-loop = r.before.before in
+    let value : ℤ = c.in-Read.value in
+    let fits : SFits w64 value = sfits_of c.in-Read.known_told-1-own.given.0.1 in
+    rw (to_z-of_z fits) (one-read l.loop-count.invariant r.loop-count-test.true (subst (Reads r.before) c.in-Read.is r.read_field.ensures))
 
-returns-2 : tie.Need-returns-2 invariant-loop decreases-loop
+returns-2 : tie.Need-returns invariant-loop decreases-loop
 returns-2 c =
-    let l : tie.At-loop invariant-loop decreases-loop = c.before in
-    (cells-full l.loop.invariant c.loop-test.false, omega (arith, l.loop.invariant.within, l.loop.invariant.same_size))
+    let l : tie.At-loop-count invariant-loop decreases-loop = c.before in
+    (cells-full l.loop-count.invariant c.loop-count-test.false, omega (arith, l.loop-count.invariant.within, l.loop-count.invariant.same_size))
 
-pub read-fields-spec : {M : Type 1} → statement M
-read-fields-spec =
+pub read_fields_spec : {M : Type 1} → statement M
+read_fields_spec =
     tie.close
     (tie.spec
     invariant-loop

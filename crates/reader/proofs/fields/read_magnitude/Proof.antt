@@ -15,40 +15,40 @@ use Rattle.reader.proofs.Numbers.{no-magnitude, magnitude-zero, magnitude-more}
 use Rattle.reader.proofs.fields.read_magnitude.Statement.{statement}
 use Rattle.reader.proofs.fields.read_magnitude.Tie as tie
 
-abbrev text : tie.After-byte-at → List ℕ
-text c = c.before.before.args.text.now
+abbrev text : tie.After-byte_at-b → List ℕ
+text c = c.args.text.now
 
-abbrev at : tie.After-byte-at → ℕ
-at c = c.before.before.args.at
+abbrev at : tie.After-byte_at-b → ℕ
+at c = c.args.at
 
 -- A digit stands there, before the end of the text.
-module _ (c : tie.Else1) where
-  digit : is_digit c.before.before.byte_at.result ≡ true
-  digit = sym c.before.is_digit.ensures ∙ not-false _ c.if1.false
+module _ (c : tie.Else-not-is_digit) where
+  digit : is_digit c.byte_at-b.result ≡ true
+  digit = sym c.is_digit.ensures ∙ c.if-not-is_digit.false
 
-  range : (48 ≤ c.before.before.byte_at.result) × (c.before.before.byte_at.result ≤ 57)
-  range = digit-range c.before.before.byte_at.result digit
+  range : (48 ≤ c.byte_at-b.result) × (c.byte_at-b.result ≤ 57)
+  range = digit-range c.byte_at-b.result digit
 
   inside : at c.before.before < length (text c.before.before)
-  inside = before-end (text c.before.before) (at c.before.before) c.before.before.byte_at.ensures (omega (arith, range.0))
+  inside = before-end (text c.before.before) (at c.before.before) c.byte_at-b.ensures (omega (arith, range.0))
 
-returns : tie.Need-returns
+returns : tie.Need-returns-then-not-is_digit
 returns c =
-    let a : tie.After-byte-at = c.before.before in
-    no-magnitude (text a) (at a) a.byte_at.ensures (sym c.before.is_digit.ensures ∙ not-true _ c.if1.true)
+    let a : tie.After-byte_at-b = c.before.before in
+    no-magnitude (text a) (at a) a.byte_at-b.ensures (sym c.is_digit.ensures ∙ c.if-not-is_digit.true)
 
-returns-2 : tie.Need-returns-2
+returns-2 : tie.Need-returns-then-b-eq48
 returns-2 c =
-    let a : tie.After-byte-at = c.before.before.before in
-    magnitude-zero (text a) (at a) a.byte_at.ensures c.if2.true
+    let a : tie.After-byte_at-b = c.before.before.before in
+    magnitude-zero (text a) (at a) a.byte_at-b.ensures c.if-b-eq48.true
 
-returns-3 : tie.Need-returns-3
+returns-3 : tie.Need-returns
 returns-3 c =
-    let a : tie.After-byte-at = c.before.before.before.before in
-    ap some c.more-digits.ensures ∙ magnitude-more (text a) (at a) a.byte_at.ensures (digit c.before.before) c.before.if2.false
+    let a : tie.After-byte_at-b = c.before.before.before.before in
+    ap some c.more_digits-d.ensures ∙ magnitude-more (text a) (at a) a.byte_at-b.ensures (digit c.before.before) c.if-b-eq48.false
 
-pub read-magnitude-spec : {M : Type 1} → statement M
-read-magnitude-spec =
+pub read_magnitude_spec : {M : Type 1} → statement M
+read_magnitude_spec =
     tie.close
     (tie.spec
     (λ c κs. search rules)

@@ -18,50 +18,50 @@ use Rattle.reader.proofs.line.read_line.Tie as tie
 abbrev Reads : tie.Start → Headed → Type 0
 Reads s h = heading_as s.args.text.now h ≡ take_heading (drop s.args.at s.args.text.now)
 
-returns : tie.Need-returns
+returns : tie.Need-returns-in_default
 returns c =
-    let r : tie.After-read-heading = c.before.before in
+    let r : tie.After-read_heading = c.before in
     let s : tie.Start = r.before.before in
-    record { line = no_line (drop s.args.at s.args.text.now) (subst (Reads s) c.enum_told.given.1 r.read-heading.ensures); within = tt; cells = s.requires }
+    record { line = no_line (drop s.args.at s.args.text.now) (subst (Reads s) c.in_default.is r.read_heading.ensures); within = tt; cells = s.requires }
 
-module _ (c : tie.After-byte-at) where
-  abbrev read : tie.After-read-fields
+module _ (c : tie.After-byte_at) where
+  abbrev read : tie.After-read_fields-read
   read = c.before.before
 
-  abbrev headed : tie.After-heading
-  headed = read.before.before.before
+  abbrev headed : tie.In-Read
+  headed = read.before.before
 
   abbrev start : tie.Start
-  start = headed.before.before.before.before
+  start = headed.before.before.before
 
-  heading : Reads start (Read headed.heading.given.0.0 headed.heading.given.0.1.0)
-  heading = subst (Reads start) headed.heading.given.1 headed.before.before.read-heading.ensures
+  heading : Reads start (Read headed.in-Read.heading headed.in-Read.after)
+  heading = subst (Reads start) headed.in-Read.is headed.read_heading.ensures
 
-  same-cells : length read.read-fields.last.1.1.0 ≡ 2003
-  same-cells = omega (arith, read.read-fields.kept.1.1.0, start.pre)
+  same-cells : length read.read_fields-read.new.figures ≡ 2003
+  same-cells = omega (arith, read.read_fields-read.auto.figures, start.requires)
 
-  fields : fields_as start.args.text.now read.read-fields.last.1.1.0 read.read-fields.result ≡ take_fields 2003 (drop headed.heading.given.0.1.0 start.args.text.now)
-  fields = read.read-fields.ensures.0 ∙ ap (λ (most : ℕ). take_fields most (drop headed.heading.given.0.1.0 start.args.text.now)) start.pre
+  fields : fields_as start.args.text.now read.read_fields-read.new.figures read.read_fields-read.result ≡ take_fields 2003 (drop headed.in-Read.after start.args.text.now)
+  fields = read.read_fields-read.ensures.0 ∙ ap (λ (most : ℕ). take_fields most (drop headed.in-Read.after start.args.text.now)) start.requires
 
-returns-2 : tie.Need-returns-2
+returns-2 : tie.Need-returns-then-byte_at-ne10
 returns-2 c =
-    let b : tie.After-byte-at = c.before in
-    record { line = no-newline (start b).args.text.now (start b).args.at (read b).read-fields.result.next (heading b) (fields b) b.byte_at.ensures c.if1.true; within = tt; cells = same-cells b }
+    let b : tie.After-byte_at = c.before in
+    record { line = no-newline (start b).args.text.now (start b).args.at (read b).read_fields-read.result.next (heading b) (fields b) b.byte_at.ensures c.if-byte_at-ne10.true; within = tt; cells = same-cells b }
 
-within : (c : tie.Else1) → c.before.before.before.read-fields.result.next < length (start c.before).args.text.now
-within c = before-end (start c.before).args.text.now (read c.before).read-fields.result.next c.before.byte_at.ensures (omega arith)
+within : (c : tie.Else-byte_at-ne10) → c.read_fields-read.result.next < length (start c.before).args.text.now
+within c = before-end (start c.before).args.text.now (read c.before).read_fields-read.result.next c.byte_at.ensures (omega arith)
 
-returns-3 : tie.Need-returns-3
+returns-3 : tie.Need-returns
 returns-3 c =
-    let b : tie.After-byte-at = c.before in
+    let b : tie.After-byte_at = c.before in
     record {
-      line = newline-there (start b).args.text.now (start b).args.at (read b).read-fields.result.next (heading b) (fields b) b.byte_at.ensures c.if1.false;
-      within = ((read b).read-fields.ensures.1, omega (arith, within c));
+      line = newline-there (start b).args.text.now (start b).args.at (read b).read_fields-read.result.next (heading b) (fields b) b.byte_at.ensures c.if-byte_at-ne10.false;
+      within = ((read b).read_fields-read.ensures.1, omega (arith, within c));
       cells = same-cells b;
     }
 
-pub read-line-spec : {M : Type 1} → statement M
-read-line-spec =
+pub read_line_spec : {M : Type 1} → statement M
+read_line_spec =
     tie.close
     (tie.spec
     (λ c κs. search rules)

@@ -27,28 +27,28 @@ abbrev claims : ℕ → write-digits-lts.Claims
 claims t = (write-byte-reads.Asked, write-byte-reads.Learnt, below t, write-digits.Post)
 
 -- one digit
-write-byte-requires : (t : ℕ) → write-digits-lts.Need-write-byte-requires (claims t) (at t) write-digits.Post
-write-byte-requires t c κs = omega (arith, width_one c.before.before.before.args.n c.before.if1.true)
+write-byte-requires : (t : ℕ) → write-digits-lts.Need-write_byte-requires (claims t) (at t) write-digits.Post
+write-byte-requires t c κs = omega (arith, width_one c.args.n c.if-n-lt10.true)
 
-returns : (t : ℕ) → write-digits-lts.Need-returns (claims t) (at t) write-digits.Post
-returns t c = one_written _ _ _ _ _ c.before.before.before.before.if1.true c.before.before.write_byte.ensures
+returns : (t : ℕ) → write-digits-lts.Need-returns-then-n-lt10 (claims t) (at t) write-digits.Post
+returns t c = one_written _ _ _ _ _ c.if-n-lt10.true c.write_byte.ensures
 
 -- those of a tenth, and the last one
-write-digits-requires : (t : ℕ) → write-digits-lts.Need-write-digits-requires (claims t) (at t) write-digits.Post
-write-digits-requires t c κs = omega (arith, width-more c.before.before.before.args.n c.before.if1.false)
+write-digits-requires : (t : ℕ) → write-digits-lts.Need-write_digits-last-requires (claims t) (at t) write-digits.Post
+write-digits-requires t c κs = omega (arith, width-more c.args.n c.if-n-lt10.false)
 
-write-byte-requires-2 : (t : ℕ) → write-digits-lts.Need-write-byte-requires-2 (claims t) (at t) write-digits.Post
-write-byte-requires-2 t c κs = omega (arith, width-more c.before.before.before.before.before.before.before.args.n c.before.before.before.before.before.if1.false)
+write-byte-requires-2 : (t : ℕ) → write-digits-lts.Need-write_byte-requires-2 (claims t) (at t) write-digits.Post
+write-byte-requires-2 t c κs = omega (arith, width-more c.args.n c.if-n-lt10.false)
 
-returns-2 : (t : ℕ) → write-digits-lts.Need-returns-2 (claims t) (at t) write-digits.Post
+returns-2 : (t : ℕ) → write-digits-lts.Need-returns (claims t) (at t) write-digits.Post
 returns-2 t c =
-    more-written _ _ _ _ _ _ _ c.before.before.before.before.before.before.before.before.if1.false
-    c.before.before.before.before.before.before.before.before.before.before.requires.1
-    c.before.before.before.before.before.before.write-digits.ensures
-    c.before.before.write-byte2.ensures
+    more-written _ _ _ _ _ _ _ c.if-n-lt10.false
+    c.requires.1
+    c.write_digits-last.ensures
+    c.write_byte-2.ensures
 
-pub +write-digits-spec : {M : Type 1} → statement M
-+write-digits-spec = close μ-write-digits λ t. write-digits-lts.spec (claims t)
+pub +write_digits_spec : {M : Type 1} → statement M
++write_digits_spec = close μ-write-digits λ t. write-digits-lts.spec (claims t)
     (at t)
     write-digits.Post
     (λ c. search rules)

@@ -8,27 +8,27 @@ use Rattle.writer.proofs.Widths.{width_one, width-of-tenth, width-bound}
 use Rattle.writer.proofs.fields.digits_width.Statement.{statement}
 use Rattle.writer.proofs.fields.digits_width.Tie as tie
 
-abbrev invariant-loop : tie.invariant-loop
+abbrev invariant-loop : tie.invariant-loop-left
 invariant-loop n width₀ left₀ width left = width + length (digits_of left) ≡ length (digits_of n) + (1 - left)
 
-abbrev decreases-loop : tie.decreases-loop
+abbrev decreases-loop : tie.decreases-loop-left
 decreases-loop n width₀ left₀ width left = left
 
-loop-holds : tie.Need-loop-init invariant-loop decreases-loop
+loop-holds : tie.Need-loop-left-init invariant-loop decreases-loop
 loop-holds c = width-of-tenth c.args.n
 
-add-width : tie.Need-overflow-add-width invariant-loop decreases-loop
-add-width c = omega (arith, width-bound c.before.before.args.n c.before.before.ranges.n.fits)
+add-width : tie.Need-overflow_add-width invariant-loop decreases-loop
+add-width c = omega (arith, width-bound c.args.n c.ranges.n.fits)
 
-loop-less : tie.Need-loop-smaller invariant-loop decreases-loop
+loop-less : tie.Need-loop-left-smaller invariant-loop decreases-loop
 loop-less c = omega arith
 
-loop-again : tie.Need-loop-preserved invariant-loop decreases-loop
-loop-again c = omega (arith, width-of-tenth c.before.loop.left)
+loop-again : tie.Need-loop-left-preserved invariant-loop decreases-loop
+loop-again c = omega (arith, width-of-tenth c.loop-left.left)
 
 returns : tie.Need-returns invariant-loop decreases-loop
-returns c = omega (arith, width_one c.before.loop.left (omega arith), width-bound c.before.before.args.n c.before.before.ranges.n.fits)
+returns c = omega (arith, width_one c.loop-left.left (omega arith), width-bound c.args.n c.ranges.n.fits)
 
-pub digits-width-spec : {M : Type 1} → statement M
-digits-width-spec =
+pub digits_width_spec : {M : Type 1} → statement M
+digits_width_spec =
     tie.close (tie.spec invariant-loop decreases-loop loop-holds add-width loop-less loop-again returns)

@@ -16,32 +16,32 @@ use Rattle.writer.proofs.NumberTexts.{width-next}
 use Rattle.writer.proofs.fields.fields_width.Statement.{statement}
 use Rattle.writer.proofs.fields.fields_width.Tie as tie
 
-abbrev invariant-loop : tie.invariant-loop
+abbrev invariant-loop : tie.invariant-loop-i
 invariant-loop figures width₀ i₀ width i = (i ≤ length figures) × (width ≡ length (fields_text (take i figures))) × (width ≤ 22 * i)
 
-abbrev decreases-loop : tie.decreases-loop
+abbrev decreases-loop : tie.decreases-loop-i
 decreases-loop figures width₀ i₀ width i = length figures - i
 
-loop-holds : tie.Need-loop-init invariant-loop decreases-loop
+loop-holds : tie.Need-loop-i-init invariant-loop decreases-loop
 unfolding fields_text
 loop-holds c = (search rules, refl, search rules)
 
-number : (a : tie.After-number-width invariant-loop decreases-loop) → a.number-width.result ≡ length (number_text (get_or a.before.before.before.before.args.figures.now a.before.before.before.loop.i (pos 0)))
+number : (a : tie.After-number_width invariant-loop decreases-loop) → a.number_width.result ≡ length (number_text (get_or a.args.figures.now a.loop-i.i (pos 0)))
 number a =
-    let f : SFits w64 (get_or a.before.before.before.before.args.figures.now a.before.before.before.loop.i (pos 0)) = sfits_of a.before.figure.given in
-    simp (to_z-of_z f) at a.number-width.ensures.0
+    let f : SFits w64 (get_or a.args.figures.now a.loop-i.i (pos 0)) = sfits_of a.figure-1.given in
+    simp (to_z-of_z f) at a.number_width.ensures.0
 
-loop-again : tie.Need-loop-preserved invariant-loop decreases-loop
+loop-again : tie.Need-loop-i-preserved invariant-loop decreases-loop
 loop-again c =
-    omega (arith, number c, width-next c.before.before.before.before.args.figures.now c.before.before.before.loop.i c.before.before.loop-test.true)
+    omega (arith, number c, width-next c.args.figures.now c.loop-i.i c.loop-i-test.true)
 
 returns : tie.Need-returns invariant-loop decreases-loop
 returns c =
-    let all : take c.before.loop.i c.before.before.args.figures.now ≡ c.before.before.args.figures.now = take_all c.before.loop.i c.before.before.args.figures.now c.loop-test.false in
+    let all : take c.loop-i.i c.args.figures.now ≡ c.args.figures.now = take_all c.loop-i.i c.args.figures.now c.loop-i-test.false in
     omega (arith, ap (λ (l : List ℤ). length (fields_text l)) all)
 
-pub fields-width-spec : {M : Type 1} → statement M
-fields-width-spec =
+pub fields_width_spec : {M : Type 1} → statement M
+fields_width_spec =
     tie.close
     (tie.spec
     invariant-loop

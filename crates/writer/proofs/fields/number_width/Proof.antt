@@ -11,21 +11,21 @@ use Rattle.writer.proofs.NumberTexts.{below-zero, not-below-zero}
 use Rattle.writer.proofs.fields.number_width.Statement.{statement}
 use Rattle.writer.proofs.fields.number_width.Tie as tie
 
-digits : (a : tie.After-digits-width) → a.digits-width.result ≡ length (digits_of (nat_abs a.before.before.args.z))
+digits : (a : tie.After-digits_width-width) → a.digits_width-width.result ≡ length (digits_of (nat_abs a.args.z))
 digits a =
-    let m : a.before.magnitude.result ≡ nat_abs a.before.before.args.z = simp (to_z-of_z a.before.before.ranges.z) at a.before.magnitude.ensures in
-    rw m at a.digits-width.ensures.0
+    let m : a.magnitude.result ≡ nat_abs a.args.z = simp (to_z-of_z a.ranges.z) at a.magnitude.ensures in
+    rw m at a.digits_width-width.ensures.0
 
-returns : tie.Need-returns
+returns : tie.Need-returns-then-z-lt0
 returns c =
-    let z : _ ≡ _ = below-zero c.before.before.before.args.z (omega (zarith, simp (to_z-of_z c.before.before.before.ranges.z) at c.if1.true)) in
+    let z : _ ≡ _ = below-zero c.args.z (omega (zarith, simp (to_z-of_z c.ranges.z) at c.if-z-lt0.true)) in
     omega (arith, digits c.before, ap length z)
 
-returns-2 : tie.Need-returns-2
+returns-2 : tie.Need-returns-else-z-lt0
 returns-2 c =
-    let z : _ ≡ _ = not-below-zero c.before.before.before.args.z (omega (zarith, simp (to_z-of_z c.before.before.before.ranges.z) at c.if1.false)) in
+    let z : _ ≡ _ = not-below-zero c.args.z (omega (zarith, simp (to_z-of_z c.ranges.z) at c.if-z-lt0.false)) in
     omega (arith, digits c.before, ap length z)
 
-pub number-width-spec : {M : Type 1} → statement M
-number-width-spec =
+pub number_width_spec : {M : Type 1} → statement M
+number_width_spec =
     tie.close (tie.spec (λ c κs. search rules) (λ c κs. search rules) (λ c. search rules) returns returns-2)

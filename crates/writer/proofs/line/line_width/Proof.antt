@@ -10,8 +10,8 @@ returns c =
     let s : tie.Start = c.before.before.before in
     omega (arith, line-length s.args.heading s.args.figures.now s.args.more.now)
 
-pub line-width-spec : {M : Type 1} → statement M
-line-width-spec =
+pub line_width_spec : {M : Type 1} → statement M
+line_width_spec =
     tie.close
     (tie.spec
     (λ c κs. search rules)

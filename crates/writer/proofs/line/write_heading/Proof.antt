@@ -12,35 +12,35 @@ use Rattle.writer.proofs.line.write_heading.Tie as tie
 
 -- ---- one letter
 
-write-byte-requires : tie.Need-write-byte-requires
-write-byte-requires c κs = omega (arith, simp c.before.enum_told.given.1 at c.before.before.before.before.requires)
+write-byte-requires : tie.Need-write_byte-requires
+write-byte-requires c κs = omega (arith, simp c.in-Trade.is at c.requires)
 
-returns : tie.Need-returns
-returns c = rw c.before.before.before.before.enum_told.given.1 c.before.before.write_byte.ensures
+returns : tie.Need-returns-in-Trade
+returns c = rw c.in-Trade.is c.write_byte.ensures
 
-write-byte-requires-2 : tie.Need-write-byte-requires-2
-write-byte-requires-2 c κs = omega (arith, simp c.before.enum-told2.given.1 at c.before.before.before.before.requires)
+write-byte-requires-2 : tie.Need-write_byte-requires-in-Separation
+write-byte-requires-2 c κs = omega (arith, simp c.in-Separation.is at c.requires)
 
-returns-2 : tie.Need-returns-2
-returns-2 c = rw c.before.before.before.before.enum-told2.given.1 c.before.before.write-byte2.ensures
+returns-2 : tie.Need-returns-in-Separation
+returns-2 c = rw c.in-Separation.is c.write_byte-in-Separation.ensures
 
-write-byte-requires-3 : tie.Need-write-byte-requires-3
-write-byte-requires-3 c κs = omega (arith, simp c.before.enum-told3.given.1 at c.before.before.before.before.requires)
+write-byte-requires-3 : tie.Need-write_byte-requires-in-Transfer
+write-byte-requires-3 c κs = omega (arith, simp c.in-Transfer.is at c.requires)
 
-returns-3 : tie.Need-returns-3
-returns-3 c = rw c.before.before.before.before.enum-told3.given.1 c.before.before.write-byte3.ensures
+returns-3 : tie.Need-returns-in-Transfer
+returns-3 c = rw c.in-Transfer.is c.write_byte-in-Transfer.ensures
 
-write-byte-requires-4 : tie.Need-write-byte-requires-4
-write-byte-requires-4 c κs = omega (arith, simp c.before.enum-told4.given.1 at c.before.before.before.before.requires)
+write-byte-requires-4 : tie.Need-write_byte-requires-in-Merge
+write-byte-requires-4 c κs = omega (arith, simp c.in-Merge.is at c.requires)
 
-returns-4 : tie.Need-returns-4
-returns-4 c = rw c.before.before.before.before.enum-told4.given.1 c.before.before.write-byte4.ensures
+returns-4 : tie.Need-returns-in-Merge
+returns-4 c = rw c.in-Merge.is c.write_byte-in-Merge.ensures
 
-write-byte-requires-8 : tie.Need-write-byte-requires-8
-write-byte-requires-8 c κs = omega (arith, simp c.before.enum-told5.given.1 at c.before.before.before.before.requires)
+write-byte-requires-8 : tie.Need-write_byte-requires-in-Day
+write-byte-requires-8 c κs = omega (arith, simp c.in-Day.is at c.requires)
 
-returns-6 : tie.Need-returns-6
-returns-6 c = rw c.before.before.before.before.enum-told5.given.1 c.before.before.write-byte8.ensures
+returns-6 : tie.Need-returns-in-Day
+returns-6 c = rw c.in-Day.is c.write_byte-in-Day.ensures
 
 -- ---- a give-up's three bytes
 
@@ -51,30 +51,30 @@ give-up at next after end b letter text t u v room e p q r =
     let two : Wrote (71 ∷ tab ∷ []) at text after u = wrote-in-turn (71 ∷ []) (tab ∷ []) at next after text t u (omega arith) p q in
     rw e at (wrote-in-turn (71 ∷ tab ∷ []) (b ∷ []) at after end text u v room two r)
 
-room : (a : tie.After-step-letter) → a.before.before.before.before.before.args.at + 3 ≤ length a.before.before.before.before.before.args.text.now
-room a = simp a.before.before.heading.given.1 at a.before.before.before.before.before.requires
+room : (a : tie.After-step_letter-letter) → a.args.at + 3 ≤ length a.args.text.now
+room a = simp a.in-GiveUp.is at a.requires
 
-write-byte-requires-5 : tie.Need-write-byte-requires-5
+write-byte-requires-5 : tie.Need-write_byte-tab-requires
 write-byte-requires-5 c κs = omega (arith, room c.before)
 
-write-byte-requires-6 : tie.Need-write-byte-requires-6
+write-byte-requires-6 : tie.Need-write_byte-after-requires
 write-byte-requires-6 c κs = omega (arith, room c.before.before.before.before.before)
 
-write-byte-requires-7 : tie.Need-write-byte-requires-7
+write-byte-requires-7 : tie.Need-write_byte-requires-in-GiveUp
 write-byte-requires-7 c κs = omega (arith, room c.before.before.before.before.before.before.before.before.before)
 
-returns-5 : tie.Need-returns-5
+returns-5 : tie.Need-returns-in-GiveUp
 returns-5 c =
-    let third : tie.After-write-byte7 = c.before.before in
-    let second : tie.After-write-byte6 = third.before.before.before.before in
-    let first : tie.After-write-byte5 = second.before.before.before.before in
-    let letter : tie.After-step-letter = first.before.before in
+    let third : tie.After-write_byte-in-GiveUp = c.before.before in
+    let second : tie.After-write_byte-after = third.before.before.before.before in
+    let first : tie.After-write_byte-tab = second.before.before.before.before in
+    let letter : tie.After-step_letter-letter = first.before.before in
     rw
-    letter.before.before.heading.given.1
-    (give-up _ _ _ _ _ _ _ _ _ _ (room letter) letter.step-letter.ensures first.write-byte5.ensures second.write-byte6.ensures third.write-byte7.ensures)
+    letter.in-GiveUp.is
+    (give-up _ _ _ _ _ _ _ _ _ _ (room letter) letter.step_letter-letter.ensures first.write_byte-tab.ensures second.write_byte-after.ensures third.write_byte-in-GiveUp.ensures)
 
-pub write-heading-spec : {M : Type 1} → statement M
-write-heading-spec =
+pub write_heading_spec : {M : Type 1} → statement M
+write_heading_spec =
     tie.close
     (tie.spec
     (λ c. search rules)

@@ -14,24 +14,24 @@ room : (s : tie.Start)
     → s.args.at + (length (heading_text s.args.heading) + length (fields_text s.args.figures.now) + length (fields_text s.args.more.now) + 1) ≤ length s.args.text.now
 room s = omega (arith, line-length s.args.heading s.args.figures.now s.args.more.now)
 
-write-heading-requires : tie.Need-write-heading-requires
+write-heading-requires : tie.Need-write_heading-first-requires
 write-heading-requires c κs = omega (arith, room c.before.before)
 
-write-fields-requires : tie.Need-write-fields-requires
+write-fields-requires : tie.Need-write_fields-second-requires
 write-fields-requires c κs = omega (arith, room c.before.before.before.before.before.before)
 
-write-fields-requires-2 : tie.Need-write-fields-requires-2
+write-fields-requires-2 : tie.Need-write_fields-end-requires
 write-fields-requires-2 c κs = omega (arith, room c.before.before.before.before.before.before.before.before.before.before)
 
-write-byte-requires : tie.Need-write-byte-requires
+write-byte-requires : tie.Need-write_byte-requires
 write-byte-requires c κs = omega (arith, room c.before.before.before.before.before.before.before.before.before.before.before.before.before.before)
 
 returns : tie.Need-returns
 returns c =
-    let fourth : tie.After-write-byte = c.before.before in
-    let third : tie.After-write-fields2 = fourth.before.before.before.before in
-    let second : tie.After-write-fields = third.before.before.before.before in
-    let first : tie.After-write-heading = second.before.before.before.before in
+    let fourth : tie.After-write_byte = c.before.before in
+    let third : tie.After-write_fields-end = fourth.before.before.before.before in
+    let second : tie.After-write_fields-second = third.before.before.before.before in
+    let first : tie.After-write_heading-first = second.before.before.before.before in
     let s : tie.Start = first.before.before.before in
     line-written
     s.args.heading
@@ -39,13 +39,13 @@ returns c =
     s.args.more.now
     _ _ _ _ _ _ _ _ _ _
     s.requires
-    first.write-heading.ensures
-    second.write-fields.ensures
-    third.write-fields2.ensures
+    first.write_heading-first.ensures
+    second.write_fields-second.ensures
+    third.write_fields-end.ensures
     fourth.write_byte.ensures
 
-pub write-line-spec : {M : Type 1} → statement M
-write-line-spec =
+pub write_line_spec : {M : Type 1} → statement M
+write_line_spec =
     tie.close
     (tie.spec
     write-heading-requires
