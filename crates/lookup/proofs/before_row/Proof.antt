@@ -20,41 +20,41 @@ module _ (s : tie.Start) where
   abbrev second : ℤ
   second = get_or s.args.cells.now (s.args.at + 1) (pos 0)
 
-first_fits : (c : tie.After-first) → SFits w64 (first c.before)
-first_fits c = sfits_of c.first.given
+first_fits : (c : tie.After-first-1) → SFits w64 (first c.before)
+first_fits c = sfits_of c.first-1.given
 
-returns : tie.Need-returns
+returns : tie.Need-returns-then-major-first
 returns c =
-    let f : tie.After-first = c.before.before in
+    let f : tie.After-first-1 = c.before.before in
     let s : tie.Start = f.before in
-    sym (below-by-major s.args.major s.args.minor (first s) (second s) (simp (to_z-of_z s.ranges.major, to_z-of_z (first_fits f)) at c.if2.true))
+    sym (below-by-major s.args.major s.args.minor (first s) (second s) (simp (to_z-of_z s.ranges.major, to_z-of_z (first_fits f)) at c.if-major-first.true))
 
-returns-2 : tie.Need-returns-2
+returns-2 : tie.Need-returns-then-major-first-2
 returns-2 c =
-    let f : tie.After-first = c.before.before.before in
+    let f : tie.After-first-1 = c.before.before.before in
     let s : tie.Start = f.before in
     sym
     (not-below-by-major s.args.major s.args.minor (first s) (second s)
-    (simp (to_z-of_z s.ranges.major, to_z-of_z (first_fits f)) at c.before.if2.false)
-    (λ e. c.if3.true (ap (of_z w64) e)))
+    (simp (to_z-of_z s.ranges.major, to_z-of_z (first_fits f)) at c.if-major-first.false)
+    (λ e. c.if-major-first-2.true (ap (of_z w64) e)))
 
-returns-3 : tie.Need-returns-3
+returns-3 : tie.Need-returns-then-few
 returns-3 c =
-    let f : tie.After-first = c.before.before.before.before in
+    let f : tie.After-first-1 = c.before.before.before.before in
     let s : tie.Start = f.before in
-    let g : SFits w64 (second s) = sfits_of c.result.given in
+    let g : SFits w64 (second s) = sfits_of c.result-1.given in
     simp (to_z-of_z s.ranges.minor, to_z-of_z g)
-    (sym (below-by-minor s.args.major s.args.minor (first s) (second s) (of_z-inj s.ranges.major (first_fits f) c.before.if3.false)))
+    (sym (below-by-minor s.args.major s.args.minor (first s) (second s) (of_z-inj s.ranges.major (first_fits f) c.if-major-first-2.false)))
 
-returns-4 : tie.Need-returns-4
+returns-4 : tie.Need-returns
 returns-4 c =
-    let f : tie.After-first = c.before.before.before in
+    let f : tie.After-first-1 = c.before.before.before in
     let s : tie.Start = f.before in
-    let g : SFits w64 (second s) = sfits_of c.before.comes-before-arg.given in
-    simp (to_z-of_z s.ranges.major, to_z-of_z s.ranges.minor, to_z-of_z (first_fits f), to_z-of_z g) at c.comes-before.ensures
+    let g : SFits w64 (second s) = sfits_of c.comes_before-arg-1.given in
+    simp (to_z-of_z s.ranges.major, to_z-of_z s.ranges.minor, to_z-of_z (first_fits f), to_z-of_z g) at c.comes_before.ensures
 
-pub before-row-spec : {M : Type 1} → statement M
-before-row-spec =
+pub before_row_spec : {M : Type 1} → statement M
+before_row_spec =
     tie.close
     (tie.spec
     (λ c. search rules)

@@ -11,5 +11,5 @@ returns c =
     simp
     (to_z-of_z c.ranges.major, to_z-of_z c.ranges.major2, to_z-of_z c.ranges.minor, to_z-of_z c.ranges.minor2, eqb-of_z c.ranges.major c.ranges.major2)
 
-pub comes-before-spec : {M : Type 1} → statement M
-comes-before-spec = tie.close (tie.spec returns)
+pub comes_before_spec : {M : Type 1} → statement M
+comes_before_spec = tie.close (tie.spec returns)

@@ -19,51 +19,51 @@ use Rattle.lookup.proofs.Halving.{row_within, place-at-most}
 use Rattle.lookup.proofs.RowBefore.{last_key}
 use Rattle.lookup.proofs.LookedUp.{front-searchable, said-first, said-nothing, said-present, said-absent}
 use Rattle.lookup.proofs.look_up.Statement.{statement}
+use Rattle.lookup.proofs.look_up.Lts.{then-end-count, else-end-count}
 use Rattle.lookup.proofs.look_up.Tie as tie
 
 -- Where the rows of the first figure sought end.
 abbrev end_of : tie.Start → ℕ
 end_of s = row_place s.args.header s.args.width (last_key s.args.major) s.args.count s.args.cells.now
 
-placed : (c : tie.After-place-of) → c.place_of.result ≡ end_of c.before
-placed c = simp (to_z-of_z c.before.ranges.major) at c.place_of.ensures
+placed : (c : tie.After-place_of-end) → c.place_of-end.result ≡ end_of c.before
+placed c = simp (to_z-of_z c.ranges.major) at c.place_of-end.ensures
 
 row_in : (s : tie.Start) (row : ℕ) → row < s.args.count → s.args.header + row * s.args.width + 1 < length s.args.cells.now
 row_in s row h = row_within s.args.header s.args.width s.args.count s.args.cells.now s.requires row h
 
 -- The row at the end.
-at-end : (c : tie.Then1) → c.before.before.args.header + c.before.place_of.result * c.before.before.args.width + 1 < length c.before.before.args.cells.now
-at-end c = row_in c.before.before c.before.place_of.result c.if1.true
+at-end : (c : tie.Then-end-count) → c.args.header + c.place_of-end.result * c.args.width + 1 < length c.args.cells.now
+at-end c = row_in c.before.before c.place_of-end.result c.if-end-count.true
 
-read : (c : tie.Joined1) → end_of c.before.before < c.before.before.args.count
-    → SFits w64 (get_or c.before.before.args.cells.now (c.before.before.args.header + end_of c.before.before * c.before.before.args.width + 1) (pos 0))
+read : (c : tie.Joined-end-count) → end_of c.before.before < c.args.count
+    → SFits w64 (get_or c.args.cells.now (c.args.header + end_of c.before.before * c.args.width + 1) (pos 0))
 read c h =
-    ⊎_elim
-    (λ w.
-    let f : SFits w64 (get_or c.before.before.args.cells.now (c.before.before.args.header + c.before.place_of.result * c.before.before.args.width + 1) (pos 0)) = sfits_of w.1.given in
-    subst (λ (p : ℕ). SFits w64 (get_or c.before.before.args.cells.now (c.before.before.args.header + p * c.before.before.args.width + 1) (pos 0))) (placed c.before) f)
-    (λ w. absurd (omega (arith, placed c.before, w.left)))
-    c.if1.branch
+    elim c.if-end-count.branch [
+      then-end-count w ↦
+      (let f : SFits w64 (get_or c.args.cells.now (c.args.header + c.place_of-end.result * c.args.width + 1) (pos 0)) = sfits_of w.second-1.given in
+      subst (λ (p : ℕ). SFits w64 (get_or c.args.cells.now (c.args.header + p * c.args.width + 1) (pos 0))) (placed c.before) f)
+    | else-end-count w ↦ absurd (omega (arith, placed c.before, w.if-end-count.false)) ]
 
-returns : tie.Need-returns
+returns : tie.Need-returns-then-end-eq0
 returns c =
     let s : tie.Start = c.before.before.before in
-    let p : tie.After-place-of = c.before.before in
-    ap (λ (n : ℕ). Sought.Absent n Nothing) (sym c.if2.true ∙ placed p)
-    ∙ sym (said-first s.args.cells.now s.args.header s.args.width s.args.count s.requires s.args.major s.args.minor (read c.before) (sym (placed p) ∙ c.if2.true))
+    let p : tie.After-place_of-end = c.before.before in
+    ap (λ (n : ℕ). Sought.Absent n Nothing) (sym c.if-end-eq0.true ∙ placed p)
+    ∙ sym (said-first s.args.cells.now s.args.header s.args.width s.args.count s.requires s.args.major s.args.minor (read c.before) (sym (placed p) ∙ c.if-end-eq0.true))
 
 -- The last row before the end.
-module _ (c : tie.Else2) where
+module _ (c : tie.Else-end-eq0) where
   abbrev start : tie.Start
   start = c.before.before.before
 
   abbrev row : ℕ
-  row = c.before.before.place_of.result - 1
+  row = c.place_of-end.result - 1
 
   row_before : end_of start ≡ suc row
   row_before = omega (arith, placed c.before.before)
 
-  end-within : c.before.before.place_of.result ≤ start.args.count
+  end-within : c.place_of-end.result ≤ start.args.count
   end-within = omega (arith, placed c.before.before, place-at-most start.args.cells.now start.args.header start.args.width start.args.count (last_key start.args.major))
 
   within : start.args.header + row * start.args.width + 1 < length start.args.cells.now
@@ -75,65 +75,65 @@ module _ (c : tie.Else2) where
   abbrev second : ℤ
   second = get_or start.args.cells.now (start.args.header + row * start.args.width + 1) (pos 0)
 
-first_fits : (c : tie.After-if32) → SFits w64 (first c.before.before)
-first_fits c = sfits_of c.if32.given
+first_fits : (c : tie.After-t24-1) → SFits w64 (first c.before.before)
+first_fits c = sfits_of c.t24-1.given
 
-returns-2 : tie.Need-returns-2
+returns-2 : tie.Need-returns-then-cells-last
 returns-2 c =
-    let e : tie.Else2 = c.before.before.before in
+    let e : tie.Else-end-eq0 = c.before.before.before in
     let s : tie.Start = start e in
     ap (λ (n : ℕ). Sought.Absent n Nothing) (placed e.before.before)
-    ∙ sym (said-nothing s.args.cells.now s.args.header s.args.width s.args.count s.pre s.args.major s.args.minor (read e.before) (row e) (row_before e)
-    (λ same. c.if3.true (ap (of_z w64) same)))
+    ∙ sym (said-nothing s.args.cells.now s.args.header s.args.width s.args.count s.requires s.args.major s.args.minor (read e.before) (row e) (row_before e)
+    (λ same. c.if-cells-last.true (ap (of_z w64) same)))
 
 -- The row with the key among the rows up to the end.
-module _ (c : tie.After-find-by-distance) where
-  abbrev there : tie.Else2
+module _ (c : tie.After-find_by_distance) where
+  abbrev there : tie.Else-end-eq0
   there = c.before.before.before.before
 
   abbrev s : tie.Start
   s = start there
 
   own : first there ≡ s.args.major
-  own = of_z-inj (first_fits c.before.before) s.fits.major c.before.if3.false
+  own = of_z-inj (first_fits c.before.before) s.ranges.major c.if-cells-last.false
 
   greatest-fits : SFits w64 (second there)
-  greatest-fits = sfits_of c.before.before.before.greatest.given
+  greatest-fits = sfits_of c.greatest-1.given
 
-  found : c.find-by-distance.result ≡ row_found s.args.header s.args.width (key_of s.args.major s.args.minor) (end_of s) s.args.cells.now
+  found : c.find_by_distance.result ≡ row_found s.args.header s.args.width (key_of s.args.major s.args.minor) (end_of s) s.args.cells.now
   found =
-      (simp (to_z-of_z s.fits.major, to_z-of_z s.fits.minor) at c.find-by-distance.ensures)
+      (simp (to_z-of_z s.ranges.major, to_z-of_z s.ranges.minor) at c.find_by_distance.ensures)
       ∙ ap (λ (n : ℕ). row_found s.args.header s.args.width (key_of s.args.major s.args.minor) n s.args.cells.now) (placed there.before.before)
 
-find-by-distance-requires : tie.Need-find-by-distance-requires
+find-by-distance-requires : tie.Need-find_by_distance-requires
 find-by-distance-requires c κs =
-    let e : tie.Else2 = c.before.before.before in
+    let e : tie.Else-end-eq0 = c.before.before.before in
     let s : tie.Start = start e in
-    (front-searchable s.args.header s.args.width s.args.count e.before.before.place_of.result s.args.cells.now (end-within e) s.pre, omega (arith, row_before e, placed e.before.before))
+    (front-searchable s.args.header s.args.width s.args.count e.place_of-end.result s.args.cells.now (end-within e) s.requires, omega (arith, row_before e, placed e.before.before))
 
-returns-3 : tie.Need-returns-3
+returns-3 : tie.Need-returns-in-Row
 returns-3 c =
-    let f : tie.After-find-by-distance = c.before.before.before in
-    let e : tie.Else2 = there f in
+    let f : tie.After-find_by_distance = c.before in
+    let e : tie.Else-end-eq0 = there f in
     let s : tie.Start = s f in
-    let i : ℕ = c.before.row.given.0.0 in
-    ap (λ (g : ℤ). Sought.Present i g e.before.before.place_of.result) (to_z-of_z (greatest-fits f))
+    let i : ℕ = c.in-Row.row in
+    ap (λ (g : ℤ). Sought.Present i g e.place_of-end.result) (to_z-of_z (greatest-fits f))
     ∙ ap (Sought.Present i (second e)) (placed e.before.before)
-    ∙ sym (said-present s.args.cells.now s.args.header s.args.width s.args.count s.pre s.args.major s.args.minor (read e.before) (row e) (row_before e) (own f)
-    i (sym c.before.row.given.1 ∙ found f))
+    ∙ sym (said-present s.args.cells.now s.args.header s.args.width s.args.count s.requires s.args.major s.args.minor (read e.before) (row e) (row_before e) (own f)
+    i (sym c.in-Row.is ∙ found f))
 
-returns-4 : tie.Need-returns-4
+returns-4 : tie.Need-returns-in-Absent
 returns-4 c =
-    let f : tie.After-find-by-distance = c.before.before.before in
-    let e : tie.Else2 = there f in
+    let f : tie.After-find_by_distance = c.before in
+    let e : tie.Else-end-eq0 = there f in
     let s : tie.Start = s f in
-    let place : ℕ = c.before.place.given.0.0 in
+    let place : ℕ = c.in-Absent.place in
     ap (λ (g : ℤ). Sought.Absent place (Suffix g)) (to_z-of_z (greatest-fits f))
-    ∙ sym (said-absent s.args.cells.now s.args.header s.args.width s.args.count s.pre s.args.major s.args.minor (read e.before) (row e) (row_before e) (own f)
-    place (sym c.before.place.given.1 ∙ found f))
+    ∙ sym (said-absent s.args.cells.now s.args.header s.args.width s.args.count s.requires s.args.major s.args.minor (read e.before) (row e) (row_before e) (own f)
+    place (sym c.in-Absent.is ∙ found f))
 
-pub look-up-spec : {M : Type 1} → statement M
-look-up-spec =
+pub look_up_spec : {M : Type 1} → statement M
+look_up_spec =
     tie.close
     (tie.spec
     (λ c κs. search rules)

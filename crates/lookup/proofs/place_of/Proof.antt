@@ -17,14 +17,15 @@ use Rattle.lookup.specs.Steps.{halvings}
 use Rattle.lookup.proofs.Halving.{row_within, place-at-most, place-to, place-past}
 use Rattle.lookup.proofs.Steps.{halvings-step, fuel-suffices}
 use Rattle.lookup.proofs.place_of.Statement.{statement}
+use Rattle.lookup.proofs.place_of.Lts.{then-not-before_row, else-not-before_row}
 use Rattle.lookup.proofs.place_of.Tie as tie
 
-abbrev invariant-loop : tie.invariant-loop
+abbrev invariant-loop : tie.invariant-loop-left
 invariant-loop cells header width count major minor few low₀ left₀ fuel₀ low left fuel =
     let place : ℕ = row_place header width (key_of (to_z w64 major) (to_z w64 minor)) count cells in
     (halvings left ≤ fuel) × (low ≤ place) × (place ≤ low + left) × (low + left ≤ count)
 
-abbrev decreases-loop : tie.decreases-loop
+abbrev decreases-loop : tie.decreases-loop-left
 decreases-loop cells header width count major minor few low₀ left₀ fuel₀ low left fuel = fuel
 
 -- The key sought, read from its bits, and its place.
@@ -37,7 +38,7 @@ module _ (s : tie.Start invariant-loop decreases-loop) where
 
   -- Of any row: its key lies within the table, and says whether the place lies up to the row or past it. Which row a turn looks at is told by the code alone.
   within : {row : ℕ} → row < s.args.count → s.args.header + row * s.args.width + 1 < length s.args.cells.now
-  within {row} h = row_within s.args.header s.args.width s.args.count s.args.cells.now s.pre row h
+  within {row} h = row_within s.args.header s.args.width s.args.count s.args.cells.now s.requires row h
 
   cells_fit : {row : ℕ} → row < s.args.count → Fits w64 (row * s.args.width)
   cells_fit h = omega (arith, within h)
@@ -49,48 +50,47 @@ module _ (s : tie.Start invariant-loop decreases-loop) where
   to_row {row} tested h e = place-to s.args.cells.now s.args.header s.args.width s.args.count sought row h (sym tested ∙ e)
 
   past_row : {row : ℕ} {r : Bool} → r ≡ below sought (key_at s.args.cells.now (s.args.header + row * s.args.width)) → row < s.args.count → r ≡ false → row < place
-  past_row {row} tested h e = place-past s.args.cells.now s.args.header s.args.width s.args.count sought row h s.pre.keys-rise (sym tested ∙ e)
+  past_row {row} tested h e = place-past s.args.cells.now s.args.header s.args.width s.args.count sought row h s.requires.keys-rise (sym tested ∙ e)
 
 -- This turn, and the halvings of what is left after it, are within the fuel.
-enough : (c : tie.In-loop invariant-loop decreases-loop) → halvings (c.before.loop.left / 2) < c.before.loop.fuel
-enough c = omega (arith, halvings-step c.before.loop.left (omega arith))
+enough : (c : tie.In-loop-left invariant-loop decreases-loop) → halvings (c.loop-left.left / 2) < c.loop-left.fuel
+enough c = omega (arith, halvings-step c.loop-left.left (omega arith))
 
-loop-holds : tie.Need-loop-init invariant-loop decreases-loop
+loop-holds : tie.Need-loop-left-init invariant-loop decreases-loop
 loop-holds c =
     omega (arith, place-at-most c.args.cells.now c.args.header c.args.width c.args.count (sought c), fuel-suffices c.args.count c.requires.few-rows)
 
-sub-fuel : tie.Need-overflow-sub-fuel invariant-loop decreases-loop
+sub-fuel : tie.Need-overflow_sub-fuel invariant-loop decreases-loop
 sub-fuel c = omega (arith, enough c.before.before)
 
-loop-less : tie.Need-loop-smaller invariant-loop decreases-loop
+loop-less : tie.Need-loop-left-smaller invariant-loop decreases-loop
 loop-less c = omega (arith, enough c.before.before)
 
 -- After either way through the test.
-loop-again : tie.Need-loop-preserved invariant-loop decreases-loop
+loop-again : tie.Need-loop-left-preserved invariant-loop decreases-loop
 loop-again c =
-    let b : tie.After-before-row invariant-loop decreases-loop = c.before in
-    let i : tie.In-loop invariant-loop decreases-loop = b.before in
+    let b : tie.After-before_row invariant-loop decreases-loop = c.before in
+    let i : tie.In-loop-left invariant-loop decreases-loop = b.before in
     let s : tie.Start invariant-loop decreases-loop = i.before.before in
-    ⊎_elim
-    (λ t. omega (arith, past_row s b.before-row.ensures (omega arith) (not-true b.before-row.result t.0.taken), t.1, i.before.loop.invariant, enough i))
-    (λ t. omega (arith, to_row s b.before-row.ensures (omega arith) (not-false b.before-row.result t.0.left), t.1, i.before.loop.invariant, enough i))
-    c.if1.branch
+    elim c.if-not-before_row.branch [
+      then-not-before_row w ↦ omega (arith, past_row s b.before_row.ensures (omega arith) w.if-not-before_row.true, w.low-is, i.loop-left.invariant, enough i)
+    | else-not-before_row w ↦ omega (arith, to_row s b.before_row.ensures (omega arith) w.if-not-before_row.false, w.low-is, i.loop-left.invariant, enough i) ]
 
 -- Nothing is left.
-module _ (c : tie.After-loop invariant-loop decreases-loop) where
+module _ (c : tie.After-loop-left invariant-loop decreases-loop) where
   abbrev begun : tie.Start invariant-loop decreases-loop
   begun = c.before.before
 
-  none_left : c.before.loop.left ≡ 0
-  none_left = omega (arith, c.loop-test.false)
+  none_left : c.loop-left.left ≡ 0
+  none_left = omega (arith, c.loop-left-test.false)
 
-  placed : c.before.loop.low ≡ row_place begun.args.header begun.args.width (key_of begun.args.major begun.args.minor) begun.args.count begun.args.cells.now
+  placed : c.loop-left.low ≡ row_place begun.args.header begun.args.width (key_of begun.args.major begun.args.minor) begun.args.count begun.args.cells.now
   placed =
-      let e : c.before.loop.low ≡ place begun = omega (arith, none_left, c.before.loop.invariant) in
-      simp (to_z-of_z begun.fits.major, to_z-of_z begun.fits.minor) at e
+      let e : c.loop-left.low ≡ place begun = omega (arith, none_left, c.loop-left.invariant) in
+      simp (to_z-of_z begun.ranges.major, to_z-of_z begun.ranges.minor) at e
 
-pub place-of-spec : {M : Type 1} → statement M
-place-of-spec =
+pub place_of_spec : {M : Type 1} → statement M
+place_of_spec =
     tie.close
     (tie.spec
     invariant-loop

@@ -15,30 +15,30 @@ between : (greatest minor : ℤ) → lt_z minor (pos 0) ≡ false → lt_z great
 between greatest minor low high = (omega zarith, omega zarith, omega (zarith, abs-lin greatest, abs-lin minor))
 
 -- Past both tests.
-told : (c : tie.Else2) → let a = c.before.before.args in T (non_neg a.greatest) × T (non_neg a.minor) × (nat_abs a.minor ≤ nat_abs a.greatest)
+told : (c : tie.Else-greatest-minor) → let a = c.args in T (non_neg a.greatest) × T (non_neg a.minor) × (nat_abs a.minor ≤ nat_abs a.greatest)
 told c =
     let s : tie.Start = c.before.before in
     between s.args.greatest s.args.minor
-    (simp (to_z-of_z s.ranges.minor) at c.before.if1.false)
-    (simp (to_z-of_z s.ranges.greatest, to_z-of_z s.ranges.minor) at c.if2.false)
+    (simp (to_z-of_z s.ranges.minor) at c.if-minor-lt0.false)
+    (simp (to_z-of_z s.ranges.greatest, to_z-of_z s.ranges.minor) at c.if-greatest-minor.false)
 
-cast-distance : tie.Need-overflow-cast-distance
+cast-distance : tie.Need-overflow_cast-distance
 cast-distance c =
     let s : tie.Start = c.before.before in
     simp (to_z-of_z s.ranges.greatest) ((told c).0, Fits-nat_abs tt s.ranges.greatest)
 
-cast-distance-2 : tie.Need-overflow-cast-distance-2
+cast-distance-2 : tie.Need-overflow_cast-distance-2
 cast-distance-2 c =
     let s : tie.Start = c.before.before in
     simp (to_z-of_z s.ranges.minor) ((told c).1, Fits-nat_abs tt s.ranges.minor)
 
-sub-distance : tie.Need-overflow-sub-distance
+sub-distance : tie.Need-overflow_sub-distance
 sub-distance c =
     let s : tie.Start = c.before.before in
     simp (to_z-of_z s.ranges.greatest, to_z-of_z s.ranges.minor) (told c).2
 
-pub row-by-distance-spec : {M : Type 1} → statement M
-row-by-distance-spec =
+pub row_by_distance_spec : {M : Type 1} → statement M
+row_by_distance_spec =
     tie.close
     (tie.spec
     (λ c. search rules)

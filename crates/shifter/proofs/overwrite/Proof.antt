@@ -6,14 +6,14 @@ use Rattle.shifter.proofs.Moved.{Writing, begins, writes, all_in}
 use Rattle.shifter.proofs.overwrite.Statement.{statement}
 use Rattle.shifter.proofs.overwrite.Tie as tie
 
-abbrev invariant-loop : tie.invariant-loop
+abbrev invariant-loop : tie.invariant-loop-k
 invariant-loop tail₀ row k₀ tail k = Writing row tail₀ tail k
 
-abbrev decreases-loop : tie.decreases-loop
+abbrev decreases-loop : tie.decreases-loop-k
 decreases-loop tail₀ row k₀ tail k = length row - k
 
-pub overwrite-spec : {M : Type 1} → statement M
-overwrite-spec =
+pub overwrite_spec : {M : Type 1} → statement M
+overwrite_spec =
     tie.close
     (tie.spec
     invariant-loop
@@ -25,6 +25,6 @@ overwrite-spec =
     (λ c. search rules)
     (λ c. search rules)
     (λ c. search rules)
-    (λ c. writes c.before.before.loop.invariant c.before.loop-test.true c.tail.given)
+    (λ c. writes c.loop-k.invariant c.loop-k-test.true c.tail-1.given)
     (λ c. search rules)
-    (λ c. all_in c.before.loop.invariant c.loop-test.false))
+    (λ c. all_in c.loop-k.invariant c.loop-k-test.false))

@@ -7,10 +7,10 @@ use Rattle.shifter.proofs.replace_row.Tie as tie
 returns : tie.Need-returns
 returns c =
     let s : tie.Start = c.before.before.before in
-    replacement s.args.header s.args.cells.now s.args.row.now c.before.overwrite.new.0 s.args.place s.requires c.before.overwrite.ensures
+    replacement s.args.header s.args.cells.now s.args.row.now c.overwrite.new.tail s.args.place s.requires c.overwrite.ensures
 
-pub replace-row-spec : {M : Type 1} → statement M
-replace-row-spec =
+pub replace_row_spec : {M : Type 1} → statement M
+replace_row_spec =
     tie.close
     (tie.spec
     (λ c. search rules)

@@ -7,7 +7,7 @@ use Rattle.shifter.proofs.shift_in.Tie as tie
 returns : tie.Need-returns
 returns c =
     let s : tie.Start = c.before.before.before.before.before.before in
-    shifted s.args.tail.now c.before.before.before.before.move_up.new.0 c.before.overwrite.new.0 s.args.row.now s.args.used s.requires c.before.before.before.before.move_up.ensures c.before.overwrite.ensures
+    shifted s.args.tail.now c.move_up.new.tail c.overwrite.new.tail s.args.row.now s.args.used s.requires c.move_up.ensures c.overwrite.ensures
 
-pub shift-in-spec : {M : Type 1} → statement M
-shift-in-spec = tie.close (tie.spec (λ c κs. search rules) (λ c κs. search rules) (λ c. search rules) returns)
+pub shift_in_spec : {M : Type 1} → statement M
+shift_in_spec = tie.close (tie.spec (λ c κs. search rules) (λ c κs. search rules) (λ c. search rules) returns)
