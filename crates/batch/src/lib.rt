@@ -15,7 +15,7 @@ const TRADE_WIDTH: usize = 6;
 const MOST_TRADES: usize = 1000;
 
 // What became of one trade: booked, with its excess or 0, or refused with a number and a place.
-#[derive(Drop)]
+#[derive(Clone, Copy)]
 enum Outcome {
     Booked(i64),
     Refused(i64, i64),

@@ -3,7 +3,7 @@ ghost use Rattle.std.specs.Prelude.{◌≡◌};
 ghost use Rattle.give_up_steps.specs.Terms.{terms_valid};
 
 // What every step names: process, transaction, both accounts and series.
-#[derive(Drop)]
+#[derive(Clone, Copy)]
 pub struct Terms {
     pub process: i64,
     pub id: i64,

@@ -11,7 +11,7 @@ use rules::Reply;
 use tables::records;
 
 // The price of the row with suffix 0 and the links followed to it; or a row on the way is missing.
-#[derive(Drop)]
+#[derive(Clone, Copy)]
 pub enum Traced {
     From { price: i64, links: i64 },
     Missing,

@@ -9,14 +9,14 @@ ghost use Rattle.lookup.specs.Lookup.{Searchable, key_at, row_found, row_place, 
 const MOST_STEPS: usize = 13;
 
 // The row with a key, from 0; or that there is none, with the row where the key belongs.
-#[derive(Drop)]
+#[derive(Clone, Copy)]
 pub enum Found {
     Row(usize),
     Absent(usize),
 }
 
 // The greatest suffix of an id, or that it has no record.
-#[derive(Drop)]
+#[derive(Clone, Copy)]
 pub enum Greatest {
     Suffix(i64),
     Nothing,
@@ -24,7 +24,7 @@ pub enum Greatest {
 
 // What the lookup says of a key (document 02, K2). Present: its row, the greatest suffix of its id, and the row where the id's next suffix belongs.
 // Absent: the row where the key belongs, and the greatest suffix of its id or that it has none.
-#[derive(Drop)]
+#[derive(Clone, Copy)]
 pub enum Sought {
     Present(usize, i64, usize),
     Absent(usize, Greatest),

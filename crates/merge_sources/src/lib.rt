@@ -2,7 +2,7 @@
 pub mod pairs; // the list of pairs: test 3, test 9, how often an id stood earlier
 
 // The place of the first source that fails a test, from 0; or that none does.
-#[derive(Drop)]
+#[derive(Clone, Copy)]
 pub enum Place {
     At(usize),
     Nowhere,

@@ -3,7 +3,7 @@
 pub mod each_line; // every line in turn
 
 // What became of a line: booked, with the place of the next; bad; or refused with a number and a place.
-#[derive(Drop)]
+#[derive(Clone, Copy)]
 pub enum Became {
     Booked(usize),
     Bad,

@@ -17,7 +17,7 @@ use rules::codes::{ADJUSTABLE, INVERSE, UNDER_GIVE_UP};
 use tables::records;
 
 // The pairs of all rows; or an inverse of the current day has no parent row.
-#[derive(Drop)]
+#[derive(Clone, Copy)]
 pub enum Counted {
     Pairs(usize),
     NoParent,

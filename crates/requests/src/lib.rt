@@ -22,14 +22,14 @@ use rules::{Movement, Position, Record};
 use tables::{new_rows, positions, records};
 
 // A position as it was looked up: the row with its key or the place where it belongs, and its figures, zeros where it has no row.
-#[derive(Drop)]
+#[derive(Clone, Copy)]
 pub struct Held {
     pub found: Found,
     pub position: Position,
 }
 
 // A record that a request names, as it was looked up: its row, the next suffix of its id, and the place where that belongs.
-#[derive(Drop)]
+#[derive(Clone, Copy)]
 pub struct Named {
     pub record: Record,
     pub row: usize,

@@ -3,7 +3,7 @@ pub mod codes; // status, type, limits
 pub mod layout; // header, width and room of the tables
 
 // A row of the records table: one transaction record. Its key is the id, then the suffix.
-#[derive(Drop)]
+#[derive(Clone, Copy)]
 pub struct Record {
     pub id: i64,
     pub suffix: i64,
@@ -27,7 +27,7 @@ pub struct Record {
 }
 
 // A row of the positions table. Its key is the account, then the series.
-#[derive(Drop)]
+#[derive(Clone, Copy)]
 pub struct Position {
     pub account: i64,
     pub series: i64,
@@ -40,7 +40,7 @@ pub struct Position {
 }
 
 // A row of the process table: one give-up. Its key is the process id, then the id of the transaction that it names.
-#[derive(Drop)]
+#[derive(Clone, Copy)]
 pub struct ProcessRow {
     pub process: i64,
     pub id: i64,
@@ -56,7 +56,7 @@ pub struct ProcessRow {
 }
 
 // How far a give-up has come.
-#[derive(Drop)]
+#[derive(Clone, Copy)]
 pub enum Stage {
     Pending,
     Claimed,
@@ -66,7 +66,7 @@ pub enum Stage {
 }
 
 // The process of a give-up by value, its stage told apart.
-#[derive(Drop)]
+#[derive(Clone, Copy)]
 pub struct Process {
     pub process: i64,
     pub id: i64,
@@ -80,7 +80,7 @@ pub struct Process {
 }
 
 // The steps of a give-up.
-#[derive(Drop)]
+#[derive(Clone, Copy)]
 pub enum Step {
     Open,
     Claim,
@@ -91,7 +91,7 @@ pub enum Step {
 }
 
 // What stands before the figures of a line of a journal: the letter of the request's kind, and of a step of a give-up also the step's.
-#[derive(Drop)]
+#[derive(Clone, Copy)]
 pub enum Heading {
     Trade,
     Separation,
@@ -102,7 +102,7 @@ pub enum Heading {
 }
 
 // What a request changes in a position.
-#[derive(Drop)]
+#[derive(Clone, Copy)]
 pub struct Movement {
     pub long: i64,
     pub short: i64,
@@ -112,7 +112,7 @@ pub struct Movement {
 }
 
 // The answer to a request.
-#[derive(Drop)]
+#[derive(Clone, Copy)]
 pub enum Reply {
     Booked {
         rows: i64,

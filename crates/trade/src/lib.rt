@@ -25,7 +25,7 @@ use tables::{positions, records};
 use verdict::Verdict;
 
 // What a trade closes and books.
-#[derive(Drop)]
+#[derive(Clone, Copy)]
 pub struct Booking {
     pub closed: i64,
     pub movement: Movement,

@@ -18,7 +18,7 @@ pub mod text_calls; // the writing calls and the replay
 
 // An answer as C reads it: which it is, and what it carries.
 #[repr(C)]
-#[derive(Drop)]
+#[derive(Clone, Copy)]
 pub struct Coded {
     pub kind: i64,
     pub first: i64,

@@ -8,8 +8,8 @@ use Rattle.scan.proofs.rows.position_cells.Tie as tie
 returns : tie.Need-returns
 unfolding position_cells
 returns c =
-    let p = c.before.args.p in
-    let known = c.struct_told.given in
+    let p = c.args.p in
+    let known = c.struct_told-1.given in
     simp (
       read_back p.account known.0.1,
       read_back p.series known.1.0.1,
@@ -20,5 +20,5 @@ returns c =
       read_back p.value known.1.1.1.1.1.1.0.1,
     )
 
-pub position-cells-spec : {M : Type 1} → statement M
-position-cells-spec = tie.close (tie.spec returns)
+pub position_cells_spec : {M : Type 1} → statement M
+position_cells_spec = tie.close (tie.spec returns)

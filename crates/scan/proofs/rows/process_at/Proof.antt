@@ -15,19 +15,19 @@ returns c =
     let cells : List ℤ = s.args.cells.now in
     let at : ℕ = s.args.at in
     simp (
-      read_back (get_or cells at (pos 0)) c.before.before.before.before.before.before.before.before.t5.given,
-      read_back (get_or cells (at + 1) (pos 0)) c.before.before.before.before.before.before.before.t9.given,
-      read_back (get_or cells (at + 2) (pos 0)) c.before.before.before.before.before.before.t13.given,
-      read_back (get_or cells (at + 3) (pos 0)) c.before.before.before.before.before.t17.given,
-      read_back (get_or cells (at + 4) (pos 0)) c.before.before.before.before.t21.given,
-      read_back (get_or cells (at + 5) (pos 0)) c.before.before.before.t25.given,
-      read_back (get_or cells (at + 6) (pos 0)) c.before.before.t29.given,
-      read_back (get_or cells (at + 7) (pos 0)) c.before.t33.given,
-      read_back (get_or cells (at + 8) (pos 0)) c.t37.given,
+      read_back (get_or cells at (pos 0)) c.result-1.given,
+      read_back (get_or cells (at + 1) (pos 0)) c.result-2-1.given,
+      read_back (get_or cells (at + 2) (pos 0)) c.result-3-1.given,
+      read_back (get_or cells (at + 3) (pos 0)) c.result-4-1.given,
+      read_back (get_or cells (at + 4) (pos 0)) c.result-5-1.given,
+      read_back (get_or cells (at + 5) (pos 0)) c.result-6-1.given,
+      read_back (get_or cells (at + 6) (pos 0)) c.result-7-1.given,
+      read_back (get_or cells (at + 7) (pos 0)) c.result-8-1.given,
+      read_back (get_or cells (at + 8) (pos 0)) c.result-9-1.given,
     )
 
-pub process-at-spec : {M : Type 1} → statement M
-process-at-spec =
+pub process_at_spec : {M : Type 1} → statement M
+process_at_spec =
     tie.close
     (tie.spec
     (λ c. search rules)

@@ -8,8 +8,8 @@ use Rattle.scan.proofs.rows.process_cells.Tie as tie
 returns : tie.Need-returns
 unfolding process_cells
 returns c =
-    let r = c.before.args.r in
-    let known = c.struct_told.given in
+    let r = c.args.r in
+    let known = c.struct_told-1.given in
     simp (
       read_back r.process known.0.1,
       read_back r.id known.1.0.1,
@@ -22,5 +22,5 @@ returns c =
       read_back r.stage known.1.1.1.1.1.1.1.1.0.1,
     )
 
-pub process-cells-spec : {M : Type 1} → statement M
-process-cells-spec = tie.close (tie.spec returns)
+pub process_cells_spec : {M : Type 1} → statement M
+process_cells_spec = tie.close (tie.spec returns)

@@ -31,24 +31,24 @@ returns c =
     let cells : List ℤ = s.args.cells.now in
     let at : ℕ = s.args.at in
     simp (
-      read_back (get_or cells at (pos 0)) c.before.before.before.before.before.before.before.before.before.before.before.before.before.t5.given,
-      read_back (get_or cells (at + 1) (pos 0)) c.before.before.before.before.before.before.before.before.before.before.before.before.t9.given,
-      read_back (get_or cells (at + 2) (pos 0)) c.before.before.before.before.before.before.before.before.before.before.before.t13.given,
-      read_back (get_or cells (at + 3) (pos 0)) c.before.before.before.before.before.before.before.before.before.before.t17.given,
-      read_back (get_or cells (at + 4) (pos 0)) c.before.before.before.before.before.before.before.before.before.t21.given,
-      read_back (get_or cells (at + 5) (pos 0)) c.before.before.before.before.before.before.before.before.t25.given,
-      read_back (get_or cells (at + 6) (pos 0)) c.before.before.before.before.before.before.before.t29.given,
-      read_back (get_or cells (at + 7) (pos 0)) c.before.before.before.before.before.before.t33.given,
-      read_back (get_or cells (at + 8) (pos 0)) c.before.before.before.before.before.t37.given,
-      read_back (get_or cells (at + 9) (pos 0)) c.before.before.before.before.t41.given,
-      read_back (get_or cells (at + 10) (pos 0)) c.before.before.before.t45.given,
-      read_back (get_or cells (at + 11) (pos 0)) c.before.before.t49.given,
-      read_back (get_or cells (at + 12) (pos 0)) c.before.t53.given,
-      read_back (get_or cells (at + 13) (pos 0)) c.t57.given,
+      read_back (get_or cells at (pos 0)) c.result-1.given,
+      read_back (get_or cells (at + 1) (pos 0)) c.result-2-1.given,
+      read_back (get_or cells (at + 2) (pos 0)) c.result-3-1.given,
+      read_back (get_or cells (at + 3) (pos 0)) c.result-4-1.given,
+      read_back (get_or cells (at + 4) (pos 0)) c.result-5-1.given,
+      read_back (get_or cells (at + 5) (pos 0)) c.result-6-1.given,
+      read_back (get_or cells (at + 6) (pos 0)) c.result-7-1.given,
+      read_back (get_or cells (at + 7) (pos 0)) c.result-8-1.given,
+      read_back (get_or cells (at + 8) (pos 0)) c.result-9-1.given,
+      read_back (get_or cells (at + 9) (pos 0)) c.result-10-1.given,
+      read_back (get_or cells (at + 10) (pos 0)) c.result-11-1.given,
+      read_back (get_or cells (at + 11) (pos 0)) c.result-12-1.given,
+      read_back (get_or cells (at + 12) (pos 0)) c.result-13-1.given,
+      read_back (get_or cells (at + 13) (pos 0)) c.result-14-1.given,
     )
 
-pub record-at-spec : {M : Type 1} → statement M
-record-at-spec =
+pub record_at_spec : {M : Type 1} → statement M
+record_at_spec =
     tie.close
     (tie.spec
     (λ c. search rules)

@@ -8,8 +8,8 @@ use Rattle.scan.proofs.rows.record_cells.Tie as tie
 returns : tie.Need-returns
 unfolding record_cells
 returns c =
-    let r = c.before.args.r in
-    let known = c.struct_told.given in
+    let r = c.args.r in
+    let known = c.struct_told-1.given in
     simp (
       read_back r.id known.0.1,
       read_back r.suffix known.1.0.1,
@@ -27,5 +27,5 @@ returns c =
       read_back r.day known.1.1.1.1.1.1.1.1.1.1.1.1.1.0.1,
     )
 
-pub record-cells-spec : {M : Type 1} → statement M
-record-cells-spec = tie.close (tie.spec returns)
+pub record_cells_spec : {M : Type 1} → statement M
+record_cells_spec = tie.close (tie.spec returns)

@@ -16,33 +16,33 @@ use Rattle.scan.proofs.Room.{room-at-most, no-count, count-in-range}
 use Rattle.scan.proofs.soundness.count_sound.Statement.{statement}
 use Rattle.scan.proofs.soundness.count_sound.Tie as tie
 
-room : (c : tie.After-room-for) → c.room_for.result ≡ room_for c.before.before.args.header c.before.before.args.width c.before.before.args.most (length c.before.before.args.cells.now)
-room c = c.room_for.ensures
+room : (c : tie.After-room_for-room) → c.room_for-room.result ≡ room_for c.args.header c.args.width c.args.most (length c.args.cells.now)
+room c = c.room_for-room.ensures
 
-room_small : (c : tie.After-room-for) → c.room_for.result < 2 ^ 63
+room_small : (c : tie.After-room_for-room) → c.room_for-room.result < 2 ^ 63
 room_small c =
     let s : tie.Start = c.before.before in
     omega (arith, room c, room-at-most s.args.header s.args.width s.args.most (length s.args.cells.now), s.requires.2)
 
-room_back : (c : tie.After-room-for)
-    → to_z w64 c.room_for.result ≡ pos (room_for c.before.before.args.header c.before.before.args.width c.before.before.args.most (length c.before.before.args.cells.now))
+room_back : (c : tie.After-room_for-room)
+    → to_z w64 c.room_for-room.result ≡ pos (room_for c.args.header c.args.width c.args.most (length c.args.cells.now))
 room_back c = to_z_pos w64 (room_small c) ∙ ap pos (room c)
 
-returns : tie.Need-returns
-returns c = no-count _ _ _ _ c.if1.true
+returns : tie.Need-returns-then-cells-header
+returns c = no-count _ _ _ _ c.if-cells-header.true
 
-cast-room : tie.Need-overflow-cast-room
+cast-room : tie.Need-overflow_cast-room
 cast-room c = omega (zarith, room_small c)
 
-returns-2 : tie.Need-returns-2
+returns-2 : tie.Need-returns
 returns-2 c =
-    let a : tie.After-room-for = c.before.before in
+    let a : tie.After-room_for-room = c.before.before in
     let s : tie.Start = a.before.before in
-    (simp (room_back a, read_back (get_or s.args.cells.now 0 (pos 0)) c.before.in-range-arg.given) at c.in-range.ensures)
+    (simp (room_back a, read_back (get_or s.args.cells.now 0 (pos 0)) c.in_range-arg-1.given) at c.in_range.ensures)
     ∙ count-in-range s.args.header s.args.width s.args.most s.args.cells.now (omega arith)
 
-pub count-sound-spec : {M : Type 1} → statement M
-count-sound-spec =
+pub count_sound_spec : {M : Type 1} → statement M
+count_sound_spec =
     tie.close
     (tie.spec
     returns

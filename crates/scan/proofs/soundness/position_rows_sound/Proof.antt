@@ -9,44 +9,44 @@ use Rattle.rules.specs.Tables.{position_at, positions_layout}
 use Rattle.figures.proofs.Tests.{failed, passed}
 use Rattle.scan.proofs.RowsScan.{RowsLeft, neighbours, all_left, none_left, row-fails, not-rising, row-passes, last-passes}
 use Rattle.scan.proofs.soundness.position_rows_sound.Statement.{statement}
+use Rattle.scan.proofs.soundness.position_rows_sound.Lts.{then-left-gt1+else-not-key_below, else-left-gt1}
 use Rattle.scan.proofs.soundness.position_rows_sound.Tie as tie
 
-abbrev invariant-loop : tie.invariant-loop
+abbrev invariant-loop : tie.invariant-loop-left
 invariant-loop cells count left₀ at₀ left at = RowsLeft positions_layout position_key sound_position cells count left at
 
-abbrev decreases-loop : tie.decreases-loop
+abbrev decreases-loop : tie.decreases-loop-left
 decreases-loop cells count left₀ at₀ left at = left
 
-row-answer : (c : tie.After-sound-position invariant-loop decreases-loop)
-    → c.sound-position.result ≡ sound_position (position_at c.before.before.before.before.args.cells.now c.before.before.before.loop.at)
-row-answer c = c.sound-position.ensures ∙ ap sound_position c.before.position_at.ensures
+row-answer : (c : tie.After-sound_position invariant-loop decreases-loop)
+    → c.sound_position.result ≡ sound_position (position_at c.args.cells.now c.loop-left.at)
+row-answer c = c.sound_position.ensures ∙ ap sound_position c.position_at.ensures
 
-returns : tie.Need-returns invariant-loop decreases-loop
-returns c = row-fails c.before.before.before.before.loop.invariant c.before.before.before.loop-test.true (failed (row-answer c.before) c.if1.true)
+returns : tie.Need-returns-then-not-sound_position invariant-loop decreases-loop
+returns c = row-fails c.loop-left.invariant c.loop-left-test.true (failed (row-answer c.before) c.if-not-sound_position.true-raw)
 
-returns-2 : tie.Need-returns-2 invariant-loop decreases-loop
+returns-2 : tie.Need-returns-then-not-key_below invariant-loop decreases-loop
 returns-2 c =
-    let k : tie.After-key-below invariant-loop decreases-loop = c.before in
-    let a : tie.At-loop invariant-loop decreases-loop = k.before.before.before.before.before.before.before.before.before.before in
-    not-rising a.loop.invariant k.before.before.before.before.before.if2.true
+    let k : tie.After-key_below invariant-loop decreases-loop = c.before in
+    let a : tie.At-loop-left invariant-loop decreases-loop = k.before.before.before.before.before.before.before.before.before.before in
+    not-rising a.loop-left.invariant k.if-left-gt1.true
     (failed
-    (neighbours a.before.args.cells.now a.loop.at positions_layout.width k.before.before.before.before.key-below-arg.given k.before.before.before.key-below-arg2.given k.before.before.key-below-arg3.given k.before.key-below-arg4.given k.key_below.ensures)
-    c.if3.true)
+    (neighbours a.args.cells.now a.loop-left.at positions_layout.width k.key_below-arg-1.given k.key_below-arg-then-left-gt1-1.given k.key_below-arg-then-left-gt1-2-1.given k.key_below-arg-then-left-gt1-3-1.given k.key_below.ensures)
+    c.if-not-key_below.true-raw)
 
-loop-again : tie.Need-loop-preserved invariant-loop decreases-loop
+loop-again : tie.Need-loop-left-preserved invariant-loop decreases-loop
 loop-again c =
-    let i : tie.In-loop invariant-loop decreases-loop = c.before.before.before.before in
-    let a : tie.At-loop invariant-loop decreases-loop = i.before in
-    let sound : sound_position (position_at a.before.args.cells.now a.loop.at) ≡ true = passed (row-answer c.before.before) c.before.if1.false in
-    ⊎_elim
-    (λ w.
-    row-passes a.loop.invariant i.loop-test.true sound
-    (passed (neighbours a.before.args.cells.now a.loop.at positions_layout.width w.1.given w.2.given w.3.given w.4.given w.5.ensures) w.6.left))
-    (λ w. last-passes a.loop.invariant i.loop-test.true sound w.left)
-    c.if2.branch
+    let i : tie.In-loop-left invariant-loop decreases-loop = c.before.before.before.before in
+    let a : tie.At-loop-left invariant-loop decreases-loop = i.before in
+    let sound : sound_position (position_at a.args.cells.now a.loop-left.at) ≡ true = passed (row-answer c.before.before) c.if-not-sound_position.false-raw in
+    elim c.if-left-gt1.branch [
+      then-left-gt1+else-not-key_below w ↦
+      row-passes a.loop-left.invariant i.loop-left-test.true sound
+      (passed (neighbours a.args.cells.now a.loop-left.at positions_layout.width w.key_below-arg-1.given w.key_below-arg-then-left-gt1-1.given w.key_below-arg-then-left-gt1-2-1.given w.key_below-arg-then-left-gt1-3-1.given w.key_below.ensures) w.if-not-key_below.false-raw)
+    | else-left-gt1 w ↦ last-passes a.loop-left.invariant i.loop-left-test.true sound w.if-left-gt1.false ]
 
-pub position-rows-sound-spec : {M : Type 1} → statement M
-position-rows-sound-spec =
+pub position_rows_sound_spec : {M : Type 1} → statement M
+position_rows_sound_spec =
     tie.close
     (tie.spec
     invariant-loop
@@ -72,4 +72,4 @@ position-rows-sound-spec =
     (λ c. search rules)
     (λ c. search rules)
     loop-again
-    (λ c. none_left c.before.loop.invariant c.loop-test.false))
+    (λ c. none_left c.loop-left.invariant c.loop-left-test.false))

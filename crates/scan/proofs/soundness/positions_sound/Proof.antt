@@ -11,24 +11,24 @@ use Rattle.scan.proofs.TableScan.{count-passed, unsound-count, count-there, read
 use Rattle.scan.proofs.soundness.positions_sound.Statement.{statement}
 use Rattle.scan.proofs.soundness.positions_sound.Tie as tie
 
-sound : (c : tie.Else1) → count_is_sound positions_layout c.before.before.args.cells.now ≡ true
-sound c = count-passed positions_layout c.before.before.args.cells.now c.before.count-sound.ensures c.if1.false
+sound : (c : tie.Else-not-count_sound) → count_is_sound positions_layout c.args.cells.now ≡ true
+sound c = count-passed positions_layout c.args.cells.now c.count_sound.ensures c.if-not-count_sound.false-raw
 
-returns : tie.Need-returns
+returns : tie.Need-returns-then-not-count_sound
 unfolding sound_positions
-returns c = unsound-count positions_layout position_key sound_position c.before.before.args.cells.now c.before.count-sound.ensures c.if1.true
+returns c = unsound-count positions_layout position_key sound_position c.args.cells.now c.count_sound.ensures c.if-not-count_sound.true-raw
 
-returns-2 : tie.Need-returns-2
+returns-2 : tie.Need-returns
 unfolding sound_positions
-returns-2 c = rows-decide positions_layout position_key sound_position c.before.before.before.before.args.cells.now (sound c.before.before) c.before.count.given c.position-rows-sound.ensures
+returns-2 c = rows-decide positions_layout position_key sound_position c.args.cells.now (sound c.before.before) c.count-1.given c.position_rows_sound.ensures
 
-pub positions-sound-spec : {M : Type 1} → statement M
-positions-sound-spec =
+pub positions_sound_spec : {M : Type 1} → statement M
+positions_sound_spec =
     tie.close
     (tie.spec
     (λ c κs. search rules)
     returns
     (λ c. count-there positions_layout positions-lawful _ (sound c))
-    (λ c. read-count-casts positions_layout positions-lawful _ (sound c.before) c.count.given)
-    (λ c κs. counted-rows-within positions_layout positions-lawful _ (sound c.before) c.count.given)
+    (λ c. read-count-casts positions_layout positions-lawful _ (sound c.before) c.count-1.given)
+    (λ c κs. counted-rows-within positions_layout positions-lawful _ (sound c.before) c.count-1.given)
     returns-2)

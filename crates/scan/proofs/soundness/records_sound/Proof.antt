@@ -24,31 +24,31 @@ use Rattle.scan.proofs.soundness.records_sound.Tie as tie
 abbrev cells : tie.Start → List ℤ
 cells s = s.args.cells.now
 
-sound : (c : tie.Else1) → count_is_sound records_layout (cells c.before.before) ≡ true
-sound c = count-passed records_layout (cells c.before.before) c.before.count-sound.ensures c.if1.false
+sound : (c : tie.Else-not-count_sound) → count_is_sound records_layout (cells c.before.before) ≡ true
+sound c = count-passed records_layout (cells c.before.before) c.count_sound.ensures c.if-not-count_sound.false-raw
 
 -- there is a cell 1
-day-there : (c : tie.Else1) → 2 ≤ length (cells c.before.before)
+day-there : (c : tie.Else-not-count_sound) → 2 ≤ length (cells c.before.before)
 day-there c = sound-header records_layout records-lawful (cells c.before.before) (sound c)
 
-day-answer : (c : tie.After-in-range) → c.in-range.result ≡ in_range (pos 0) (pos last_day) (current_day (cells c.before.before.before.before))
-day-answer c = simp (read_back (current_day (cells c.before.before.before.before)) c.before.today.given) at c.in-range.ensures
+day-answer : (c : tie.After-in_range) → c.in_range.result ≡ in_range (pos 0) (pos last_day) (current_day (cells c.before.before.before.before))
+day-answer c = simp (read_back (current_day (cells c.before.before.before.before)) c.today-1.given) at c.in_range.ensures
 
-returns : tie.Need-returns
-returns c = unsound-rows (cells c.before.before) (unsound-count records_layout record_key sound_record (cells c.before.before) c.before.count-sound.ensures c.if1.true)
+returns : tie.Need-returns-then-not-count_sound
+returns c = unsound-rows (cells c.before.before) (unsound-count records_layout record_key sound_record (cells c.before.before) c.count_sound.ensures c.if-not-count_sound.true-raw)
 
-returns-2 : tie.Need-returns-2
-returns-2 c = day-out-of-range (cells c.before.before.before.before.before) (failed (day-answer c.before) c.if2.true)
+returns-2 : tie.Need-returns-then-not-in_range
+returns-2 c = day-out-of-range (cells c.before.before.before.before.before) (failed (day-answer c.before) c.if-not-in_range.true-raw)
 
-returns-3 : tie.Need-returns-3
+returns-3 : tie.Need-returns
 returns-3 c =
-    let e : tie.Else2 = c.before.before in
+    let e : tie.Else-not-in_range = c.before.before in
     let xs : List ℤ = cells e.before.before.before.before.before in
-    rows-decide-days xs (sound e.before.before.before) (passed (day-answer e.before) e.if2.false) c.before.count.given
-    (rw (read_back (current_day xs) e.before.before.today.given) at c.record-rows-sound.ensures)
+    rows-decide-days xs (sound e.before.before.before) (passed (day-answer e.before) e.if-not-in_range.false-raw) c.count-1.given
+    (rw (read_back (current_day xs) e.today-1.given) at c.record_rows_sound.ensures)
 
-pub records-sound-spec : {M : Type 1} → statement M
-records-sound-spec =
+pub records_sound_spec : {M : Type 1} → statement M
+records_sound_spec =
     tie.close
     (tie.spec
     (λ c κs. search rules)
@@ -57,6 +57,6 @@ records-sound-spec =
     (λ c κs. search rules)
     returns-2
     (λ c. count-there records_layout records-lawful _ (sound c.before.before.before))
-    (λ c. read-count-casts records_layout records-lawful _ (sound c.before.before.before.before) c.count.given)
-    (λ c κs. counted-rows-within records_layout records-lawful _ (sound c.before.before.before.before) c.count.given)
+    (λ c. read-count-casts records_layout records-lawful _ (sound c.before.before.before.before) c.count-1.given)
+    (λ c κs. counted-rows-within records_layout records-lawful _ (sound c.before.before.before.before) c.count-1.given)
     returns-3)

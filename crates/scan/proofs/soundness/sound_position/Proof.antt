@@ -34,32 +34,32 @@ all-remain : (p : Position) → Remaining (sound_position p) (tests p)
 unfolding sound_position magnitude_at_most
 all-remain p = record { is = refl }
 
-abbrev asked1 : (c : tie.After-in-range) → Answered 0 c.in-range.result
-asked1 c = record { row = c.before.before.args.p; remain = all-remain _; answer = told (in_range _ _) _ c.before.struct_told.given.1.1.0.1 c.in-range.ensures }
+abbrev asked1 : (c : tie.After-in_range) → Answered 0 c.in_range.result
+asked1 c = record { row = c.args.p; remain = all-remain _; answer = told (in_range _ _) _ c.struct_told-1.given.1.1.0.1 c.in_range.ensures }
 
-abbrev asked2 : (c : tie.After-in-range2) → Answered 1 c.in-range2.result
-asked2 c = asked-next (asked1 c.before.before.before) c.before.before.if1.false (told (in_range _ _) _ c.before.struct-told2.given.1.1.1.0.1 c.in-range2.ensures)
+abbrev asked2 : (c : tie.After-in_range-2) → Answered 1 c.in_range-2.result
+asked2 c = asked-next (asked1 c.before.before.before) c.if-not-in_range.false-raw (told (in_range _ _) _ c.struct_told-2-1.given.1.1.1.0.1 c.in_range-2.ensures)
 
-abbrev asked3 : (c : tie.After-in-range3) → Answered 2 c.in-range3.result
-asked3 c = asked-next (asked2 c.before.before.before) c.before.before.if2.false (told (in_range _ _) _ c.before.struct-told3.given.1.1.1.1.0.1 c.in-range3.ensures)
+abbrev asked3 : (c : tie.After-in_range-3) → Answered 2 c.in_range-3.result
+asked3 c = asked-next (asked2 c.before.before.before) c.if-not-in_range-2.false-raw (told (in_range _ _) _ c.struct_told-3-1.given.1.1.1.1.0.1 c.in_range-3.ensures)
 
-abbrev asked4 : (c : tie.After-valid-total) → Answered 3 c.valid-total.result
-asked4 c = asked-next (asked3 c.before.before.before) c.before.before.if3.false (told valid_total _ c.before.struct-told4.given.1.1.1.1.1.0.1 c.valid-total.ensures)
+abbrev asked4 : (c : tie.After-valid_total) → Answered 3 c.valid_total.result
+asked4 c = asked-next (asked3 c.before.before.before) c.if-not-in_range-3.false-raw (told valid_total _ c.struct_told-4-1.given.1.1.1.1.1.0.1 c.valid_total.ensures)
 
-abbrev asked5 : (c : tie.After-valid-total2) → Answered 4 c.valid-total2.result
-asked5 c = asked-next (asked4 c.before.before.before) c.before.before.if4.false (told valid_total _ c.before.struct-told5.given.1.1.1.1.1.1.0.1 c.valid-total2.ensures)
+abbrev asked5 : (c : tie.After-valid_total-2) → Answered 4 c.valid_total-2.result
+asked5 c = asked-next (asked4 c.before.before.before) c.if-not-valid_total.false-raw (told valid_total _ c.struct_told-5-1.given.1.1.1.1.1.1.0.1 c.valid_total-2.ensures)
 
-pub sound-position-spec : {M : Type 1} → statement M
-sound-position-spec =
+pub sound_position_spec : {M : Type 1} → statement M
+sound_position_spec =
     tie.close
     (tie.spec
     (λ c κs. search rules)
-    (λ c. asked-fails (asked1 c.before) c.if1.true)
+    (λ c. asked-fails (asked1 c.before) c.if-not-in_range.true-raw)
     (λ c κs. search rules)
-    (λ c. asked-fails (asked2 c.before) c.if2.true)
+    (λ c. asked-fails (asked2 c.before) c.if-not-in_range-2.true-raw)
     (λ c κs. search rules)
-    (λ c. asked-fails (asked3 c.before) c.if3.true)
+    (λ c. asked-fails (asked3 c.before) c.if-not-in_range-3.true-raw)
     (λ c κs. search rules)
-    (λ c. asked-fails (asked4 c.before) c.if4.true)
+    (λ c. asked-fails (asked4 c.before) c.if-not-valid_total.true-raw)
     (λ c κs. search rules)
     (λ c. ends (asked5 c).remain (asked5 c).answer))

@@ -36,52 +36,52 @@ all-remain : (r : ProcessRow) → Remaining (sound_process r) (tests r)
 unfolding sound_process
 all-remain r = record { is = refl }
 
-abbrev asked1 : (c : tie.After-valid-id) → Answered 0 c.valid-id.result
-asked1 c = record { row = c.before.before.args.r; remain = all-remain _; answer = told valid_id _ c.before.struct_told.given.0.1 c.valid-id.ensures }
+abbrev asked1 : (c : tie.After-valid_id) → Answered 0 c.valid_id.result
+asked1 c = record { row = c.args.r; remain = all-remain _; answer = told valid_id _ c.struct_told-1.given.0.1 c.valid_id.ensures }
 
-abbrev asked2 : (c : tie.After-valid-id2) → Answered 1 c.valid-id2.result
-asked2 c = asked-next (asked1 c.before.before.before) c.before.before.if1.false (told valid_id _ c.before.struct-told2.given.1.0.1 c.valid-id2.ensures)
+abbrev asked2 : (c : tie.After-valid_id-2) → Answered 1 c.valid_id-2.result
+asked2 c = asked-next (asked1 c.before.before.before) c.if-not-valid_id.false-raw (told valid_id _ c.struct_told-2-1.given.1.0.1 c.valid_id-2.ensures)
 
-abbrev asked3 : (c : tie.After-valid-suffix) → Answered 2 c.valid-suffix.result
-asked3 c = asked-next (asked2 c.before.before.before) c.before.before.if2.false (told valid_suffix _ c.before.struct-told3.given.1.1.0.1 c.valid-suffix.ensures)
+abbrev asked3 : (c : tie.After-valid_suffix) → Answered 2 c.valid_suffix.result
+asked3 c = asked-next (asked2 c.before.before.before) c.if-not-valid_id-2.false-raw (told valid_suffix _ c.struct_told-3-1.given.1.1.0.1 c.valid_suffix.ensures)
 
-abbrev asked4 : (c : tie.After-valid-account) → Answered 3 c.valid-account.result
-asked4 c = asked-next (asked3 c.before.before.before) c.before.before.if3.false (told valid_account _ c.before.struct-told4.given.1.1.1.0.1 c.valid-account.ensures)
+abbrev asked4 : (c : tie.After-valid_account) → Answered 3 c.valid_account.result
+asked4 c = asked-next (asked3 c.before.before.before) c.if-not-valid_suffix.false-raw (told valid_account _ c.struct_told-4-1.given.1.1.1.0.1 c.valid_account.ensures)
 
-abbrev asked5 : (c : tie.After-valid-account2) → Answered 4 c.valid-account2.result
-asked5 c = asked-next (asked4 c.before.before.before) c.before.before.if4.false (told valid_account _ c.before.struct-told5.given.1.1.1.1.0.1 c.valid-account2.ensures)
+abbrev asked5 : (c : tie.After-valid_account-2) → Answered 4 c.valid_account-2.result
+asked5 c = asked-next (asked4 c.before.before.before) c.if-not-valid_account.false-raw (told valid_account _ c.struct_told-5-1.given.1.1.1.1.0.1 c.valid_account-2.ensures)
 
-abbrev asked6 : (c : tie.After-valid-series) → Answered 5 c.valid-series.result
-asked6 c = asked-next (asked5 c.before.before.before) c.before.before.if5.false (told valid_series _ c.before.struct-told6.given.1.1.1.1.1.0.1 c.valid-series.ensures)
+abbrev asked6 : (c : tie.After-valid_series) → Answered 5 c.valid_series.result
+asked6 c = asked-next (asked5 c.before.before.before) c.if-not-valid_account-2.false-raw (told valid_series _ c.struct_told-6-1.given.1.1.1.1.1.0.1 c.valid_series.ensures)
 
-abbrev asked7 : (c : tie.After-valid-approval) → Answered 6 c.valid-approval.result
-asked7 c = asked-next (asked6 c.before.before.before) c.before.before.if6.false (told valid_approval _ c.before.struct-told7.given.1.1.1.1.1.1.0.1 c.valid-approval.ensures)
+abbrev asked7 : (c : tie.After-valid_approval) → Answered 6 c.valid_approval.result
+asked7 c = asked-next (asked6 c.before.before.before) c.if-not-valid_series.false-raw (told valid_approval _ c.struct_told-7-1.given.1.1.1.1.1.1.0.1 c.valid_approval.ensures)
 
-abbrev asked8 : (c : tie.After-valid-approval2) → Answered 7 c.valid-approval2.result
-asked8 c = asked-next (asked7 c.before.before.before) c.before.before.if7.false (told valid_approval _ c.before.struct-told8.given.1.1.1.1.1.1.1.0.1 c.valid-approval2.ensures)
+abbrev asked8 : (c : tie.After-valid_approval-2) → Answered 7 c.valid_approval-2.result
+asked8 c = asked-next (asked7 c.before.before.before) c.if-not-valid_approval.false-raw (told valid_approval _ c.struct_told-8-1.given.1.1.1.1.1.1.1.0.1 c.valid_approval-2.ensures)
 
-abbrev asked9 : (c : tie.After-valid-stage) → Answered 8 c.valid-stage.result
-asked9 c = asked-next (asked8 c.before.before.before) c.before.before.if8.false (told valid_stage _ c.before.struct-told9.given.1.1.1.1.1.1.1.1.0.1 c.valid-stage.ensures)
+abbrev asked9 : (c : tie.After-valid_stage) → Answered 8 c.valid_stage.result
+asked9 c = asked-next (asked8 c.before.before.before) c.if-not-valid_approval-2.false-raw (told valid_stage _ c.struct_told-9-1.given.1.1.1.1.1.1.1.1.0.1 c.valid_stage.ensures)
 
-pub sound-process-spec : {M : Type 1} → statement M
-sound-process-spec =
+pub sound_process_spec : {M : Type 1} → statement M
+sound_process_spec =
     tie.close
     (tie.spec
     (λ c κs. search rules)
-    (λ c. asked-fails (asked1 c.before) c.if1.true)
+    (λ c. asked-fails (asked1 c.before) c.if-not-valid_id.true-raw)
     (λ c κs. search rules)
-    (λ c. asked-fails (asked2 c.before) c.if2.true)
+    (λ c. asked-fails (asked2 c.before) c.if-not-valid_id-2.true-raw)
     (λ c κs. search rules)
-    (λ c. asked-fails (asked3 c.before) c.if3.true)
+    (λ c. asked-fails (asked3 c.before) c.if-not-valid_suffix.true-raw)
     (λ c κs. search rules)
-    (λ c. asked-fails (asked4 c.before) c.if4.true)
+    (λ c. asked-fails (asked4 c.before) c.if-not-valid_account.true-raw)
     (λ c κs. search rules)
-    (λ c. asked-fails (asked5 c.before) c.if5.true)
+    (λ c. asked-fails (asked5 c.before) c.if-not-valid_account-2.true-raw)
     (λ c κs. search rules)
-    (λ c. asked-fails (asked6 c.before) c.if6.true)
+    (λ c. asked-fails (asked6 c.before) c.if-not-valid_series.true-raw)
     (λ c κs. search rules)
-    (λ c. asked-fails (asked7 c.before) c.if7.true)
+    (λ c. asked-fails (asked7 c.before) c.if-not-valid_approval.true-raw)
     (λ c κs. search rules)
-    (λ c. asked-fails (asked8 c.before) c.if8.true)
+    (λ c. asked-fails (asked8 c.before) c.if-not-valid_approval-2.true-raw)
     (λ c κs. search rules)
     (λ c. ends (asked9 c).remain (asked9 c).answer))

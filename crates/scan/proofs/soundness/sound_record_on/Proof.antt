@@ -10,19 +10,19 @@ use Rattle.scan.proofs.ReadBack.{read_back}
 use Rattle.scan.proofs.soundness.sound_record_on.Statement.{statement}
 use Rattle.scan.proofs.soundness.sound_record_on.Tie as tie
 
-answer : (c : tie.After-in-range) → c.in-range.result ≡ day_within c.before.before.args.today c.before.before.args.r
+answer : (c : tie.After-in_range) → c.in_range.result ≡ day_within c.args.today c.args.r
 unfolding day_within
 answer c =
     let s : tie.Start = c.before.before in
-    simp (to_z-of_z s.ranges.today, read_back s.args.r.day c.before.struct_told.given.1.1.1.1.1.1.1.1.1.1.1.1.1.0.1) at c.in-range.ensures
+    simp (to_z-of_z s.ranges.today, read_back s.args.r.day c.struct_told-1.given.1.1.1.1.1.1.1.1.1.1.1.1.1.0.1) at c.in_range.ensures
 
-returns : tie.Need-returns
+returns : tie.Need-returns-then-not-in_range
 unfolding sound_record_on
-returns c = rw (failed (answer c.before) c.if1.true)
+returns c = rw (failed (answer c.before) c.if-not-in_range.true-raw)
 
-returns-2 : tie.Need-returns-2
+returns-2 : tie.Need-returns
 unfolding sound_record_on
-returns-2 c = rw (passed (answer c.before.before) c.before.if1.false) c.sound-record.ensures
+returns-2 c = rw (passed (answer c.before.before) c.if-not-in_range.false-raw) c.sound_record.ensures
 
-pub sound-record-on-spec : {M : Type 1} → statement M
-sound-record-on-spec = tie.close (tie.spec (λ c κs. search rules) returns (λ c κs. search rules) returns-2)
+pub sound_record_on_spec : {M : Type 1} → statement M
+sound_record_on_spec = tie.close (tie.spec (λ c κs. search rules) returns (λ c κs. search rules) returns-2)
