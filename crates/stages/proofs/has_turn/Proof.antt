@@ -12,32 +12,32 @@ use Rattle.stages.proofs.has_turn.Tie as tie
 abbrev turn : Process → Step → Bool
 turn p step = has_turn step (row_of_process p)
 
-returns : tie.Need-returns
+returns : tie.Need-returns-in-Open
 unfolding has_turn
-returns c = sym (ap (turn c.before.before.args.p) c.enum_told.given.1)
+returns c = sym (ap (turn c.args.p) c.in-Open.is)
 
-returns-2 : tie.Need-returns-2
+returns-2 : tie.Need-returns-in-Claim
 unfolding has_turn
-returns-2 c = c.is-pending.ensures ∙ sym (ap (turn c.before.before.before.args.p) c.before.enum-told2.given.1)
+returns-2 c = c.is_pending.ensures ∙ sym (ap (turn c.args.p) c.in-Claim.is)
 
-returns-3 : tie.Need-returns-3
+returns-3 : tie.Need-returns-in-Cancel
 unfolding has_turn
-returns-3 c = c.is-pending2.ensures ∙ sym (ap (turn c.before.before.before.args.p) c.before.enum-told3.given.1)
+returns-3 c = c.is_pending-in-Cancel.ensures ∙ sym (ap (turn c.args.p) c.in-Cancel.is)
 
-returns-4 : tie.Need-returns-4
+returns-4 : tie.Need-returns-in-Refuse
 unfolding has_turn
-returns-4 c = c.is-pending3.ensures ∙ sym (ap (turn c.before.before.before.args.p) c.before.enum-told4.given.1)
+returns-4 c = c.is_pending-in-Refuse.ensures ∙ sym (ap (turn c.args.p) c.in-Refuse.is)
 
-returns-5 : tie.Need-returns-5
+returns-5 : tie.Need-returns-in-ApproveGiver
 unfolding has_turn
-returns-5 c = c.giver-may-approve.ensures ∙ sym (ap (turn c.before.before.before.args.p) c.before.enum-told5.given.1)
+returns-5 c = c.giver_may_approve.ensures ∙ sym (ap (turn c.args.p) c.in-ApproveGiver.is)
 
-returns-6 : tie.Need-returns-6
+returns-6 : tie.Need-returns-in-ApproveTaker
 unfolding has_turn
-returns-6 c = c.taker-may-approve.ensures ∙ sym (ap (turn c.before.before.before.args.p) c.before.enum-told6.given.1)
+returns-6 c = c.taker_may_approve.ensures ∙ sym (ap (turn c.args.p) c.in-ApproveTaker.is)
 
-pub has-turn-spec : {M : Type 1} → statement M
-has-turn-spec =
+pub has_turn_spec : {M : Type 1} → statement M
+has_turn_spec =
     tie.close
     (tie.spec
     (λ c. search rules)

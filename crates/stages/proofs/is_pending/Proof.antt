@@ -12,28 +12,28 @@ use Rattle.stages.proofs.is_pending.Tie as tie
 abbrev answer : Stage → Bool
 answer s = eq_z (stage_number s) pending
 
-returns : tie.Need-returns
+returns : tie.Need-returns-in-Pending
 unfolding is_at stage_number eq_z
-returns c = sym (ap answer c.enum_told.given.1)
+returns c = sym (ap answer c.in-Pending.is)
 
-returns-2 : tie.Need-returns-2
+returns-2 : tie.Need-returns-in-Claimed
 unfolding is_at stage_number eq_z
-returns-2 c = sym (ap answer c.enum-told2.given.1)
+returns-2 c = sym (ap answer c.in-Claimed.is)
 
-returns-3 : tie.Need-returns-3
+returns-3 : tie.Need-returns-in-Refused
 unfolding is_at stage_number eq_z
-returns-3 c = sym (ap answer c.enum-told3.given.1)
+returns-3 c = sym (ap answer c.in-Refused.is)
 
-returns-4 : tie.Need-returns-4
+returns-4 : tie.Need-returns-in-Cancelled
 unfolding is_at stage_number eq_z
-returns-4 c = sym (ap answer c.enum-told4.given.1)
+returns-4 c = sym (ap answer c.in-Cancelled.is)
 
-returns-5 : tie.Need-returns-5
+returns-5 : tie.Need-returns-in-Done
 unfolding is_at stage_number eq_z
-returns-5 c = sym (ap answer c.enum-told5.given.1)
+returns-5 c = sym (ap answer c.in-Done.is)
 
-pub is-pending-spec : {M : Type 1} → statement M
-is-pending-spec =
+pub is_pending_spec : {M : Type 1} → statement M
+is_pending_spec =
     tie.close
     (tie.spec
     (λ c. search rules)

@@ -15,5 +15,5 @@ returns s = simp (
   to_z-of_z s.ranges.series,
 )
 
-pub opened-spec : {M : Type 1} → statement M
-opened-spec = tie.close (tie.spec returns)
+pub opened_spec : {M : Type 1} → statement M
+opened_spec = tie.close (tie.spec returns)

@@ -25,44 +25,44 @@ module _ (s : tie.Start) where
   new = encode record_cells (new_rows s.args.inverse s.args.first s.args.quantities.now)
 
 -- The place and the cells of all rows, by the count.
-module _ (c : tie.After-count) where
+module _ (c : tie.After-count-n) where
   abbrev s : tie.Start
-  s = c.before.before
+  s = c.before
 
   abbrev n : ℕ
-  n = c.count.result
+  n = c.count-n.result
 
   fit : (s.args.place ≤ n) × (start_of records_layout (n + added s) ≤ length s.args.cells.now) × (n + added s ≤ 4096)
   fit =
-      subst (λ (m : ℕ). (s.args.place ≤ m) × (start_of records_layout (m + added s) ≤ length s.args.cells.now) × (m + added s ≤ 4096)) (sym c.count.ensures)
-      (news-fit s.args.cells.now s.args.place s.args.inverse s.args.first s.args.quantities.now s.pre)
+      subst (λ (m : ℕ). (s.args.place ≤ m) × (start_of records_layout (m + added s) ≤ length s.args.cells.now) × (m + added s ≤ 4096)) (sym c.count-n.ensures)
+      (news-fit s.args.cells.now s.args.place s.args.inverse s.args.first s.args.quantities.now s.requires)
 
   split : n * records_layout.width ≡ s.args.place * records_layout.width + (n - s.args.place) * records_layout.width
   split = rows_split records_layout.width n s.args.place fit.0
 
-shift-in-rows-requires : tie.Need-shift-in-rows-requires
+shift-in-rows-requires : tie.Need-shift_in_rows-requires
 shift-in-rows-requires c κs =
-    let a : tie.After-count = c.before in
+    let a : tie.After-count-n = c.before in
     let range = suffix-range (s a).args.cells.now (s a).args.place (s a).args.inverse (s a).args.first (s a).args.quantities.now (s a).requires in
     (simp (length-take, length-drop) (omega (arith, fit a, split a)), range.0, range.1, range.2)
 
 returns : tie.Need-returns
 returns c =
-    let a : tie.After-count = c.before.before.before in
+    let a : tie.After-count-n = c.before.before.before in
     let s : tie.Start = s a in
     let size : length (new s) ≡ added s * records_layout.width = news-cells s.args.inverse s.args.first s.args.quantities.now in
     let e : n a + length s.args.quantities.now + 1 ≡ n a + added s = omega arith in
-    insertion records_layout.header records_layout.width s.args.cells.now (new s) c.before.shift-in-rows.new.0 (added s) (n a) s.args.place _
+    insertion records_layout.header records_layout.width s.args.cells.now (new s) c.shift_in_rows.new.part (added s) (n a) s.args.place _
     (ap (to_z w64) e ∙ raised-cell (n a) (added s) (fit a).2) (omega arith) (fit a).0 size (fit a).1
-    (rw size c.before.shift-in-rows.ensures)
-    ∙ ap (λ (m : ℕ). inserted records_layout.header records_layout.width (new s) (added s) m s.args.place s.args.cells.now) a.count.ensures
-    ∙ news-inserted s.args.cells.now s.args.place s.args.inverse s.args.first s.args.quantities.now s.pre
+    (rw size c.shift_in_rows.ensures)
+    ∙ ap (λ (m : ℕ). inserted records_layout.header records_layout.width (new s) (added s) m s.args.place s.args.cells.now) a.count-n.ensures
+    ∙ news-inserted s.args.cells.now s.args.place s.args.inverse s.args.first s.args.quantities.now s.requires
 
-pub insert-rows-spec : {M : Type 1} → statement M
-insert-rows-spec =
+pub insert_rows_spec : {M : Type 1} → statement M
+insert_rows_spec =
     tie.close
     (tie.spec
-    (λ c κs. c.before.requires.sound)
+    (λ c κs. c.requires.sound)
     (λ c. omega (arith, fit c))
     (λ c. omega (arith, fit c))
     (λ c. omega (arith, fit c))

@@ -18,20 +18,20 @@ use Rattle.tables.proofs.new_rows.shift_in_rows.Tie as tie
 
 returns : tie.Need-returns
 returns c =
-    let o : tie.After-write-record = c.before.before.before.before in
-    let u : tie.After-move-up = o.before.before.before in
+    let o : tie.After-write_record = c.before.before.before.before in
+    let u : tie.After-move_up = o.before.before.before in
     let s : tie.Start = u.before.before in
     let part : List ℤ = s.args.part.now in
     let new : List ℤ = encode record_cells (new_rows s.args.inverse s.args.first s.args.quantities.now) in
     let size : length new ≡ suc (length s.args.quantities.now) * records_layout.width = news-cells s.args.inverse s.args.first s.args.quantities.now in
     let by : (length s.args.quantities.now + 1) * records_layout.width ≡ length new = omega (arith, size) in
     rows-shifted records_layout records-lawful s.args.inverse (rows_like s.args.first s.args.first.suffix s.args.quantities.now) s.args.used part
-    u.move_up.new.0 o.write-record.new.0 c.before.write-rows.new.0 (omega (arith, size, s.requires.0))
-    (u.move_up.ensures ∙ ap (λ (n : ℕ). raised n s.args.used part) by) o.write-record.ensures c.before.write-rows.ensures
+    u.move_up.new.tail o.write_record.new.part c.write_rows.new.part (omega (arith, size, s.requires.0))
+    (u.move_up.ensures ∙ ap (λ (n : ℕ). raised n s.args.used part) by) o.write_record.ensures c.write_rows.ensures
     ∙ ap (λ (n : ℕ). new ++ (take s.args.used part ++ drop (s.args.used + n) part)) size
 
-pub shift-in-rows-spec : {M : Type 1} → statement M
-shift-in-rows-spec =
+pub shift_in_rows_spec : {M : Type 1} → statement M
+shift_in_rows_spec =
     tie.close
     (tie.spec
     (λ c. search rules)

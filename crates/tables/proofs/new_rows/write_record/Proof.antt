@@ -12,20 +12,20 @@ use Rattle.shifter.specs.Insertion.{replaced}
 use Rattle.tables.proofs.new_rows.write_record.Statement.{statement}
 use Rattle.tables.proofs.new_rows.write_record.Tie as tie
 
-wide : (c : tie.After-record-cells) → length c.record-cells.result ≡ records_layout.width
-wide c = ap length c.record-cells.ensures ∙ records-lawful.put-length c.before.args.r
+wide : (c : tie.After-record_cells-row_cells) → length c.record_cells-row_cells.result ≡ records_layout.width
+wide c = ap length c.record_cells-row_cells.ensures ∙ records-lawful.put-length c.args.r
 
-replace-row-requires : tie.Need-replace-row-requires
+replace-row-requires : tie.Need-replace_row-requires
 replace-row-requires c κs =
-    let r : tie.After-record-cells = c.before.before in
+    let r : tie.After-record_cells-row_cells = c.before.before in
     let s : tie.Start = r.before in
     subst (λ (w : ℕ). 0 + suc s.args.row * w ≤ length s.args.part.now) (sym (wide r)) (omega (arith, s.requires))
 
 returns : tie.Need-returns
 returns c =
-    let r : tie.After-record-cells = c.before.before.before.before in
+    let r : tie.After-record_cells-row_cells = c.before.before.before.before in
     let s : tie.Start = r.before in
-    c.before.replace-row.ensures ∙ ap (λ (cells : List ℤ). replaced 0 cells s.args.row s.args.part.now) r.record-cells.ensures
+    c.replace_row.ensures ∙ ap (λ (cells : List ℤ). replaced 0 cells s.args.row s.args.part.now) r.record_cells-row_cells.ensures
 
-pub write-record-spec : {M : Type 1} → statement M
-write-record-spec = tie.close (tie.spec (λ c κs. search rules) (λ c. search rules) replace-row-requires (λ c. search rules) returns)
+pub write_record_spec : {M : Type 1} → statement M
+write_record_spec = tie.close (tie.spec (λ c κs. search rules) (λ c. search rules) replace-row-requires (λ c. search rules) returns)

@@ -15,15 +15,15 @@ use Rattle.tables.proofs.positions.find_position.Tie as tie
 count-requires : tie.Need-count-requires
 count-requires c κs = search rules
 
-find-row-requires : tie.Need-find-row-requires
+find-row-requires : tie.Need-find_row-requires
 find-row-requires c κs =
-    table-searchable positions_layout position_key positions-first c.before.args.cells.now sound_position (positions-known c.before.args.cells.now c.before.requires) c.count.result c.count.ensures
+    table-searchable positions_layout position_key positions-first c.args.cells.now sound_position (positions-known c.args.cells.now c.requires) c.count.result c.count.ensures
 
 returns : tie.Need-returns
 returns c =
     let s : tie.Start = c.before.before in
-    let answer : c.find-row.result ≡ row_found positions_layout.header positions_layout.width (key_of s.args.account s.args.series) c.before.count.result s.args.cells.now = simp (to_z-of_z s.ranges.account, to_z-of_z s.ranges.series) at c.find-row.ensures in
-    answer ∙ ap (λ (n : ℕ). row_found positions_layout.header positions_layout.width (key_of s.args.account s.args.series) n s.args.cells.now) (c.before.count.ensures ∙ length-rows_of positions_layout s.args.cells.now)
+    let answer : c.find_row.result ≡ row_found positions_layout.header positions_layout.width (key_of s.args.account s.args.series) c.count.result s.args.cells.now = simp (to_z-of_z s.ranges.account, to_z-of_z s.ranges.series) at c.find_row.ensures in
+    answer ∙ ap (λ (n : ℕ). row_found positions_layout.header positions_layout.width (key_of s.args.account s.args.series) n s.args.cells.now) (c.count.ensures ∙ length-rows_of positions_layout s.args.cells.now)
 
-pub find-position-spec : {M : Type 1} → statement M
-find-position-spec = tie.close (tie.spec count-requires find-row-requires returns)
+pub find_position_spec : {M : Type 1} → statement M
+find_position_spec = tie.close (tie.spec count-requires find-row-requires returns)

@@ -17,48 +17,48 @@ use Rattle.tables.proofs.positions.read_position.Statement.{statement}
 use Rattle.tables.proofs.positions.read_position.Tie as tie
 
 -- The row that the lookup found.
-module _ (c : tie.After-found) where
+module _ (c : tie.In-Row) where
   abbrev s : tie.Start
-  s = c.before.before
+  s = c.before
 
-  found : position_found s.args.cells.now s.args.account s.args.series ≡ Row c.found.given.0.0
-  found = sym s.pre.1 ∙ c.found.given.1
+  found : position_found s.args.cells.now s.args.account s.args.series ≡ Row c.in-Row.row
+  found = sym s.requires.1 ∙ c.in-Row.is
 
-  within : start_of positions_layout (suc c.found.given.0.0) ≤ length s.args.cells.now
+  within : start_of positions_layout (suc c.in-Row.row) ≤ length s.args.cells.now
   within =
-      let below : c.found.given.0.0 < length (rows_of positions_layout s.args.cells.now)
-      = (position-found s.args.cells.now s.args.account s.args.series c.found.given.0.0 found).0 in
-      omega (arith, (positions-known s.args.cells.now s.pre.0).rows-within, mul-le-mul_right positions_layout.width below)
+      let below : c.in-Row.row < length (rows_of positions_layout s.args.cells.now)
+      = (position-found s.args.cells.now s.args.account s.args.series c.in-Row.row found).0 in
+      omega (arith, (positions-known s.args.cells.now s.requires.0).rows-within, mul-le-mul_right positions_layout.width below)
 
-enum-known-found : tie.Need-enum-known-found
+enum-known-found : tie.Need-enum_known-found
 enum-known-found c = search rules
 
-mul-position-at : tie.Need-overflow-mul-position-at
-mul-position-at c = omega (arith, within c.before)
+mul-position-at : tie.Need-overflow_mul-row
+mul-position-at c = omega (arith, within c)
 
-add-position-at : tie.Need-overflow-add-position-at
-add-position-at c = omega (arith, within c.before)
+add-position-at : tie.Need-overflow_add-row
+add-position-at c = omega (arith, within c)
 
-position-at-requires : tie.Need-position-at-requires
-position-at-requires c κs = omega (arith, within c.before)
+position-at-requires : tie.Need-position_at-requires
+position-at-requires c κs = omega (arith, within c)
 
-enum_told : tie.Need-enum-told
+enum_told : tie.Need-enum_told-1
 enum_told c = search rules
 
-returns : tie.Need-returns
+returns : tie.Need-returns-in-Row
 returns c =
-    let s : tie.Start = c.before.before.before.before in
-    c.position_at.ensures ∙ sym (position-read s.args.cells.now s.args.account s.args.series c.before.before.found.given.0.0 (found c.before.before))
+    let s : tie.Start = c.before.before in
+    c.position_at.ensures ∙ sym (position-read s.args.cells.now s.args.account s.args.series c.in-Row.row (found c.before))
 
-returns-2 : tie.Need-returns-2
+returns-2 : tie.Need-returns-in-Absent
 unfolding zero_position
 returns-2 c =
-    let s : tie.Start = c.before.before in
+    let s : tie.Start = c.before in
     simp (to_z-of_z s.ranges.account, to_z-of_z s.ranges.series)
-    (sym (position-zeros s.args.cells.now s.args.account s.args.series _ (sym s.requires.1 ∙ c.enum_told.given.1)))
+    (sym (position-zeros s.args.cells.now s.args.account s.args.series _ (sym s.requires.1 ∙ c.in-Absent.is)))
 
-pub read-position-spec : {M : Type 1} → statement M
-read-position-spec =
+pub read_position_spec : {M : Type 1} → statement M
+read_position_spec =
     tie.close
     (tie.spec
     enum-known-found

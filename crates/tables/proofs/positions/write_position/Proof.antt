@@ -23,81 +23,81 @@ use Rattle.tables.proofs.positions.write_position.Tie as tie
 table : (s : tie.Start) → SoundPositions s.args.cells.now
 table s = positions-known s.args.cells.now s.requires.0
 
-abbrev start : tie.After-position-cells → tie.Start
-start c = c.before.before.before
+abbrev start : tie.After-position_cells-row → tie.Start
+start c = c.before.before
 
 -- The row with the key.
-module _ (c : tie.After-found) where
-  abbrev f : tie.After-position-cells
-  f = c.before.before
+module _ (c : tie.In-Row) where
+  abbrev f : tie.After-position_cells-row
+  f = c.before
 
   abbrev row : ℕ
-  row = c.found.given.0.0
+  row = c.in-Row.at
 
   there : Row row ≡ found_in positions_layout (position_key (start f).args.p) (start f).args.cells.now
-  there = sym c.found.given.1 ∙ (start f).pre.3
+  there = sym c.in-Row.is ∙ (start f).requires.3
 
 -- No row with the key, the place where it belongs, and room for it.
-module _ (c : tie.After-found2) where
-  abbrev g : tie.After-position-cells
-  g = c.before.before
+module _ (c : tie.In-Absent) where
+  abbrev g : tie.After-position_cells-row
+  g = c.before
 
   abbrev place : ℕ
-  place = c.found2.given.0.0
+  place = c.in-Absent.place
 
   lacking : (find position_key (position_key (start g).args.p) (rows_of positions_layout (start g).args.cells.now) ≡ none)
       × (place ≡ place_in positions_layout (position_key (start g).args.p) (start g).args.cells.now)
-  lacking = table-absent positions_layout position_key positions-first (start g).args.cells.now (position_key (start g).args.p) place (sym (start g).pre.3 ∙ c.found2.given.1)
+  lacking = table-absent positions_layout position_key positions-first (start g).args.cells.now (position_key (start g).args.p) place (sym (start g).requires.3 ∙ c.in-Absent.is)
 
   room : length (rows_of positions_layout (start g).args.cells.now) < room_of positions_layout (start g).args.cells.now
-  room = room-for-one position_key (start g).args.p (rows_of positions_layout (start g).args.cells.now) lacking.0 (start g).pre.2
+  room = room-for-one position_key (start g).args.p (rows_of positions_layout (start g).args.cells.now) lacking.0 (start g).requires.2
 
-replace-row-requires : tie.Need-replace-row-requires
+replace-row-requires : tie.Need-replace_row-requires
 replace-row-requires c κs =
-    let a : tie.After-found = c.before.before.before in
-    let f : tie.After-position-cells = f a in
+    let a : tie.In-Row = c.before.before in
+    let f : tie.After-position_cells-row = f a in
     omega (
       arith,
       replacement-fits positions_layout positions-lawful position_key positions-first sound_position (start f).args.cells.now (table (start f))
-          f.before.count.result f.before.count.ensures (position_key (start f).args.p)
-          f.position-cells.result (start f).args.p f.position-cells.ensures
+          f.count-n.result f.count-n.ensures (position_key (start f).args.p)
+          f.position_cells-row.result (start f).args.p f.position_cells-row.ensures
           (row a) (there a),
     )
 
-insert-row-requires : tie.Need-insert-row-requires
+insert-row-requires : tie.Need-insert_row-requires
 insert-row-requires c κs =
-    let a : tie.After-found2 = c.before.before.before in
-    let f : tie.After-position-cells = g a in
+    let a : tie.In-Absent = c.before.before in
+    let f : tie.After-position_cells-row = g a in
     omega (
       arith,
       insertion-fits positions_layout positions-lawful position_key positions-first sound_position (start f).args.cells.now (table (start f))
-          f.before.count.result f.before.count.ensures (position_key (start f).args.p)
-          f.position-cells.result (start f).args.p f.position-cells.ensures
+          f.count-n.result f.count-n.ensures (position_key (start f).args.p)
+          f.position_cells-row.result (start f).args.p f.position_cells-row.ensures
           (omega arith) (room a) (place a) (lacking a).1,
     )
 
-returns : tie.Need-returns
+returns : tie.Need-returns-in-Row
 unfolding sound_positions
 returns c =
-    let a : tie.After-found = c.before.before.before.before.before in
-    let f : tie.After-position-cells = f a in
+    let a : tie.In-Row = c.before.before.before.before in
+    let f : tie.After-position_cells-row = f a in
     put-replaced positions_layout positions-lawful position_key positions-first sound_position (start f).args.cells.now (table (start f))
-    (start f).args.p (start f).pre.1 f.before.count.result f.before.count.ensures
-    f.position-cells.result f.position-cells.ensures
-    c.before.replace-row.new.0 (row a) (there a) c.before.replace-row.ensures
+    (start f).args.p (start f).requires.1 f.count-n.result f.count-n.ensures
+    f.position_cells-row.result f.position_cells-row.ensures
+    c.replace_row.new.cells (row a) (there a) c.replace_row.ensures
 
-returns-2 : tie.Need-returns-2
+returns-2 : tie.Need-returns-in-Absent
 unfolding sound_positions
 returns-2 c =
-    let a : tie.After-found2 = c.before.before.before.before.before in
-    let f : tie.After-position-cells = g a in
+    let a : tie.In-Absent = c.before.before.before.before in
+    let f : tie.After-position_cells-row = g a in
     put-inserted positions_layout positions-lawful position_key positions-first sound_position (start f).args.cells.now (table (start f))
-    (start f).args.p (start f).pre.1 f.before.count.result f.before.count.ensures
-    f.position-cells.result f.position-cells.ensures
-    c.before.insert-row.new.0 (lacking a).0 (room a) (place a) (lacking a).1 c.before.insert-row.ensures
+    (start f).args.p (start f).requires.1 f.count-n.result f.count-n.ensures
+    f.position_cells-row.result f.position_cells-row.ensures
+    c.insert_row.new.cells (lacking a).0 (room a) (place a) (lacking a).1 c.insert_row.ensures
 
-pub write-position-spec : {M : Type 1} → statement M
-write-position-spec =
+pub write_position_spec : {M : Type 1} → statement M
+write_position_spec =
     tie.close
     (tie.spec
     (λ c κs. search rules)

@@ -20,21 +20,21 @@ module _ (s : tie.Start) where
   table = records-known s.args.cells.now s.requires.0
 
   within : start_of records_layout (suc s.args.row) ≤ length s.args.cells.now
-  within = row-cells s.args.cells.now table s.args.row s.pre.1
+  within = row-cells s.args.cells.now table s.args.row s.requires.1
 
-find-by-distance-requires : tie.Need-find-by-distance-requires
+find-by-distance-requires : tie.Need-find_by_distance-requires
 find-by-distance-requires c κs =
     let s : tie.Start = c.before.before.before in
     (first-searchable records_layout record_key records-first sound_record s.args.cells.now (table s) _ (omega (arith, s.requires.1)), omega arith)
 
 returns : tie.Need-returns
 returns c =
-    let told : tie.After-struct-told = c.before.before.before in
+    let told : tie.After-struct_told-1 = c.before.before.before in
     let s : tie.Start = told.before in
     parent-at s.args.cells.now s.args.r (table s) s.args.row s.requires.1 s.requires.2
-    (find-by-distance-requires c.before c.find-by-distance.lifetimes).0 (omega arith) (omega (arith, s.requires.1))
-    c.find-by-distance.result
-    (simp (read_back s.args.r.id told.struct_told.given.0.1, read_back s.args.r.parent told.struct_told.given.1.1.0.1) at c.find-by-distance.ensures)
+    (find-by-distance-requires c.before c.find_by_distance.lifetimes).0 (omega arith) (omega (arith, s.requires.1))
+    c.find_by_distance.result
+    (simp (read_back s.args.r.id told.struct_told-1.given.0.1, read_back s.args.r.parent told.struct_told-1.given.1.1.0.1) at c.find_by_distance.ensures)
 
-pub find-parent-spec : {M : Type 1} → statement M
-find-parent-spec = tie.close (tie.spec (λ c. omega (arith, within c)) find-by-distance-requires returns)
+pub find_parent_spec : {M : Type 1} → statement M
+find_parent_spec = tie.close (tie.spec (λ c. omega (arith, within c)) find-by-distance-requires returns)

@@ -15,27 +15,27 @@ use Rattle.tables.proofs.records.insert_record.Tie as tie
 table : (s : tie.Start) → SoundRecords s.args.cells.now
 table s = records-known s.args.cells.now s.requires.0
 
-insert-row-requires : tie.Need-insert-row-requires
+insert-row-requires : tie.Need-insert_row-requires
 insert-row-requires c κs =
-    let r : tie.After-record-cells = c.before.before in
-    let n : tie.After-count = r.before in
-    let s : tie.Start = n.before.before in
+    let r : tie.After-record_cells-row = c.before.before in
+    let n : tie.After-count-n = r.before in
+    let s : tie.Start = n.before in
     omega (
       arith,
-      insertion-fits records_layout records-lawful record_key records-first sound_record s.args.cells.now (table s) n.count.result n.count.ensures
-          (record_key s.args.r) r.record-cells.result s.args.r r.record-cells.ensures (omega arith) s.requires.3 s.args.place s.requires.4,
+      insertion-fits records_layout records-lawful record_key records-first sound_record s.args.cells.now (table s) n.count-n.result n.count-n.ensures
+          (record_key s.args.r) r.record_cells-row.result s.args.r r.record_cells-row.ensures (omega arith) s.requires.3 s.args.place s.requires.4,
     )
 
 returns : tie.Need-returns
 unfolding sound_record_rows
 returns c =
-    let r : tie.After-record-cells = c.before.before.before.before in
-    let n : tie.After-count = r.before in
-    let s : tie.Start = n.before.before in
+    let r : tie.After-record_cells-row = c.before.before.before.before in
+    let n : tie.After-count-n = r.before in
+    let s : tie.Start = n.before in
     put-inserted records_layout records-lawful record_key records-first sound_record s.args.cells.now (table s)
-    s.args.r s.requires.1 n.count.result n.count.ensures r.record-cells.result r.record-cells.ensures
-    c.before.insert-row.new.0 s.requires.2 s.requires.3 s.args.place s.requires.4 c.before.insert-row.ensures
+    s.args.r s.requires.1 n.count-n.result n.count-n.ensures r.record_cells-row.result r.record_cells-row.ensures
+    c.insert_row.new.cells s.requires.2 s.requires.3 s.args.place s.requires.4 c.insert_row.ensures
 
-pub insert-record-spec : {M : Type 1} → statement M
-insert-record-spec =
+pub insert_record_spec : {M : Type 1} → statement M
+insert_record_spec =
     tie.close (tie.spec (λ c κs. search rules) (λ c κs. search rules) (λ c. search rules) insert-row-requires (λ c. search rules) returns)

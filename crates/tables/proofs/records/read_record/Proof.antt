@@ -14,17 +14,17 @@ module _ (s : tie.Start) where
   within : start_of records_layout (suc s.args.row) ≤ length s.args.cells.now
   within = row-cells s.args.cells.now (records-known s.args.cells.now s.requires.0) s.args.row s.requires.1
 
-mul-record-at : tie.Need-overflow-mul-record-at
+mul-record-at : tie.Need-overflow_mul-row
 mul-record-at c = omega (arith, within c)
 
-add-record-at : tie.Need-overflow-add-record-at
+add-record-at : tie.Need-overflow_add-row
 add-record-at c = omega (arith, within c)
 
-record-at-requires : tie.Need-record-at-requires
+record-at-requires : tie.Need-record_at-requires
 record-at-requires c κs = omega (arith, within c)
 
 returns : tie.Need-returns
 returns c = search rules
 
-pub read-record-spec : {M : Type 1} → statement M
-read-record-spec = tie.close (tie.spec mul-record-at add-record-at record-at-requires returns)
+pub read_record_spec : {M : Type 1} → statement M
+read_record_spec = tie.close (tie.spec mul-record-at add-record-at record-at-requires returns)

@@ -15,22 +15,22 @@ module _ (s : tie.Start) where
   within : start_of records_layout (suc s.args.row) ≤ length s.args.cells.now
   within = row-cells s.args.cells.now (records-known s.args.cells.now s.requires.0) s.args.row s.requires.1
 
-mul-status : tie.Need-overflow-mul-status
+mul-status : tie.Need-overflow_mul-status
 mul-status c = omega (arith, within c)
 
-add-status : tie.Need-overflow-add-status
+add-status : tie.Need-overflow_add-status
 add-status c = omega (arith, within c)
 
-add-status-2 : tie.Need-overflow-add-status-2
+add-status-2 : tie.Need-overflow_add-status-2
 add-status-2 c = omega (arith, within c)
 
-mul-status-2 : tie.Need-overflow-mul-status-2
+mul-status-2 : tie.Need-offset_bounds-cells-row
 mul-status-2 c = omega (arith, within c)
 
-slice-set-from-status : tie.Need-slice-set-from-status
+slice-set-from-status : tie.Need-bounds-cells-row
 slice-set-from-status c = omega (arith, within c)
 
-same_length : tie.Need-same-length
+same_length : tie.Need-shape_of-cells
 same_length c = search rules
 
 returns : tie.Need-returns
@@ -38,8 +38,8 @@ returns c =
     simp (to_z-of_z c.ranges.status)
     (row-in-status c.args.cells.now (records-known c.args.cells.now c.requires.0) c.args.row c.requires.1 c.args.status c.requires.2)
 
-pub set-status-spec : {M : Type 1} → statement M
-set-status-spec =
+pub set_status_spec : {M : Type 1} → statement M
+set_status_spec =
     tie.close
     (tie.spec
     mul-status

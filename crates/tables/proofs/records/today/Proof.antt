@@ -5,9 +5,9 @@ use Rattle.scan.proofs.ReadBack.{read_back}
 use Rattle.tables.proofs.records.today.Statement.{statement}
 use Rattle.tables.proofs.records.today.Tie as tie
 
-pub today-spec : {M : Type 1} → statement M
-today-spec =
+pub today_spec : {M : Type 1} → statement M
+today_spec =
     tie.close
     (tie.spec
     (λ c. (records-known c.args.cells.now c.requires).header-within)
-    (λ c. read_back (current_day c.before.args.cells.now) c.result.given))
+    (λ c. read_back (current_day c.args.cells.now) c.result-1.given))
