@@ -13,19 +13,19 @@ use Rattle.scan.proofs.TableScan.{count-there, count-casts}
 use Rattle.processes.proofs.count.Statement.{statement}
 use Rattle.processes.proofs.count.Tie as tie
 
-cell : (c : tie.After-result) → to_z w64 (of_z w64 (count_of c.before.args.cells.now)) ≡ count_of c.before.args.cells.now
-cell c = read_back (count_of c.before.args.cells.now) c.result.given
+cell : (c : tie.After-result-1) → to_z w64 (of_z w64 (count_of c.args.cells.now)) ≡ count_of c.args.cells.now
+cell c = read_back (count_of c.args.cells.now) c.result-1.given
 
-shared-slice-copy-out-result : tie.Need-shared-slice-copy-out-result
+shared-slice-copy-out-result : tie.Need-bounds-cells-0
 shared-slice-copy-out-result c = count-there processes_layout processes-lawful c.args.cells.now (processes-known c.args.cells.now c.requires).count-sound
 
-cast-result : tie.Need-overflow-cast-result
+cast-result : tie.Need-overflow_cast-result
 cast-result c =
     simp (cell c)
-    (count-casts processes_layout processes-lawful c.before.args.cells.now (processes-known c.before.args.cells.now c.before.requires).count-sound c.result.given)
+    (count-casts processes_layout processes-lawful c.args.cells.now (processes-known c.args.cells.now c.requires).count-sound c.result-1.given)
 
 returns : tie.Need-returns
-returns c = ap nat_abs (cell c) ∙ sym (length-rows_of processes_layout c.before.args.cells.now)
+returns c = ap nat_abs (cell c) ∙ sym (length-rows_of processes_layout c.args.cells.now)
 
 pub count_spec : {M : Type 1} → statement M
 count_spec = tie.close (tie.spec shared-slice-copy-out-result cast-result returns)

@@ -11,27 +11,27 @@ use Rattle.processes.proofs.ProcessTable.{processes-first, processes-by-key}
 use Rattle.processes.proofs.insert_process.Statement.{statement}
 use Rattle.processes.proofs.insert_process.Tie as tie
 
-insert-row-requires : tie.Need-insert-row-requires
+insert-row-requires : tie.Need-insert_row-requires
 insert-row-requires c κs =
-    let r : tie.After-process-cells = c.before.before in
-    let n : tie.After-count = r.before in
-    let s : tie.Start = n.before.before in
+    let r : tie.After-process_cells-row = c.before.before in
+    let n : tie.After-count-n = r.before in
+    let s : tie.Start = n.before in
     omega (
       arith,
-      insertion-fits processes_layout processes-lawful process_key processes-first sound_process s.args.cells.now (processes-by-key s.args.cells.now s.requires.sound) n.count.result n.count.ensures
-          (process_key (row_of_process s.args.p)) r.process-cells.result (row_of_process s.args.p) r.process-cells.ensures (omega arith) s.requires.room s.args.place s.requires.place_is,
+      insertion-fits processes_layout processes-lawful process_key processes-first sound_process s.args.cells.now (processes-by-key s.args.cells.now s.requires.sound) n.count-n.result n.count-n.ensures
+          (process_key (row_of_process s.args.p)) r.process_cells-row.result (row_of_process s.args.p) r.process_cells-row.ensures (omega arith) s.requires.room s.args.place s.requires.place_is,
     )
 
 returns : tie.Need-returns
 unfolding sound_processes
 returns c =
-    let r : tie.After-process-cells = c.before.before.before.before in
-    let n : tie.After-count = r.before in
-    let s : tie.Start = n.before.before in
+    let r : tie.After-process_cells-row = c.before.before.before.before in
+    let n : tie.After-count-n = r.before in
+    let s : tie.Start = n.before in
     number-inserted processes_layout processes-lawful process_key processes-first sound_process s.args.cells.now (processes-known s.args.cells.now s.requires.sound)
-    (row_of_process s.args.p) s.requires.row-sound r.process-cells.result r.process-cells.ensures c.before.insert-row.new.0
-    s.requires.unused s.requires.room n.count.result n.count.ensures s.args.place s.requires.place_is c.before.insert-row.ensures
+    (row_of_process s.args.p) s.requires.row-sound r.process_cells-row.result r.process_cells-row.ensures c.insert_row.new.cells
+    s.requires.unused s.requires.room n.count-n.result n.count-n.ensures s.args.place s.requires.place_is c.insert_row.ensures
 
-pub insert-process-spec : {M : Type 1} → statement M
-insert-process-spec =
+pub insert_process_spec : {M : Type 1} → statement M
+insert_process_spec =
     tie.close (tie.spec (λ c κs. search rules) (λ c κs. search rules) (λ c. search rules) insert-row-requires (λ c. search rules) returns)

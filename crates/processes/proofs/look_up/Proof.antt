@@ -13,7 +13,7 @@ use Rattle.processes.proofs.ProcessTable.{processes-first, processes-by-key}
 use Rattle.processes.proofs.look_up.Statement.{statement}
 use Rattle.processes.proofs.look_up.Tie as tie
 
-look-up-requires : tie.Need-look-up-requires
+look-up-requires : tie.Need-look_up-requires
 look-up-requires c κs =
     let s : tie.Start = c.before in
     table-searchable processes_layout process_key processes-first s.args.cells.now sound_process (processes-by-key s.args.cells.now s.requires) c.count.result c.count.ensures
@@ -21,8 +21,8 @@ look-up-requires c κs =
 returns : tie.Need-returns
 returns c =
     let s : tie.Start = c.before.before in
-    let answer : c.look_up.result ≡ row_sought processes_layout.header processes_layout.width (key_of s.args.process s.args.id) c.before.count.result s.args.cells.now = simp (to_z-of_z s.ranges.process, to_z-of_z s.ranges.id) at c.look_up.ensures in
-    answer ∙ ap (λ (n : ℕ). row_sought processes_layout.header processes_layout.width (key_of s.args.process s.args.id) n s.args.cells.now) (c.before.count.ensures ∙ length-rows_of processes_layout s.args.cells.now)
+    let answer : c.look_up.result ≡ row_sought processes_layout.header processes_layout.width (key_of s.args.process s.args.id) c.count.result s.args.cells.now = simp (to_z-of_z s.ranges.process, to_z-of_z s.ranges.id) at c.look_up.ensures in
+    answer ∙ ap (λ (n : ℕ). row_sought processes_layout.header processes_layout.width (key_of s.args.process s.args.id) n s.args.cells.now) (c.count.ensures ∙ length-rows_of processes_layout s.args.cells.now)
 
-pub look-up-spec : {M : Type 1} → statement M
-look-up-spec = tie.close (tie.spec (λ c κs. search rules) look-up-requires returns)
+pub look_up_spec : {M : Type 1} → statement M
+look_up_spec = tie.close (tie.spec (λ c κs. search rules) look-up-requires returns)

@@ -6,7 +6,7 @@ use Rattle.processes.proofs.process_cells.Statement.{statement}
 use Rattle.processes.proofs.process_cells.Tie as tie
 
 returns : tie.Need-returns
-returns c = c.process-cells.ensures ∙ ap process_cells c.before.row_of.ensures
+returns c = c.process_cells.ensures ∙ ap process_cells c.row_of.ensures
 
-pub process-cells-spec : {M : Type 1} → statement M
-process-cells-spec = tie.close (tie.spec (λ c κs. search rules) (λ c κs. search rules) returns)
+pub process_cells_spec : {M : Type 1} → statement M
+process_cells_spec = tie.close (tie.spec (λ c κs. search rules) (λ c κs. search rules) returns)

@@ -9,9 +9,9 @@ use Rattle.processes.proofs.process_of.Tie as tie
 
 returns : tie.Need-returns
 returns c =
-    let r : ProcessRow = c.before.before.before.args.r in
-    let known = c.before.before.struct_told.given in
-    let stage : stage_number c.before.stage-of.result ≡ r.stage = c.before.stage-of.ensures ∙ read_back r.stage known.1.1.1.1.1.1.1.1.0.1 in
+    let r : ProcessRow = c.args.r in
+    let known = c.struct_told-1.given in
+    let stage : stage_number c.stage_of-stage.result ≡ r.stage = c.stage_of-stage.ensures ∙ read_back r.stage known.1.1.1.1.1.1.1.1.0.1 in
     simp (
       read_back r.process known.0.1,
       read_back r.id known.1.0.1,
@@ -24,5 +24,5 @@ returns c =
       stage,
     )
 
-pub process-of-spec : {M : Type 1} → statement M
-process-of-spec = tie.close (tie.spec (λ c κs. search rules) returns)
+pub process_of_spec : {M : Type 1} → statement M
+process_of_spec = tie.close (tie.spec (λ c κs. search rules) returns)

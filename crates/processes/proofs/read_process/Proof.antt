@@ -17,15 +17,15 @@ module _ (s : tie.Start) where
   within = process-cells-within s.args.cells.now s.requires.0 s.args.row s.requires.1
 
   stage-valid : valid_stage (row_at processes_layout s.args.cells.now s.args.row).stage ≡ true
-  stage-valid = sound-stage (row_at processes_layout s.args.cells.now s.args.row) (process-row-sound s.args.cells.now s.pre.0 s.args.row s.pre.1)
+  stage-valid = sound-stage (row_at processes_layout s.args.cells.now s.args.row) (process-row-sound s.args.cells.now s.requires.0 s.args.row s.requires.1)
 
-process-of-requires : tie.Need-process-of-requires
-process-of-requires c κs = ap (λ (r : ProcessRow). valid_stage r.stage) c.process-at.ensures ∙ stage-valid c.before
+process-of-requires : tie.Need-process_of-requires
+process-of-requires c κs = ap (λ (r : ProcessRow). valid_stage r.stage) c.process_at.ensures ∙ stage-valid c.before
 
 returns : tie.Need-returns
-returns c = c.process-of.ensures ∙ c.before.process-at.ensures
+returns c = c.process_of.ensures ∙ c.process_at.ensures
 
-pub read-process-spec : {M : Type 1} → statement M
-read-process-spec =
+pub read_process_spec : {M : Type 1} → statement M
+read_process_spec =
     tie.close
     (tie.spec (λ c. omega (arith, within c)) (λ c. omega (arith, within c)) (λ c κs. omega (arith, within c)) process-of-requires returns)

@@ -14,26 +14,26 @@ use Rattle.processes.proofs.ProcessTable.{processes-first, processes-by-key, rep
 use Rattle.processes.proofs.replace_process.Statement.{statement}
 use Rattle.processes.proofs.replace_process.Tie as tie
 
-replace-row-requires : tie.Need-replace-row-requires
+replace-row-requires : tie.Need-replace_row-requires
 replace-row-requires c κs =
-    let r : tie.After-process-cells = c.before.before in
+    let r : tie.After-process_cells-row_cells = c.before.before in
     let s : tie.Start = r.before in
     omega (
       arith,
       replacement-fits processes_layout processes-lawful process_key processes-first sound_process s.args.cells.now (processes-by-key s.args.cells.now s.requires.sound)
           (length (rows_of processes_layout s.args.cells.now)) refl (process_key (row_of_process s.args.p))
-          r.process-cells.result (row_of_process s.args.p) r.process-cells.ensures
+          r.process_cells-row_cells.result (row_of_process s.args.p) r.process_cells-row_cells.ensures
           s.args.row (replaced-there s.args.cells.now s.args.row s.args.p s.requires),
     )
 
 returns : tie.Need-returns
 unfolding sound_processes
 returns c =
-    let r : tie.After-process-cells = c.before.before.before.before in
+    let r : tie.After-process_cells-row_cells = c.before.before.before.before in
     let s : tie.Start = r.before in
     number-replaced processes_layout processes-lawful process_key processes-first sound_process s.args.cells.now (processes-known s.args.cells.now s.requires.sound)
-    (row_of_process s.args.p) s.requires.row-sound r.process-cells.result r.process-cells.ensures c.before.replace-row.new.0
-    s.args.row (replaced-there s.args.cells.now s.args.row s.args.p s.requires) c.before.replace-row.ensures
+    (row_of_process s.args.p) s.requires.row-sound r.process_cells-row_cells.result r.process_cells-row_cells.ensures c.replace_row.new.cells
+    s.args.row (replaced-there s.args.cells.now s.args.row s.args.p s.requires) c.replace_row.ensures
 
-pub replace-process-spec : {M : Type 1} → statement M
-replace-process-spec = tie.close (tie.spec (λ c κs. search rules) (λ c. search rules) replace-row-requires (λ c. search rules) returns)
+pub replace_process_spec : {M : Type 1} → statement M
+replace_process_spec = tie.close (tie.spec (λ c κs. search rules) (λ c. search rules) replace-row-requires (λ c. search rules) returns)

@@ -22,10 +22,10 @@ number-back Done = refl
 
 returns : tie.Need-returns
 returns c =
-    let p : Process = c.before.before.args.p in
-    let known = c.struct_told.given in
-    let stage : to_z w64 (of_z w64 c.before.stage-number.result) ≡ stage_number p.stage
-    = ap (λ (z : ℤ). to_z w64 (of_z w64 z)) c.before.stage-number.ensures ∙ number-back p.stage in
+    let p : Process = c.args.p in
+    let known = c.struct_told-1.given in
+    let stage : to_z w64 (of_z w64 c.stage_number.result) ≡ stage_number p.stage
+    = ap (λ (z : ℤ). to_z w64 (of_z w64 z)) c.stage_number.ensures ∙ number-back p.stage in
     simp (
       read_back p.process known.0.1,
       read_back p.id known.1.0.1,
@@ -38,5 +38,5 @@ returns c =
       stage,
     )
 
-pub row-of-spec : {M : Type 1} → statement M
-row-of-spec = tie.close (tie.spec (λ c κs. search rules) returns)
+pub row_of_spec : {M : Type 1} → statement M
+row_of_spec = tie.close (tie.spec (λ c κs. search rules) returns)

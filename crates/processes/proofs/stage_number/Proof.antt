@@ -5,28 +5,28 @@ use Rattle.rules.specs.ProcessRows.{stage_number}
 use Rattle.processes.proofs.stage_number.Statement.{statement}
 use Rattle.processes.proofs.stage_number.Tie as tie
 
-returns : tie.Need-returns
+returns : tie.Need-returns-in-Pending
 unfolding stage_number
-returns c = sym (ap stage_number c.enum_told.given.1)
+returns c = sym (ap stage_number c.in-Pending.is)
 
-returns-2 : tie.Need-returns-2
+returns-2 : tie.Need-returns-in-Claimed
 unfolding stage_number
-returns-2 c = sym (ap stage_number c.enum-told2.given.1)
+returns-2 c = sym (ap stage_number c.in-Claimed.is)
 
-returns-3 : tie.Need-returns-3
+returns-3 : tie.Need-returns-in-Refused
 unfolding stage_number
-returns-3 c = sym (ap stage_number c.enum-told3.given.1)
+returns-3 c = sym (ap stage_number c.in-Refused.is)
 
-returns-4 : tie.Need-returns-4
+returns-4 : tie.Need-returns-in-Cancelled
 unfolding stage_number
-returns-4 c = sym (ap stage_number c.enum-told4.given.1)
+returns-4 c = sym (ap stage_number c.in-Cancelled.is)
 
-returns-5 : tie.Need-returns-5
+returns-5 : tie.Need-returns-in-Done
 unfolding stage_number
-returns-5 c = sym (ap stage_number c.enum-told5.given.1)
+returns-5 c = sym (ap stage_number c.in-Done.is)
 
-pub stage-number-spec : {M : Type 1} → statement M
-stage-number-spec =
+pub stage_number_spec : {M : Type 1} → statement M
+stage_number_spec =
     tie.close
     (tie.spec
     (λ c. search rules)

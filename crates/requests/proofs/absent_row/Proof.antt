@@ -5,13 +5,13 @@ use Rattle.requests.specs.AbsentRow.{absent_row}
 use Rattle.requests.proofs.absent_row.Statement.{statement}
 use Rattle.requests.proofs.absent_row.Tie as tie
 
-returns : tie.Need-returns
+returns : tie.Need-returns-in-Row
 unfolding absent_row
-returns c = sym (ap absent_row c.enum_told.given.1)
+returns c = sym (ap absent_row c.in-Row.is)
 
-returns-2 : tie.Need-returns-2
+returns-2 : tie.Need-returns-in-Absent
 unfolding absent_row
-returns-2 c = sym (ap absent_row c.enum-told2.given.1)
+returns-2 c = sym (ap absent_row c.in-Absent.is)
 
-pub absent-row-spec : {M : Type 1} → statement M
-absent-row-spec = tie.close (tie.spec (λ c. search rules) (λ c. search rules) returns returns-2)
+pub absent_row_spec : {M : Type 1} → statement M
+absent_row_spec = tie.close (tie.spec (λ c. search rules) (λ c. search rules) returns returns-2)

@@ -10,7 +10,7 @@ unfolding adjustable_record
 returns c =
     let s : tie.Start = c.before in
     let r = s.args.r in
-    let known = c.struct_told.given in
+    let known = c.struct_told-1.given in
     simp (
       read_back r.id known.0.1,
       read_back r.suffix known.1.0.1,
@@ -26,5 +26,5 @@ returns c =
       to_z-of_z s.ranges.short,
     )
 
-pub adjustable-record-spec : {M : Type 1} → statement M
-adjustable-record-spec = tie.close (tie.spec returns)
+pub adjustable_record_spec : {M : Type 1} → statement M
+adjustable_record_spec = tie.close (tie.spec returns)

@@ -6,5 +6,5 @@ use Rattle.requests.proofs.by_residual.Tie as tie
 returns : tie.Need-returns
 returns c = simp (to_z-of_z c.ranges.residual)
 
-pub by-residual-spec : {M : Type 1} → statement M
-by-residual-spec = tie.close (tie.spec returns)
+pub by_residual_spec : {M : Type 1} → statement M
+by_residual_spec = tie.close (tie.spec returns)

@@ -13,23 +13,23 @@ use Rattle.verdict.proofs.Moves.{signed-small, value-small}
 use Rattle.requests.proofs.in_booked.Statement.{statement}
 use Rattle.requests.proofs.in_booked.Tie as tie
 
-module _ (c : tie.After-signed) where
+module _ (c : tie.After-signed-quantity) where
   abbrev s : tie.Start
   s = c.before
 
-  quantity-is : to_z w64 (of_z w64 c.signed.result) ≡ signed s.args.side s.args.amount
-  quantity-is = to_z-of_z (sfits_of c.signed.type-inv) ∙ (simp (to_z-of_z s.fits.side, to_z-of_z s.fits.amount) at c.signed.ensures)
+  quantity-is : to_z w64 (of_z w64 c.signed-quantity.result) ≡ signed s.args.side s.args.amount
+  quantity-is = to_z-of_z (sfits_of c.signed-quantity.type_inv) ∙ (simp (to_z-of_z s.ranges.side, to_z-of_z s.ranges.amount) at c.signed-quantity.ensures)
 
   value-fits : SFits w64 (signed s.args.side s.args.amount *ℤ s.args.price)
   value-fits =
       let bound : nat_abs (signed s.args.side s.args.amount *ℤ s.args.price) ≤ 1000000000000000000
-      = value-small (signed s.args.side s.args.amount) s.args.price (signed-small s.args.side s.args.amount s.pre.0) s.pre.1 in
+      = value-small (signed s.args.side s.args.amount) s.args.price (signed-small s.args.side s.args.amount s.requires.0) s.requires.1 in
       sfits-of-bound (signed s.args.side s.args.amount *ℤ s.args.price) bound (omega arith)
 
-signed-requires : tie.Need-signed-requires
+signed-requires : tie.Need-signed-quantity-requires
 signed-requires c κs = simp (to_z-of_z c.ranges.amount) c.requires.0
 
-mul-value : tie.Need-overflow-mul-value
+mul-value : tie.Need-overflow_mul-value
 mul-value c = simp (quantity-is c, to_z-of_z (s c).ranges.price) (value-fits c)
 
 returns : tie.Need-returns
@@ -42,5 +42,5 @@ returns c =
       to_z-of_z (value-fits c),
     )
 
-pub in-booked-spec : {M : Type 1} → statement M
-in-booked-spec = tie.close (tie.spec signed-requires mul-value returns)
+pub in_booked_spec : {M : Type 1} → statement M
+in_booked_spec = tie.close (tie.spec signed-requires mul-value returns)

@@ -24,18 +24,18 @@ negated_fits q h =
 negated : (q : ℤ) → mag q < 2 ^ 63 → magnitude_at_most 1000000 q ≡ true → to_z w64 (of_z w64 (pos 0 -ℤ to_z w64 (of_z w64 q))) ≡ neg_ℤ q
 negated q h k = ap (λ (z : ℤ). to_z w64 (of_z w64 (pos 0 -ℤ z))) (read_back q h) ∙ to_z-of_z (negated_fits q k) ∙ +ℤ_idl (neg_ℤ q)
 
-sub-t8 : tie.Need-overflow-sub-t8
+sub-t8 : tie.Need-overflow_sub-result
 sub-t8 c =
     let s : tie.Start = c.before.before in
     let q : ℤ = s.args.r.quantity in
-    subst (λ (z : ℤ). SFits w64 (pos 0 -ℤ z)) (sym (read_back q c.struct_told.given.1.1.1.1.1.1.1.1.0.1)) (negated_fits q s.requires)
+    subst (λ (z : ℤ). SFits w64 (pos 0 -ℤ z)) (sym (read_back q c.struct_told-1.given.1.1.1.1.1.1.1.1.0.1)) (negated_fits q s.requires)
 
 returns : tie.Need-returns
 unfolding inverse_record
 returns c =
     let s : tie.Start = c.before.before.before in
     let r = s.args.r in
-    let known = c.struct-told2.given in
+    let known = c.struct_told-2-1.given in
     simp (negated r.quantity known.1.1.1.1.1.1.1.1.0.1 s.requires)
     (simp (
       read_back r.id known.0.1,
@@ -52,5 +52,5 @@ returns c =
       to_z-of_z s.ranges.into,
     ))
 
-pub inverse-record-spec : {M : Type 1} → statement M
-inverse-record-spec = tie.close (tie.spec sub-t8 returns)
+pub inverse_record_spec : {M : Type 1} → statement M
+inverse_record_spec = tie.close (tie.spec sub-t8 returns)

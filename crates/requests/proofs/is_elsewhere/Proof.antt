@@ -12,24 +12,24 @@ use Rattle.requests.proofs.is_elsewhere.Statement.{statement}
 use Rattle.requests.proofs.is_elsewhere.Tie as tie
 
 -- A figure of the record fits.
-account-fits : (c : tie.After-struct-told) → SFits w64 c.before.before.args.r.account
-account-fits c = sfits_of {w = w64} {z = c.before.before.args.r.account} c.struct_told.given.1.1.1.1.1.0.1
+account-fits : (c : tie.After-struct_told-1) → SFits w64 c.args.r.account
+account-fits c = sfits_of {w = w64} {z = c.args.r.account} c.struct_told-1.given.1.1.1.1.1.0.1
 
-returns : tie.Need-returns
+returns : tie.Need-returns-then-r-account
 unfolding is_elsewhere
 returns c =
     let s : tie.Start = c.before.before.before in
-    let other : eq_z s.args.r.account s.args.account ≡ false = false-eq_z s.args.r.account s.args.account (λ e. c.if1.true (ap (of_z w64) e)) in
+    let other : eq_z s.args.r.account s.args.account ≡ false = false-eq_z s.args.r.account s.args.account (λ e. c.if-r-account.true (ap (of_z w64) e)) in
     simp other
 
-returns-2 : tie.Need-returns-2
+returns-2 : tie.Need-returns
 unfolding is_elsewhere
 returns-2 c =
     let s : tie.Start = c.before.before.before.before.before in
     let here : eq_z s.args.r.account s.args.account ≡ true
-    = true-eq_z s.args.r.account s.args.account (of_z-inj (account-fits c.before.before.before) s.ranges.account c.before.before.if1.false) in
-    let series : SFits w64 s.args.r.series = sfits_of {w = w64} {z = s.args.r.series} c.struct-told2.given.1.1.1.1.1.1.0.1 in
+    = true-eq_z s.args.r.account s.args.account (of_z-inj (account-fits c.before.before.before) s.ranges.account c.if-r-account.false) in
+    let series : SFits w64 s.args.r.series = sfits_of {w = w64} {z = s.args.r.series} c.struct_told-2-1.given.1.1.1.1.1.1.0.1 in
     simp (here, eqb-of_z series s.ranges.series)
 
-pub is-elsewhere-spec : {M : Type 1} → statement M
-is-elsewhere-spec = tie.close (tie.spec returns returns-2)
+pub is_elsewhere_spec : {M : Type 1} → statement M
+is_elsewhere_spec = tie.close (tie.spec returns returns-2)

@@ -16,7 +16,7 @@ room-requires c κs = search rules
 count-requires : tie.Need-count-requires
 count-requires c κs = search rules
 
-add-result : tie.Need-overflow-add-result
+add-result : tie.Need-overflow_add-result
 add-result c =
     let s : tie.Start = c.before.before in
     omega (arith, c.count.ensures, (records-known s.args.cells.now s.requires.0).rows_fit, room_most records_layout s.args.cells.now)
@@ -24,7 +24,7 @@ add-result c =
 returns : tie.Need-returns
 returns c =
     let s : tie.Start = c.before.before in
-    ap₂ (λ (room count : ℕ). ltb room (count + s.args.added)) c.before.room.ensures c.count.ensures
+    ap₂ (λ (room count : ℕ). ltb room (count + s.args.added)) c.room.ensures c.count.ensures
 
-pub lacks-records-room-spec : {M : Type 1} → statement M
-lacks-records-room-spec = tie.close (tie.spec room-requires count-requires add-result returns)
+pub lacks_records_room_spec : {M : Type 1} → statement M
+lacks_records_room_spec = tie.close (tie.spec room-requires count-requires add-result returns)

@@ -19,5 +19,5 @@ returns s = simp (
   to_z-of_z s.ranges.short,
 )
 
-pub new-record-spec : {M : Type 1} → statement M
-new-record-spec = tie.close (tie.spec returns)
+pub new_record_spec : {M : Type 1} → statement M
+new_record_spec = tie.close (tie.spec returns)

@@ -8,9 +8,9 @@ returns : tie.Need-returns
 returns c =
     let s : tie.Start = c.before.before in
     record {
-      found-is = simp (to_z-of_z s.ranges.account, to_z-of_z s.ranges.series) at c.before.find-position.ensures;
-      read_is = simp (to_z-of_z s.ranges.account, to_z-of_z s.ranges.series) at c.read-position.ensures;
+      found-is = simp (to_z-of_z s.ranges.account, to_z-of_z s.ranges.series) at c.find_position-found.ensures;
+      read_is = simp (to_z-of_z s.ranges.account, to_z-of_z s.ranges.series) at c.read_position-position.ensures;
     }
 
-pub position-held-spec : {M : Type 1} → statement M
-position-held-spec = tie.close (tie.spec (λ c κs. search rules) (λ c κs. search rules) returns)
+pub position_held_spec : {M : Type 1} → statement M
+position_held_spec = tie.close (tie.spec (λ c κs. search rules) (λ c κs. search rules) returns)

@@ -28,17 +28,17 @@ module _ (s : tie.Start) where
   next_fits : SFits w64 (s.args.greatest +ℤ pos 1)
   next_fits =
       let range : (pos 0 ≤ℤ s.args.greatest) × (s.args.greatest ≤ℤ greatest_of_suffixes)
-      = greatest-range s.args.cells.now s.pre.0 s.args.id s.args.greatest there.greatest-is in
+      = greatest-range s.args.cells.now s.requires.0 s.args.id s.args.greatest there.greatest-is in
       omega (zarith, +-lin s.args.greatest (pos 1))
 
   -- The suffix as the code has it.
   next : to_z w64 (of_z w64 (to_z w64 (of_z w64 s.args.greatest) +ℤ pos 1)) ≡ s.args.greatest +ℤ pos 1
-  next = simp (to_z-of_z s.fits.greatest) (to_z-of_z next_fits)
+  next = simp (to_z-of_z s.ranges.greatest) (to_z-of_z next_fits)
 
-read-record-requires : tie.Need-read-record-requires
+read-record-requires : tie.Need-read_record-record-requires
 read-record-requires c κs = (c.requires.0, (there c).row_within)
 
-add-next : tie.Need-overflow-add-next
+add-next : tie.Need-overflow_add-next
 add-next c = let s : tie.Start = c.before in simp (to_z-of_z s.ranges.greatest) (next_fits s)
 
 returns : tie.Need-returns
@@ -47,11 +47,11 @@ returns c =
     let s : tie.Start = c.before in
     record {
       row_within = (there s).row_within;
-      row_is = c.read-record.ensures;
-      found = (there s).found ∙ ap some (sym c.read-record.ensures);
+      row_is = c.read_record-record.ensures;
+      found = (there s).found ∙ ap some (sym c.read_record-record.ensures);
       next-is = next s ∙ ap next_suffix (sym (there s).greatest-is);
       place_is = (there s).next-is ∙ ap (λ (z : ℤ). place_in records_layout (key_of s.args.id z) s.args.cells.now) (sym (next s));
     }
 
-pub record-named-spec : {M : Type 1} → statement M
-record-named-spec = tie.close (tie.spec read-record-requires add-next returns)
+pub record_named_spec : {M : Type 1} → statement M
+record_named_spec = tie.close (tie.spec read-record-requires add-next returns)

@@ -13,19 +13,19 @@ use Rattle.rules.specs.NamedRecord.{status_refusal}
 use Rattle.requests.proofs.status_refusal.Statement.{statement}
 use Rattle.requests.proofs.status_refusal.Tie as tie
 
-returns : tie.Need-returns
+returns : tie.Need-returns-then-status-eq-UNDER_GIVE_UP
 unfolding status_refusal
 returns c =
     let s : tie.Start = c.before in
-    let e : eq_z s.args.status under_give_up ≡ true = true-eq_z s.args.status under_give_up (of_z-inj s.ranges.status (sfits_lit {z = pos 3} tt) c.if1.true) in
+    let e : eq_z s.args.status under_give_up ≡ true = true-eq_z s.args.status under_give_up (of_z-inj s.ranges.status (sfits_lit {z = pos 3} tt) c.if-status-eq-UNDER_GIVE_UP.true) in
     simp e
 
-returns-2 : tie.Need-returns-2
+returns-2 : tie.Need-returns
 unfolding status_refusal
 returns-2 c =
     let s : tie.Start = c.before in
-    let e : eq_z s.args.status under_give_up ≡ false = false-eq_z s.args.status under_give_up (λ h. c.if1.false (ap (of_z w64) h)) in
+    let e : eq_z s.args.status under_give_up ≡ false = false-eq_z s.args.status under_give_up (λ h. c.if-status-eq-UNDER_GIVE_UP.false (ap (of_z w64) h)) in
     simp e
 
-pub status-refusal-spec : {M : Type 1} → statement M
-status-refusal-spec = tie.close (tie.spec returns returns-2)
+pub status_refusal_spec : {M : Type 1} → statement M
+status_refusal_spec = tie.close (tie.spec returns returns-2)
