@@ -18,7 +18,7 @@ module _ (c : tie.After-signed-quantity) where
   s = c.before
 
   quantity-is : to_z w64 (of_z w64 c.signed-quantity.result) ≡ signed s.args.side s.args.amount
-  quantity-is = to_z-of_z (sfits_of c.signed-quantity.type_inv) ∙ (simp (to_z-of_z s.ranges.side, to_z-of_z s.ranges.amount) at c.signed-quantity.ensures)
+  quantity-is = (let f : SFits w64 c.signed-quantity.result = sfits_of c.signed-quantity.type_inv in to_z-of_z f) ∙ (simp (to_z-of_z s.ranges.side, to_z-of_z s.ranges.amount) at c.signed-quantity.ensures)
 
   value-fits : SFits w64 (signed s.args.side s.args.amount *ℤ s.args.price)
   value-fits =
