@@ -34,94 +34,94 @@ module _ (s : tie.Start) where
   all-remain = record { is = refl }
 
 -- the id
-abbrev start1 : tie.After-valid-id → tie.Start
+abbrev start1 : tie.After-valid_id → tie.Start
 start1 c = c.before
 
-answer1 : (c : tie.After-valid-id) → c.valid-id.result ≡ valid_id (start1 c).args.id
-answer1 c = simp (to_z-of_z (start1 c).ranges.id) at c.valid-id.ensures
+answer1 : (c : tie.After-valid_id) → c.valid_id.result ≡ valid_id (start1 c).args.id
+answer1 c = simp (to_z-of_z (start1 c).ranges.id) at c.valid_id.ensures
 
-after1 : (c : tie.Else1) → After (start1 c.before) 1
-after1 c = goes_on (all-remain (start1 c.before)) (answer1 c.before) c.if1.false
+after1 : (c : tie.Else-not-valid_id) → After (start1 c.before) 1
+after1 c = goes_on (all-remain (start1 c.before)) (answer1 c.before) c.if-not-valid_id.false-raw
 
-valid-id-requires : tie.Need-valid-id-requires
+valid-id-requires : tie.Need-valid_id-requires
 valid-id-requires c κs = search rules
 
-returns : tie.Need-returns
-returns c = stops (all-remain (start1 c.before)) (answer1 c.before) c.if1.true
+returns : tie.Need-returns-then-not-valid_id
+returns c = stops (all-remain (start1 c.before)) (answer1 c.before) c.if-not-valid_id.true-raw
 
 -- the suffix
-abbrev start2 : tie.After-valid-suffix → tie.Start
+abbrev start2 : tie.After-valid_suffix → tie.Start
 start2 c = start1 c.before.before
 
-answer2 : (c : tie.After-valid-suffix) → c.valid-suffix.result ≡ valid_suffix (start2 c).args.suffix
-answer2 c = simp (to_z-of_z (start2 c).ranges.suffix) at c.valid-suffix.ensures
+answer2 : (c : tie.After-valid_suffix) → c.valid_suffix.result ≡ valid_suffix (start2 c).args.suffix
+answer2 c = simp (to_z-of_z (start2 c).ranges.suffix) at c.valid_suffix.ensures
 
-after2 : (c : tie.Else2) → After (start2 c.before) 2
-after2 c = goes_on (after1 c.before.before) (answer2 c.before) c.if2.false
+after2 : (c : tie.Else-not-valid_suffix) → After (start2 c.before) 2
+after2 c = goes_on (after1 c.before.before) (answer2 c.before) c.if-not-valid_suffix.false-raw
 
-valid-suffix-requires : tie.Need-valid-suffix-requires
+valid-suffix-requires : tie.Need-valid_suffix-requires
 valid-suffix-requires c κs = search rules
 
-returns-2 : tie.Need-returns-2
-returns-2 c = stops (after1 c.before.before) (answer2 c.before) c.if2.true
+returns-2 : tie.Need-returns-then-not-valid_suffix
+returns-2 c = stops (after1 c.before.before) (answer2 c.before) c.if-not-valid_suffix.true-raw
 
 -- the account
-abbrev start3 : tie.After-valid-account → tie.Start
+abbrev start3 : tie.After-valid_account → tie.Start
 start3 c = start2 c.before.before
 
-answer3 : (c : tie.After-valid-account) → c.valid-account.result ≡ valid_account (start3 c).args.account
-answer3 c = simp (to_z-of_z (start3 c).ranges.account) at c.valid-account.ensures
+answer3 : (c : tie.After-valid_account) → c.valid_account.result ≡ valid_account (start3 c).args.account
+answer3 c = simp (to_z-of_z (start3 c).ranges.account) at c.valid_account.ensures
 
-after3 : (c : tie.Else3) → After (start3 c.before) 3
-after3 c = goes_on (after2 c.before.before) (answer3 c.before) c.if3.false
+after3 : (c : tie.Else-not-valid_account) → After (start3 c.before) 3
+after3 c = goes_on (after2 c.before.before) (answer3 c.before) c.if-not-valid_account.false-raw
 
-valid-account-requires : tie.Need-valid-account-requires
+valid-account-requires : tie.Need-valid_account-requires
 valid-account-requires c κs = search rules
 
-returns-3 : tie.Need-returns-3
-returns-3 c = stops (after2 c.before.before) (answer3 c.before) c.if3.true
+returns-3 : tie.Need-returns-then-not-valid_account
+returns-3 c = stops (after2 c.before.before) (answer3 c.before) c.if-not-valid_account.true-raw
 
 -- the series
-abbrev start4 : tie.After-valid-series → tie.Start
+abbrev start4 : tie.After-valid_series → tie.Start
 start4 c = start3 c.before.before
 
-answer4 : (c : tie.After-valid-series) → c.valid-series.result ≡ valid_series (start4 c).args.series
-answer4 c = simp (to_z-of_z (start4 c).ranges.series) at c.valid-series.ensures
+answer4 : (c : tie.After-valid_series) → c.valid_series.result ≡ valid_series (start4 c).args.series
+answer4 c = simp (to_z-of_z (start4 c).ranges.series) at c.valid_series.ensures
 
-after4 : (c : tie.Else4) → After (start4 c.before) 4
-after4 c = goes_on (after3 c.before.before) (answer4 c.before) c.if4.false
+after4 : (c : tie.Else-not-valid_series) → After (start4 c.before) 4
+after4 c = goes_on (after3 c.before.before) (answer4 c.before) c.if-not-valid_series.false-raw
 
-valid-series-requires : tie.Need-valid-series-requires
+valid-series-requires : tie.Need-valid_series-requires
 valid-series-requires c κs = search rules
 
-returns-4 : tie.Need-returns-4
-returns-4 c = stops (after3 c.before.before) (answer4 c.before) c.if4.true
+returns-4 : tie.Need-returns-then-not-valid_series
+returns-4 c = stops (after3 c.before.before) (answer4 c.before) c.if-not-valid_series.true-raw
 
 -- 2 to 1,000 parts
-abbrev start5 : tie.Else4 → tie.Start
+abbrev start5 : tie.Else-not-valid_series → tie.Start
 start5 c = start4 c.before
 
-counted : (c : tie.Else6) → valid_count (length (start5 c.before.before).args.parts.now) ≡ true
-counted c = count-valid (length (start5 c.before.before).args.parts.now) c.before.if5.false c.if6.false
+counted : (c : tie.Else-parts-gt1000) → valid_count (length (start5 c.before.before).args.parts.now) ≡ true
+counted c = count-valid (length (start5 c.before.before).args.parts.now) c.if-parts-lt2.false c.if-parts-gt1000.false
 
-after5 : (c : tie.Else6) → After (start5 c.before.before) 5
+after5 : (c : tie.Else-parts-gt1000) → After (start5 c.before.before) 5
 after5 c = goes_on (after4 c.before.before) refl (ap not (counted c))
 
-returns-5 : tie.Need-returns-5
-returns-5 c = stops (after4 c.before) refl (ap not (too_few (length (start5 c.before).args.parts.now) c.if5.true))
+returns-5 : tie.Need-returns-then-parts-lt2
+returns-5 c = stops (after4 c.before) refl (ap not (too_few (length (start5 c.before).args.parts.now) c.if-parts-lt2.true))
 
-returns-6 : tie.Need-returns-6
-returns-6 c = stops (after4 c.before.before) refl (ap not (too_many (length (start5 c.before.before).args.parts.now) c.before.if5.false c.if6.true))
+returns-6 : tie.Need-returns-then-parts-gt1000
+returns-6 c = stops (after4 c.before.before) refl (ap not (too_many (length (start5 c.before.before).args.parts.now) c.if-parts-lt2.false c.if-parts-gt1000.true))
 
 -- each part
-parts-valid-requires : tie.Need-parts-valid-requires
+parts-valid-requires : tie.Need-parts_valid-requires
 parts-valid-requires c κs = search rules
 
-returns-7 : tie.Need-returns-7
-returns-7 c = ends (after5 c.before) c.parts-valid.ensures
+returns-7 : tie.Need-returns
+returns-7 c = ends (after5 c.before) c.parts_valid.ensures
 
-pub figures-valid-spec : {M : Type 1} → statement M
-figures-valid-spec =
+pub figures_valid_spec : {M : Type 1} → statement M
+figures_valid_spec =
     tie.close
     (tie.spec
     valid-id-requires

@@ -13,56 +13,56 @@ use Rattle.separation.proofs.PartsLeft.{valid_from, part-invalid, part-valid, no
 use Rattle.separation.proofs.parts_valid.Statement.{statement}
 use Rattle.separation.proofs.parts_valid.Tie as tie
 
-abbrev invariant-loop : tie.invariant-loop
+abbrev invariant-loop : tie.invariant-loop-i
 invariant-loop parts i₀ i = (i ≤ length parts) × (valid_from parts i ≡ valid_from parts 0)
 
-abbrev decreases-loop : tie.decreases-loop
+abbrev decreases-loop : tie.decreases-loop-i
 decreases-loop parts i₀ i = length parts - i
 
 -- The test of the next part.
-answer : (c : tie.After-valid-quantity invariant-loop decreases-loop)
-    → c.valid-quantity.result ≡ valid_quantity (get_or c.before.before.before.before.args.parts.now c.before.before.before.loop.i (pos 0))
+answer : (c : tie.After-valid_quantity invariant-loop decreases-loop)
+    → c.valid_quantity.result ≡ valid_quantity (get_or c.args.parts.now c.loop-i.i (pos 0))
 answer c =
-    simp (read_back (get_or c.before.before.before.before.args.parts.now c.before.before.before.loop.i (pos 0)) c.before.valid-quantity-arg.given)
-    at c.valid-quantity.ensures
+    simp (read_back (get_or c.args.parts.now c.loop-i.i (pos 0)) c.valid_quantity-arg-1.given)
+    at c.valid_quantity.ensures
 
-loop-holds : tie.Need-loop-init invariant-loop decreases-loop
+loop-holds : tie.Need-loop-i-init invariant-loop decreases-loop
 loop-holds c = (omega arith, refl)
 
-mul-valid-quantity : tie.Need-overflow-mul-valid-quantity invariant-loop decreases-loop
+mul-valid-quantity : tie.Need-offset_bounds-parts-i invariant-loop decreases-loop
 mul-valid-quantity c = search rules
 
-shared-slice-copy-out-valid-quantity : tie.Need-shared-slice-copy-out-valid-quantity invariant-loop decreases-loop
+shared-slice-copy-out-valid-quantity : tie.Need-bounds-parts-i invariant-loop decreases-loop
 shared-slice-copy-out-valid-quantity c = omega arith
 
-valid-quantity-requires : tie.Need-valid-quantity-requires invariant-loop decreases-loop
+valid-quantity-requires : tie.Need-valid_quantity-requires invariant-loop decreases-loop
 valid-quantity-requires c κs = search rules
 
-returns : tie.Need-returns invariant-loop decreases-loop
+returns : tie.Need-returns-then-not-valid_quantity invariant-loop decreases-loop
 returns c =
-    let l : tie.At-loop invariant-loop decreases-loop = c.before.before.before.before in
-    sym (part-invalid l.before.args.parts.now l.loop.i c.before.before.before.loop-test.true (failed (answer c.before) c.if1.true))
-    ∙ l.loop.invariant.1
+    let l : tie.At-loop-i invariant-loop decreases-loop = c.before.before.before.before in
+    sym (part-invalid l.args.parts.now l.loop-i.i c.loop-i-test.true (failed (answer c.before) c.if-not-valid_quantity.true-raw))
+    ∙ l.loop-i.invariant.1
 
-add-i : tie.Need-overflow-add-i invariant-loop decreases-loop
+add-i : tie.Need-overflow_add-i invariant-loop decreases-loop
 add-i c = omega arith
 
-loop-less : tie.Need-loop-smaller invariant-loop decreases-loop
+loop-less : tie.Need-loop-i-smaller invariant-loop decreases-loop
 loop-less c = omega arith
 
-loop-again : tie.Need-loop-preserved invariant-loop decreases-loop
+loop-again : tie.Need-loop-i-preserved invariant-loop decreases-loop
 loop-again c =
-    let l : tie.At-loop invariant-loop decreases-loop = c.before.before.before.before in (
+    let l : tie.At-loop-i invariant-loop decreases-loop = c.before.before.before.before in (
       omega arith,
-      sym (part-valid l.before.args.parts.now l.loop.i c.before.before.before.loop-test.true (passed (answer c.before) c.if1.false))
-          ∙ l.loop.invariant.1,
+      sym (part-valid l.args.parts.now l.loop-i.i c.loop-i-test.true (passed (answer c.before) c.if-not-valid_quantity.false-raw))
+          ∙ l.loop-i.invariant.1,
     )
 
-returns-2 : tie.Need-returns-2 invariant-loop decreases-loop
-returns-2 c = none-invalid c.before.before.args.parts.now c.before.loop.i c.loop-test.false ∙ c.before.loop.invariant.1
+returns-2 : tie.Need-returns invariant-loop decreases-loop
+returns-2 c = none-invalid c.args.parts.now c.loop-i.i c.loop-i-test.false ∙ c.loop-i.invariant.1
 
-pub parts-valid-spec : {M : Type 1} → statement M
-parts-valid-spec =
+pub parts_valid_spec : {M : Type 1} → statement M
+parts_valid_spec =
     tie.close
     (tie.spec
     invariant-loop

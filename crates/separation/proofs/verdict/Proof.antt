@@ -48,13 +48,13 @@ module _ (s : tie.Start) where
   at-6 : From 6
   unfolding is_some the_record
   at-6 =
-      separation-tests s.args.records.now s.args.positions.now s.args.id s.args.suffix s.args.account s.args.series s.args.parts.now s.pre.1
-      r (ap the_record s.pre.3.found)
-      past ap not s.pre.2
-      past ap (λ (o : Option Record). not (is_some o)) s.pre.3.found
+      separation-tests s.args.records.now s.args.positions.now s.args.id s.args.suffix s.args.account s.args.series s.args.parts.now s.requires.1
+      r (ap the_record s.requires.3.found)
+      past ap not s.requires.2
+      past ap (λ (o : Option Record). not (is_some o)) s.requires.3.found
 
   parts : (length s.args.parts.now ≤ 1000) × (all_of (map valid_quantity s.args.parts.now) ≡ true)
-  parts = parts-told s.args.id s.args.suffix s.args.account s.args.series s.args.parts.now s.pre.2
+  parts = parts-told s.args.id s.args.suffix s.args.account s.args.series s.args.parts.now s.requires.2
 
   abbrev next : ℤ
   next = next_of (rows_of records_layout s.args.records.now) s.args.id
@@ -67,110 +67,110 @@ module _ (s : tie.Start) where
 
   last_fits : SFits w64 (next +ℤ count)
   last_fits =
-      let range : (pos 0 ≤ℤ next) × (next ≤ℤ pos 65536) = next-range s.args.records.now (record-rows-sound s.args.records.now s.pre.0) s.args.id in
+      let range : (pos 0 ≤ℤ next) × (next ≤ℤ pos 65536) = next-range s.args.records.now (record-rows-sound s.args.records.now s.requires.0) s.args.id in
       omega (zarith, parts.0, +-lin next count)
 
-abbrev start : tie.After-is-elsewhere → tie.Start
+abbrev start : tie.After-is_elsewhere → tie.Start
 start c = c.before.before
 
-answer-6 : (c : tie.After-is-elsewhere) → c.is-elsewhere.result ≡ is_elsewhere (start c).args.account (start c).args.series (r (start c))
-answer-6 c = simp (to_z-of_z (start c).ranges.account, to_z-of_z (start c).ranges.series) at c.is-elsewhere.ensures
+answer-6 : (c : tie.After-is_elsewhere) → c.is_elsewhere.result ≡ is_elsewhere (start c).args.account (start c).args.series (r (start c))
+answer-6 c = simp (to_z-of_z (start c).ranges.account, to_z-of_z (start c).ranges.series) at c.is_elsewhere.ensures
 
-returns : tie.Need-returns
-returns c = stops (at-6 (start c.before)) (sym (answer-6 c.before) ∙ c.if1.true)
+returns : tie.Need-returns-then-is_elsewhere
+returns c = stops (at-6 (start c.before)) (sym (answer-6 c.before) ∙ c.if-is_elsewhere.true)
 
 -- ---- 7: its status
 
-abbrev start7 : tie.After-struct-told → tie.Start
+abbrev start7 : tie.After-struct_told-1 → tie.Start
 start7 c = start c.before.before.before
 
-at_7 : (c : tie.Else1) → From (start c.before) 7
-at_7 c = at-6 (start c.before) past sym (answer-6 c.before) ∙ c.if1.false
+at_7 : (c : tie.Else-is_elsewhere) → From (start c.before) 7
+at_7 c = at-6 (start c.before) past sym (answer-6 c.before) ∙ c.if-is_elsewhere.false
 
-status-fits : (c : tie.After-struct-told) → SFits w64 (r (start7 c)).status
-status-fits c = sfits_of c.struct_told.given.1.1.1.1.0.1
+status-fits : (c : tie.After-struct_told-1) → SFits w64 (r (start7 c)).status
+status-fits c = sfits_of c.struct_told-1.given.1.1.1.1.0.1
 
-returns-2 : tie.Need-returns-2
+returns-2 : tie.Need-returns-then-r-ne-ADJUSTABLE
 unfolding is_not_adjustable
 returns-2 c =
-    let t : tie.After-struct-told = c.before.before.before in
-    ap (λ (n : ℤ). Refused n (pos 0)) (status-number (sfits_of c.status-refusal.type-inv) (status-fits t) c.status-refusal.ensures)
-    ∙ stops (at_7 t.before.before) (ap not (not-literal 0 (status-fits t) c.before.before.if2.true))
+    let t : tie.After-struct_told-1 = c.before.before.before in
+    ap (λ (n : ℤ). Refused n (pos 0)) (status-number (sfits_of c.status_refusal.type_inv) (status-fits t) c.status_refusal.ensures)
+    ∙ stops (at_7 t.before.before) (ap not (not-literal 0 (status-fits t) c.if-r-ne-ADJUSTABLE.true))
 
 -- ---- 11: the parts' sum
 
-at-11 : (c : tie.Else2) → From (start7 c.before) 11
+at-11 : (c : tie.Else-r-ne-ADJUSTABLE) → From (start7 c.before) 11
 unfolding is_not_adjustable
-at-11 c = at_7 c.before.before.before past ap not (is-literal 0 tt (status-fits c.before) c.if2.false)
+at-11 c = at_7 c.before.before.before past ap not (is-literal 0 tt (status-fits c.before) c.if-r-ne-ADJUSTABLE.false)
 
-abbrev summed : tie.After-struct-told3 → tie.After-sum-of
+abbrev summed : tie.After-struct_told-2-1 → tie.After-sum_of
 summed c = c.before.before
 
-abbrev start11 : tie.After-struct-told3 → tie.Start
+abbrev start11 : tie.After-struct_told-2-1 → tie.Start
 start11 c = start7 (summed c).before.before
 
-sum_fits : (c : tie.After-sum-of) → SFits w64 c.sum_of.result
-sum_fits c = sfits_of c.sum_of.type-inv
+sum_fits : (c : tie.After-sum_of) → SFits w64 c.sum_of.result
+sum_fits c = sfits_of c.sum_of.type_inv
 
-quantity-fits : (c : tie.After-struct-told3) → SFits w64 (r (start11 c)).quantity
-quantity-fits c = sfits_of c.struct-told3.given.1.1.1.1.1.1.1.1.0.1
+quantity-fits : (c : tie.After-struct_told-2-1) → SFits w64 (r (start11 c)).quantity
+quantity-fits c = sfits_of c.struct_told-2-1.given.1.1.1.1.1.1.1.1.0.1
 
-sum-of-requires : tie.Need-sum-of-requires
+sum-of-requires : tie.Need-sum_of-requires
 sum-of-requires c κs = parts (start7 c.before)
 
-returns-3 : tie.Need-returns-3
+returns-3 : tie.Need-returns-then-sum_of-r
 returns-3 c =
-    let m : tie.After-sum-of = summed c.before in
-    stops (at-11 m.before) (ap not (false-eq_z _ _ (λ e. c.if3.true (ap (of_z w64) (m.sum_of.ensures ∙ e)))))
+    let m : tie.After-sum_of = summed c.before in
+    stops (at-11 m.before) (ap not (false-eq_z _ _ (λ e. c.if-sum_of-r.true (ap (of_z w64) (m.sum_of.ensures ∙ e)))))
 
 -- ---- 13: the last suffix
 
-abbrev start13 : tie.Else3 → tie.Start
+abbrev start13 : tie.Else-sum_of-r → tie.Start
 start13 c = start11 c.before
 
-at-13 : (c : tie.Else3) → From (start13 c) 13
+at-13 : (c : tie.Else-sum_of-r) → From (start13 c) 13
 at-13 c =
-    let m : tie.After-sum-of = summed c.before in
-    at-11 m.before past ap not (true-eq_z _ _ (sym m.sum_of.ensures ∙ of_z-inj (sum_fits m) (quantity-fits c.before) c.if3.false))
+    let m : tie.After-sum_of = summed c.before in
+    at-11 m.before past ap not (true-eq_z _ _ (sym m.sum_of.ensures ∙ of_z-inj (sum_fits m) (quantity-fits c.before) c.if-sum_of-r.false))
 
-cast-last : tie.Need-overflow-cast-last
+cast-last : tie.Need-overflow_cast-last
 cast-last c = omega (zarith, (parts (start13 c)).0)
 
-module _ (c : tie.After-struct-told4) where
-  abbrev else3 : tie.Else3
+module _ (c : tie.After-struct_told-3-1) where
+  abbrev else3 : tie.Else-sum_of-r
   else3 = c.before.before
 
   abbrev s13 : tie.Start
   s13 = start13 else3
 
   next-is : to_z w64 (of_z w64 s13.args.named.next) ≡ next s13
-  next-is = read_back s13.args.named.next c.struct-told4.given.1.1.0.1 ∙ s13.pre.3.next-is
+  next-is = read_back s13.args.named.next c.struct_told-3-1.given.1.1.0.1 ∙ s13.requires.3.next-is
 
   last-is : to_z w64 (of_z w64 (to_z w64 (of_z w64 s13.args.named.next) +ℤ to_z w64 (length s13.args.parts.now))) ≡ next s13 +ℤ count s13
   last-is = simp (next-is, counted s13) (to_z-of_z (last_fits s13))
 
-add-last : tie.Need-overflow-add-last
+add-last : tie.Need-overflow_add-last
 add-last c = simp (next-is c, counted (s13 c)) (last_fits (s13 c))
 
-returns-4 : tie.Need-returns-4
-returns-4 c = stops (at-13 (else3 c.before)) (rw (last-is c.before) at c.if4.true)
+returns-4 : tie.Need-returns-then-last-gt-GREATEST_SUFFIX
+returns-4 c = stops (at-13 (else3 c.before)) (rw (last-is c.before) at c.if-last-gt-GREATEST_SUFFIX.true)
 
 -- ---- 14: the room
 
-at-14 : (c : tie.Else4) → From (s13 c.before) 14
-at-14 c = at-13 (else3 c.before) past rw (last-is c.before) at c.if4.false
+at-14 : (c : tie.Else-last-gt-GREATEST_SUFFIX) → From (s13 c.before) 14
+at-14 c = at-13 (else3 c.before) past rw (last-is c.before) at c.if-last-gt-GREATEST_SUFFIX.false
 
-lacks-records-room-requires : tie.Need-lacks-records-room-requires
-lacks-records-room-requires c κs = (record-rows-sound (s13 c.before).args.records.now (s13 c.before).pre.0, omega (arith, (parts (s13 c.before)).0))
+lacks-records-room-requires : tie.Need-lacks_records_room-requires
+lacks-records-room-requires c κs = (record-rows-sound (s13 c.before).args.records.now (s13 c.before).requires.0, omega (arith, (parts (s13 c.before)).0))
 
-returns-5 : tie.Need-returns-5
-returns-5 c = stops (at-14 c.before.before) (sym c.before.lacks-records-room.ensures ∙ c.if5.true)
+returns-5 : tie.Need-returns-then-lacks_records_room
+returns-5 c = stops (at-14 c.before.before) (sym c.lacks_records_room.ensures ∙ c.if-lacks_records_room.true)
 
-returns-6 : tie.Need-returns-6
-returns-6 c = ends (at-14 c.before.before past sym c.before.lacks-records-room.ensures ∙ c.if5.false)
+returns-6 : tie.Need-returns
+returns-6 c = ends (at-14 c.before.before past sym c.lacks_records_room.ensures ∙ c.if-lacks_records_room.false)
 
-pub verdict-spec : {M : Type 1} → statement M
-verdict-spec =
+pub verdict_spec : {M : Type 1} → statement M
+verdict_spec =
     tie.close
     (tie.spec
     (λ c κs. search rules)

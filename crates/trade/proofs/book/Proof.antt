@@ -69,190 +69,190 @@ module _ (s : tie.Start) where
 
   -- The position, as it was read.
   read : s.args.held.position ≡ position_read ps s.args.account s.args.series
-  read = s.pre.3.read_is
+  read = s.requires.3.read_is
 
   read-sound : sound_position s.args.held.position ≡ true
-  read-sound = ap sound_position read ∙ position-read-sound ps s.pre.1 s.args.account s.args.series
+  read-sound = ap sound_position read ∙ position-read-sound ps s.requires.1 s.args.account s.args.series
 
   quantity-valid : valid_quantity s.args.quantity ≡ true
   quantity-valid =
-      trade-quantity rs ps s.args.id s.args.account s.args.series s.args.side s.args.quantity s.args.price s.pre.0 s.pre.1 s.pre.2
+      trade-quantity rs ps s.args.id s.args.account s.args.series s.args.side s.args.quantity s.args.price s.requires.0 s.requires.1 s.requires.2
 
   price-valid : valid_price s.args.price ≡ true
   price-valid =
-      trade-price rs ps s.args.id s.args.account s.args.series s.args.side s.args.quantity s.args.price s.pre.0 s.pre.1 s.pre.2
+      trade-price rs ps s.args.id s.args.account s.args.series s.args.side s.args.quantity s.args.price s.requires.0 s.requires.1 s.requires.2
 
   insertable : PlaceReady rs s.args.place row_of
   unfolding new_record
   insertable =
       let ready : InsertReady rs row_of =
-      trade-insert rs ps s.args.id s.args.account s.args.series s.args.side s.args.quantity s.args.price s.pre.0 s.pre.1 s.pre.2 in
-      (ready.0, ready.1, ready.2, ready.3, s.pre.4)
+      trade-insert rs ps s.args.id s.args.account s.args.series s.args.side s.args.quantity s.args.price s.requires.0 s.requires.1 s.requires.2 in
+      (ready.0, ready.1, ready.2, ready.3, s.requires.4)
 
   writable : WriteReady ps s.args.held.found left_of
   writable =
       let ready : PutReady ps left_of =
-      trade-put rs ps s.args.id s.args.account s.args.series s.args.side s.args.quantity s.args.price s.pre.0 s.pre.1 s.pre.2 in (
+      trade-put rs ps s.args.id s.args.account s.args.series s.args.side s.args.quantity s.args.price s.requires.0 s.requires.1 s.requires.2 in (
         ready.0,
         ready.1,
         ready.2,
-        s.pre.3.found-is ∙ ap (λ (k : Key). found_in positions_layout k ps) (sym (left_key ps s.args.account s.args.series s.args.side s.args.quantity s.args.price)),
+        s.requires.3.found-is ∙ ap (λ (k : Key). found_in positions_layout k ps) (sym (left_key ps s.args.account s.args.series s.args.side s.args.quantity s.args.price)),
       )
 
 -- What the trade closes and books.
-module _ (c : tie.After-booking-of) where
+module _ (c : tie.After-booking_of-b) where
   abbrev s : tie.Start
   s = c.before.before
 
-  booked : c.booking-of.result ≡ booking_of s.args.side s.args.quantity s.args.price s.args.held.position
-  booked = simp (to_z-of_z s.fits.side, to_z-of_z s.fits.quantity, to_z-of_z s.fits.price) at c.booking-of.ensures
+  booked : c.booking_of-b.result ≡ booking_of s.args.side s.args.quantity s.args.price s.args.held.position
+  booked = simp (to_z-of_z s.ranges.side, to_z-of_z s.ranges.quantity, to_z-of_z s.ranges.price) at c.booking_of-b.ensures
 
-  closed : c.booking-of.result.closed ≡ closed_of s
-  closed = closed_is (ps s) s.args.account s.args.series s.args.side s.args.quantity s.args.price s.args.held.position c.booking-of.result (read s) booked
+  closed : c.booking_of-b.result.closed ≡ closed_of s
+  closed = closed_is (ps s) s.args.account s.args.series s.args.side s.args.quantity s.args.price s.args.held.position c.booking_of-b.result (read s) booked
 
-  movement : c.booking-of.result.movement ≡ trade_movement (ps s) s.args.account s.args.series s.args.side s.args.quantity s.args.price
-  movement = movement-is (ps s) s.args.account s.args.series s.args.side s.args.quantity s.args.price s.args.held.position c.booking-of.result (read s) booked
+  movement : c.booking_of-b.result.movement ≡ trade_movement (ps s) s.args.account s.args.series s.args.side s.args.quantity s.args.price
+  movement = movement-is (ps s) s.args.account s.args.series s.args.side s.args.quantity s.args.price s.args.held.position c.booking_of-b.result (read s) booked
 
-  error : c.booking-of.result.error ≡ error_of s
-  error = error-is (ps s) s.args.account s.args.series s.args.side s.args.quantity s.args.price s.args.held.position c.booking-of.result (read s) booked
+  error : c.booking_of-b.result.error ≡ error_of s
+  error = error-is (ps s) s.args.account s.args.series s.args.side s.args.quantity s.args.price s.args.held.position c.booking_of-b.result (read s) booked
 
-  left : moved s.args.held.position c.booking-of.result.movement ≡ left_of s
-  left = moved-is (ps s) s.args.account s.args.series s.args.side s.args.quantity s.args.price s.args.held.position c.booking-of.result (read s) booked
+  left : moved s.args.held.position c.booking_of-b.result.movement ≡ left_of s
+  left = moved-is (ps s) s.args.account s.args.series s.args.side s.args.quantity s.args.price s.args.held.position c.booking_of-b.result (read s) booked
 
 -- The row that is made.
-module _ (c : tie.After-new-record) where
-  abbrev b : tie.After-booking-of
-  b = c.before.before.before.before.before.before.before
+module _ (c : tie.After-new_record-row) where
+  abbrev b : tie.After-booking_of-b
+  b = c.before.before.before.before.before.before
 
-  kind : to_z w64 c.before.before.before.before.before.if1.kind ≡ trade_kind b.booking-of.result.error
+  kind : to_z w64 c.if-b.kind-bits ≡ trade_kind b.booking_of-b.result.error
   unfolding trade_kind
   kind =
       ⊎_elim
       (λ w. ap (to_z w64) w.1 ∙ sym (ap trade_kind w.0.taken))
       (λ w. ap (to_z w64) w.1 ∙ sym (ap trade_kind w.0.left))
-      c.before.before.before.before.before.if1.branch
+      c.if-b.branch
 
-  row : c.new-record.result ≡ row_of (s b)
+  row : c.new_record-row.result ≡ row_of (s b)
   row =
-      let kind-is : to_z w64 c.before.before.before.before.before.if1.kind ≡ trade_kind (error_of (s b)) = kind ∙ ap trade_kind (error b) in
-      let long-is : to_z w64 (of_z w64 b.booking-of.result.movement.long) ≡ trade_long (ps (s b)) (s b).args.account (s b).args.series (s b).args.side (s b).args.quantity
-      = read_back b.booking-of.result.movement.long c.before.before.struct_told.given.0.1 ∙ ap (λ (m : Movement). m.long) (movement b) in
-      let short-is : to_z w64 (of_z w64 b.booking-of.result.movement.short) ≡ trade_short (ps (s b)) (s b).args.account (s b).args.series (s b).args.side (s b).args.quantity
-      = read_back b.booking-of.result.movement.short c.before.struct-told2.given.1.0.1 ∙ ap (λ (m : Movement). m.short) (movement b) in
-      let today-is : to_z w64 (of_z w64 c.before.before.before.today.result) ≡ current_day (rs (s b))
-      = read_back c.before.before.before.today.result c.before.before.before.today.type-inv ∙ c.before.before.before.today.ensures in
-      c.new-record.ensures
+      let kind-is : to_z w64 c.if-b.kind-bits ≡ trade_kind (error_of (s b)) = kind ∙ ap trade_kind (error b) in
+      let long-is : to_z w64 (of_z w64 b.booking_of-b.result.movement.long) ≡ trade_long (ps (s b)) (s b).args.account (s b).args.series (s b).args.side (s b).args.quantity
+      = read_back b.booking_of-b.result.movement.long c.struct_told-1.given.0.1 ∙ ap (λ (m : Movement). m.long) (movement b) in
+      let short-is : to_z w64 (of_z w64 b.booking_of-b.result.movement.short) ≡ trade_short (ps (s b)) (s b).args.account (s b).args.series (s b).args.side (s b).args.quantity
+      = read_back b.booking_of-b.result.movement.short c.struct_told-2-1.given.1.0.1 ∙ ap (λ (m : Movement). m.short) (movement b) in
+      let today-is : to_z w64 (of_z w64 c.today-today.result) ≡ current_day (rs (s b))
+      = read_back c.today-today.result c.today-today.type_inv ∙ c.today-today.ensures in
+      c.new_record-row.ensures
       ∙ (λ i.
       new_record
       (today-is i)
-      (to_z-of_z (s b).fits.id i)
+      (to_z-of_z (s b).ranges.id i)
       (kind-is i)
-      (to_z-of_z (s b).fits.account i)
-      (to_z-of_z (s b).fits.series i)
-      (to_z-of_z (s b).fits.side i)
-      (to_z-of_z (s b).fits.quantity i)
-      (to_z-of_z (s b).fits.price i)
+      (to_z-of_z (s b).ranges.account i)
+      (to_z-of_z (s b).ranges.series i)
+      (to_z-of_z (s b).ranges.side i)
+      (to_z-of_z (s b).ranges.quantity i)
+      (to_z-of_z (s b).ranges.price i)
       (long-is i)
       (short-is i))
 
 -- The row inserted.
-module _ (c : tie.After-insert-record) where
-  abbrev d : tie.After-booking-of
+module _ (c : tie.After-insert_record) where
+  abbrev d : tie.After-booking_of-b
   d = b c.before.before
 
-  inserted : c.insert-record.new.0 ≡ put_one records_layout record_key (rs (s d)) (row_of (s d))
-  inserted = c.insert-record.ensures.0 ∙ ap (put_one records_layout record_key (rs (s d))) (row c.before.before)
+  inserted : c.insert_record.new.cells ≡ put_one records_layout record_key (rs (s d)) (row_of (s d))
+  inserted = c.insert_record.ensures.0 ∙ ap (put_one records_layout record_key (rs (s d))) (row c.before.before)
 
 -- The position that the trade leaves.
-module _ (c : tie.After-moved) where
-  abbrev e : tie.After-booking-of
+module _ (c : tie.After-moved-left) where
+  abbrev e : tie.After-booking_of-b
   e = d c.before.before
 
-  leaves : c.moved.result ≡ left_of (s e)
-  leaves = c.moved.ensures ∙ left e
+  leaves : c.moved-left.result ≡ left_of (s e)
+  leaves = c.moved-left.ensures ∙ left e
 
-put : (c : tie.After-write-position) → c.write-position.new.0 ≡ put_one positions_layout position_key (ps (s (e c.before.before))) (left_of (s (e c.before.before)))
-put c = c.write-position.ensures.0 ∙ ap (put_one positions_layout position_key (ps (s (e c.before.before)))) (leaves c.before.before)
+put : (c : tie.After-write_position) → c.write_position.new.cells ≡ put_one positions_layout position_key (ps (s (e c.before.before))) (left_of (s (e c.before.before)))
+put c = c.write_position.ensures.0 ∙ ap (put_one positions_layout position_key (ps (s (e c.before.before)))) (leaves c.before.before)
 
 -- The excess of a closing error.
-module _ (c : tie.After-struct-told3) where
-  abbrev p : tie.After-write-position
+module _ (c : tie.After-struct_told-then-b-2-1) where
+  abbrev p : tie.After-write_position
   p = c.before.before.before.before
 
-  abbrev f : tie.After-booking-of
+  abbrev f : tie.After-booking_of-b
   f = e p.before.before
 
   excess-fits : SFits w64 ((s f).args.quantity -ℤ closed_of (s f))
   excess-fits =
       opened-fits (s f).args.side (s f).args.quantity (position_read (ps (s f)) (s f).args.account (s f).args.series) (quantity-valid (s f))
-      (position-read-sound (ps (s f)) (s f).pre.1 (s f).args.account (s f).args.series)
+      (position-read-sound (ps (s f)) (s f).requires.1 (s f).args.account (s f).args.series)
 
-  excess : (to_z w64 (of_z w64 (s f).args.quantity) -ℤ to_z w64 (of_z w64 f.booking-of.result.closed)) ≡ (s f).args.quantity -ℤ closed_of (s f)
+  excess : (to_z w64 (of_z w64 (s f).args.quantity) -ℤ to_z w64 (of_z w64 f.booking_of-b.result.closed)) ≡ (s f).args.quantity -ℤ closed_of (s f)
   excess =
-      let closed-back : to_z w64 (of_z w64 f.booking-of.result.closed) ≡ closed_of (s f)
-      = read_back f.booking-of.result.closed c.struct-told3.given.0.1 ∙ closed f in
-      λ i. to_z-of_z (s f).fits.quantity i -ℤ closed-back i
+      let closed-back : to_z w64 (of_z w64 f.booking_of-b.result.closed) ≡ closed_of (s f)
+      = read_back f.booking_of-b.result.closed c.struct_told-then-b-2-1.given.0.1 ∙ closed f in
+      λ i. to_z-of_z (s f).ranges.quantity i -ℤ closed-back i
 
-booking-of-requires : tie.Need-booking-of-requires
+booking-of-requires : tie.Need-booking_of-b-requires
 booking-of-requires c κs =
-    simp (to_z-of_z c.before.ranges.quantity, to_z-of_z c.before.ranges.price) (quantity-valid c.before, read-sound c.before, price-valid c.before)
+    simp (to_z-of_z c.ranges.quantity, to_z-of_z c.ranges.price) (quantity-valid c.before, read-sound c.before, price-valid c.before)
 
-today-requires : tie.Need-today-requires
-today-requires c κs = let s : tie.Start = s c.before.before.before in record-rows-sound (rs s) s.pre.0
+today-requires : tie.Need-today-today-requires
+today-requires c κs = let s : tie.Start = s c.before.before in record-rows-sound (rs s) s.requires.0
 
-new-record-requires : tie.Need-new-record-requires
+new-record-requires : tie.Need-new_record-row-requires
 new-record-requires c κs = search rules
 
-insert-record-requires : tie.Need-insert-record-requires
+insert-record-requires : tie.Need-insert_record-requires
 insert-record-requires c κs =
     let s : tie.Start = s (b c.before) in
     subst (λ (r : Record). PlaceReady (rs s) s.args.place r) (sym (row c.before)) (insertable s)
 
-moved-requires : tie.Need-moved-requires
+moved-requires : tie.Need-moved-left-requires
 moved-requires c κs =
-    let b : tie.After-booking-of = d c.before in
-    booking-moves (s b).args.side (s b).args.quantity (s b).args.held.position (quantity-valid (s b)) (read-sound (s b)) (s b).args.price (price-valid (s b)) b.booking-of.result (booked b)
+    let b : tie.After-booking_of-b = d c.before in
+    booking-moves (s b).args.side (s b).args.quantity (s b).args.held.position (quantity-valid (s b)) (read-sound (s b)) (s b).args.price (price-valid (s b)) b.booking_of-b.result (booked b)
 
-write-position-requires : tie.Need-write-position-requires
+write-position-requires : tie.Need-write_position-requires
 write-position-requires c κs =
     let s : tie.Start = s (e c.before) in
     subst (λ (q : Position). WriteReady (ps s) s.args.held.found q) (sym (leaves c.before)) (writable s)
 
-sub-excess : tie.Need-overflow-sub-excess
+sub-excess : tie.Need-overflow_sub-excess
 sub-excess c = subst (SFits w64) (sym (excess c)) (excess-fits c)
 
-same_length : tie.Need-same-length
+same_length : tie.Need-shape_of-records-then-b-2
 same_length c = search rules
 
-same-length-2 : tie.Need-same-length-2
+same-length-2 : tie.Need-shape_of-positions-then-b-2
 same-length-2 c = search rules
 
-returns : tie.Need-returns
+returns : tie.Need-returns-then-b-2
 returns c =
     let s : tie.Start = s (f c) in
-    let excess-back : to_z w64 (of_z w64 (to_z w64 (of_z w64 s.args.quantity) -ℤ to_z w64 (of_z w64 (f c).booking-of.result.closed))) ≡ s.args.quantity -ℤ closed_of s
+    let excess-back : to_z w64 (of_z w64 (to_z w64 (of_z w64 s.args.quantity) -ℤ to_z w64 (of_z w64 (f c).booking_of-b.result.closed))) ≡ s.args.quantity -ℤ closed_of s
     = ap (λ (z : ℤ). to_z w64 (of_z w64 z)) (excess c) ∙ to_z-of_z (excess-fits c) in
-    let i : tie.After-insert-record = (p c).before.before.before.before in
-    ap (λ (z : ℤ). answered (ClosingError z) i.insert-record.last.0 (p c).write-position.new.0) excess-back
+    let i : tie.After-insert_record = (p c).before.before.before.before in
+    ap (λ (z : ℤ). answered (ClosingError z) i.insert_record.new.cells (p c).write_position.new.cells) excess-back
     ∙ trade-returns-error (rs s) (ps s) s.args.id s.args.account s.args.series s.args.side s.args.quantity s.args.price
-    i.insert-record.last.0 (p c).write-position.new.0 (inserted i) (put (p c)) (sym (error (f c)) ∙ c.before.before.if2.true)
+    i.insert_record.new.cells (p c).write_position.new.cells (inserted i) (put (p c)) (sym (error (f c)) ∙ c.if-b-2.true)
 
-same-length-3 : tie.Need-same-length-3
+same-length-3 : tie.Need-shape_of-records-else-b-2
 same-length-3 c = search rules
 
-same-length-4 : tie.Need-same-length-4
+same-length-4 : tie.Need-shape_of-positions-else-b-2
 same-length-4 c = search rules
 
-returns-2 : tie.Need-returns-2
+returns-2 : tie.Need-returns-else-b-2
 returns-2 c =
-    let p : tie.After-write-position = c.before.before in
+    let p : tie.After-write_position = c.before.before in
     let s : tie.Start = s (e p.before.before) in
-    let i : tie.After-insert-record = p.before.before.before.before in
+    let i : tie.After-insert_record = p.before.before.before.before in
     trade-returns-plain (rs s) (ps s) s.args.id s.args.account s.args.series s.args.side s.args.quantity s.args.price
-    i.insert-record.new.0 p.write-position.new.0 (inserted i) (put p) (sym (error (e p.before.before)) ∙ c.if2.false)
+    i.insert_record.new.cells p.write_position.new.cells (inserted i) (put p) (sym (error (e p.before.before)) ∙ c.if-b-2.false)
 
-pub book-spec : {M : Type 1} → statement M
-book-spec =
+pub book_spec : {M : Type 1} → statement M
+book_spec =
     tie.close
     (tie.spec
     booking-of-requires

@@ -18,106 +18,106 @@ use Rattle.trade.proofs.booking_of.Statement.{statement}
 use Rattle.trade.proofs.booking_of.Tie as tie
 
 -- What is closed, opened and undone.
-module _ (c : tie.After-closed-by) where
+module _ (c : tie.After-closed_by-closed) where
   abbrev s : tie.Start
   s = c.before
 
-  closed : to_z w64 (of_z w64 c.closed-by.result) ≡ closed_by s.args.side s.args.quantity s.args.p
-  closed = to_z-of_z (sfits_of c.closed-by.type-inv) ∙ (simp (to_z-of_z s.fits.side, to_z-of_z s.fits.quantity) at c.closed-by.ensures)
+  closed : to_z w64 (of_z w64 c.closed_by-closed.result) ≡ closed_by s.args.side s.args.quantity s.args.p
+  closed = to_z-of_z {w = w64} (sfits_of c.closed_by-closed.type_inv) ∙ (simp (to_z-of_z s.ranges.side, to_z-of_z s.ranges.quantity) at c.closed_by-closed.ensures)
 
   quantity : to_z w64 (of_z w64 s.args.quantity) ≡ s.args.quantity
-  quantity = to_z-of_z s.fits.quantity
+  quantity = to_z-of_z s.ranges.quantity
 
   opened : SFits w64 (s.args.quantity -ℤ closed_by s.args.side s.args.quantity s.args.p)
-  opened = opened-fits s.args.side s.args.quantity s.args.p s.pre.0 s.pre.1
+  opened = opened-fits s.args.side s.args.quantity s.args.p s.requires.0 s.requires.1
 
   undone : SFits w64 (pos 0 -ℤ closed_by s.args.side s.args.quantity s.args.p)
-  undone = undone-fits s.args.side s.args.quantity s.args.p s.pre.0 s.pre.1
+  undone = undone-fits s.args.side s.args.quantity s.args.p s.requires.0 s.requires.1
 
 -- Whether there is a closing error.
-module _ (c : tie.Joined1) where
-  abbrev after : tie.After-closed-by
+module _ (c : tie.Joined-is_to_close) where
+  abbrev after : tie.After-closed_by-closed
   after = c.before.before
 
   abbrev t : tie.Start
   t = s after
 
-  to-close : c.before.is-to-close.result ≡ is_to_close t.args.side
-  to-close = simp (to_z-of_z t.fits.side) at c.before.is-to-close.ensures
+  to-close : c.is_to_close.result ≡ is_to_close t.args.side
+  to-close = simp (to_z-of_z t.ranges.side) at c.is_to_close.ensures
 
-  error : c.if1.error ≡ is_closing_error t.args.side t.args.quantity (closed_by t.args.side t.args.quantity t.args.p)
+  error : c.if-is_to_close.error ≡ is_closing_error t.args.side t.args.quantity (closed_by t.args.side t.args.quantity t.args.p)
   error =
       ⊎_elim
       (λ w. w.1 ∙ simp (closed after, quantity after) (error-close t.args.side t.args.quantity t.args.p (sym to-close ∙ w.0.taken)))
       (λ w. w.1 ∙ error-open t.args.side t.args.quantity t.args.p (sym to-close ∙ w.0.left))
-      c.if1.branch
+      c.if-is_to_close.branch
 
-buys : (c : tie.After-is-buy) → c.is-buy.result ≡ is_buy (t c.before).args.side
-buys c = simp (to_z-of_z (t c.before).fits.side) at c.is-buy.ensures
+buys : (c : tie.After-is_buy) → c.is_buy.result ≡ is_buy (t c.before).args.side
+buys c = simp (to_z-of_z (t c.before).ranges.side) at c.is_buy.ensures
 
-closed-by-requires : tie.Need-closed-by-requires
+closed-by-requires : tie.Need-closed_by-closed-requires
 closed-by-requires c κs = search rules
 
-sub-opened : tie.Need-overflow-sub-opened
+sub-opened : tie.Need-overflow_sub-opened
 sub-opened c = simp (closed c, quantity c) (opened c)
 
-sub-undone : tie.Need-overflow-sub-undone
+sub-undone : tie.Need-overflow_sub-undone
 sub-undone c = simp (closed c) (undone c)
 
-is-to-close-requires : tie.Need-is-to-close-requires
+is-to-close-requires : tie.Need-is_to_close-requires
 is-to-close-requires c κs = search rules
 
-is-buy-requires : tie.Need-is-buy-requires
+is-buy-requires : tie.Need-is_buy-requires
 is-buy-requires c κs = search rules
 
 -- The movement, by the side.
-module _ (j : tie.Joined1) where
+module _ (j : tie.Joined-is_to_close) where
   abbrev closed_of : ℤ
   closed_of = closed_by (t j).args.side (t j).args.quantity (t j).args.p
 
   abbrev moves : ℤ → ℤ → Movement
   moves long short = in_booked (t j).args.side (t j).args.quantity (t j).args.price long short
 
-bought : (c : tie.After-in-booked) → c.in-booked.result ≡ moves c.before.before.before ((t c.before.before.before).args.quantity -ℤ closed_of c.before.before.before) (pos 0 -ℤ closed_of c.before.before.before)
+bought : (c : tie.After-in_booked-movement) → c.in_booked-movement.result ≡ moves c.before.before.before ((t c.before.before.before).args.quantity -ℤ closed_of c.before.before.before) (pos 0 -ℤ closed_of c.before.before.before)
 bought c =
-    let j : tie.Joined1 = c.before.before.before in
+    let j : tie.Joined-is_to_close = c.before.before.before in
     simp (to_z-of_z (opened (after j)), to_z-of_z (undone (after j))) at
-    (simp (to_z-of_z (t j).ranges.side, closed (after j), quantity (after j), to_z-of_z (t j).ranges.price) at c.in-booked.ensures)
+    (simp (to_z-of_z (t j).ranges.side, closed (after j), quantity (after j), to_z-of_z (t j).ranges.price) at c.in_booked-movement.ensures)
 
-sold : (c : tie.After-in-booked2) → c.in-booked2.result ≡ moves c.before.before.before (pos 0 -ℤ closed_of c.before.before.before) ((t c.before.before.before).args.quantity -ℤ closed_of c.before.before.before)
+sold : (c : tie.After-in_booked-movement-else-is_buy) → c.in_booked-movement-else-is_buy.result ≡ moves c.before.before.before (pos 0 -ℤ closed_of c.before.before.before) ((t c.before.before.before).args.quantity -ℤ closed_of c.before.before.before)
 sold c =
-    let j : tie.Joined1 = c.before.before.before in
+    let j : tie.Joined-is_to_close = c.before.before.before in
     simp (to_z-of_z (opened (after j)), to_z-of_z (undone (after j))) at
-    (simp (to_z-of_z (t j).ranges.side, closed (after j), quantity (after j), to_z-of_z (t j).ranges.price) at c.in-booked2.ensures)
+    (simp (to_z-of_z (t j).ranges.side, closed (after j), quantity (after j), to_z-of_z (t j).ranges.price) at c.in_booked-movement-else-is_buy.ensures)
 
 -- The quantity and the price are in range.
-ready : (j : tie.Joined1) → (magnitude_at_most 1000000 (t j).args.quantity ≡ true) × (valid_price (t j).args.price ≡ true)
+ready : (j : tie.Joined-is_to_close) → (magnitude_at_most 1000000 (t j).args.quantity ≡ true) × (valid_price (t j).args.price ≡ true)
 ready j = (quantity-magnitude (t j).args.quantity (t j).requires.0, (t j).requires.2)
 
-in-booked-requires : tie.Need-in-booked-requires
+in-booked-requires : tie.Need-in_booked-movement-requires
 in-booked-requires c κs =
-    let j : tie.Joined1 = c.before.before in
+    let j : tie.Joined-is_to_close = c.before.before in
     simp (quantity (after j), to_z-of_z (t j).ranges.price) (ready j)
 
-in-booked-requires-2 : tie.Need-in-booked-requires-2
+in-booked-requires-2 : tie.Need-in_booked-movement-requires-else-is_buy
 in-booked-requires-2 c κs =
-    let j : tie.Joined1 = c.before.before in
+    let j : tie.Joined-is_to_close = c.before.before in
     simp (quantity (after j), to_z-of_z (t j).ranges.price) (ready j)
 
-returns : tie.Need-returns
+returns : tie.Need-returns-then-is_buy
 returns c =
-    let j : tie.Joined1 = c.before.before.before in
+    let j : tie.Joined-is_to_close = c.before.before.before in
     simp (closed (after j), bought c)
-    (booking-buy (t j).args.side (t j).args.quantity (t j).args.p (t j).args.price j.if1.error (error j) (sym (buys c.before.before) ∙ c.before.if2.true))
+    (booking-buy (t j).args.side (t j).args.quantity (t j).args.p (t j).args.price j.if-is_to_close.error (error j) (sym (buys c.before.before) ∙ c.if-is_buy.true))
 
-returns-2 : tie.Need-returns-2
+returns-2 : tie.Need-returns-else-is_buy
 returns-2 c =
-    let j : tie.Joined1 = c.before.before.before in
+    let j : tie.Joined-is_to_close = c.before.before.before in
     simp (closed (after j), sold c)
-    (booking-sell (t j).args.side (t j).args.quantity (t j).args.p (t j).args.price j.if1.error (error j) (sym (buys c.before.before) ∙ c.before.if2.false))
+    (booking-sell (t j).args.side (t j).args.quantity (t j).args.p (t j).args.price j.if-is_to_close.error (error j) (sym (buys c.before.before) ∙ c.if-is_buy.false))
 
-pub booking-of-spec : {M : Type 1} → statement M
-booking-of-spec =
+pub booking_of_spec : {M : Type 1} → statement M
+booking_of_spec =
     tie.close
     (tie.spec
     closed-by-requires

@@ -14,49 +14,49 @@ use Rattle.trade.proofs.TradeBooked.{opens, closes-all, closes-some, against-buy
 use Rattle.trade.proofs.closed_by.Statement.{statement}
 use Rattle.trade.proofs.closed_by.Tie as tie
 
-to-close : (c : tie.After-is-to-close) → c.is-to-close.result ≡ is_to_close c.before.args.side
-to-close c = simp (to_z-of_z c.before.ranges.side) at c.is-to-close.ensures
+to-close : (c : tie.After-is_to_close) → c.is_to_close.result ≡ is_to_close c.args.side
+to-close c = simp (to_z-of_z c.ranges.side) at c.is_to_close.ensures
 
 -- What is open against the trade.
-module _ (c : tie.Joined2) where
-  abbrev told : tie.After-struct-told
+module _ (c : tie.Joined-is_buy) where
+  abbrev told : tie.After-struct_told-1
   told = c.before.before
 
   abbrev s : tie.Start
   s = told.before.before.before
 
   closes : is_to_close s.args.side ≡ true
-  closes = passed (to-close told.before.before) told.before.if1.left
+  closes = passed (to-close told.before.before) told.if-not-is_to_close.false-raw
 
-  buys : c.before.is-buy.result ≡ is_buy s.args.side
-  buys = simp (to_z-of_z s.fits.side) at c.before.is-buy.ensures
+  buys : c.is_buy.result ≡ is_buy s.args.side
+  buys = simp (to_z-of_z s.ranges.side) at c.is_buy.ensures
 
-  against : to_z w64 c.if2.«open» ≡ open_against s.args.side s.args.p
+  against : to_z w64 c.if-is_buy.«open» ≡ open_against s.args.side s.args.p
   against =
       ⊎_elim
       (λ w. ap (to_z w64) w.2 ∙ read_back s.args.p.short w.1.given.1.1.1.0.1 ∙ against-buy s.args.side s.args.p (sym buys ∙ w.0.taken))
-      (λ w. ap (to_z w64) w.1 ∙ read_back s.args.p.long told.struct_told.given.1.1.0.1 ∙ against-sell s.args.side s.args.p (sym buys ∙ w.0.left))
-      c.if2.branch
+      (λ w. ap (to_z w64) w.1 ∙ read_back s.args.p.long told.struct_told-1.given.1.1.0.1 ∙ against-sell s.args.side s.args.p (sym buys ∙ w.0.left))
+      c.if-is_buy.branch
 
-is-to-close-requires : tie.Need-is-to-close-requires
+is-to-close-requires : tie.Need-is_to_close-requires
 is-to-close-requires c κs = search rules
 
-returns : tie.Need-returns
-returns c = opens _ _ _ (failed (to-close c.before) c.if1.true)
+returns : tie.Need-returns-then-not-is_to_close
+returns c = opens _ _ _ (failed (to-close c.before) c.if-not-is_to_close.true-raw)
 
-is-buy-requires : tie.Need-is-buy-requires
+is-buy-requires : tie.Need-is_buy-requires
 is-buy-requires c κs = search rules
 
-returns-2 : tie.Need-returns-2
+returns-2 : tie.Need-returns-then-quantity-open
 returns-2 c =
     let s : tie.Start = s c.before in
-    simp (to_z-of_z s.fits.quantity) (closes-all _ _ _ (closes c.before) (simp (to_z-of_z s.fits.quantity, against c.before) at c.if3.true))
+    simp (to_z-of_z s.ranges.quantity) (closes-all _ _ _ (closes c.before) (simp (to_z-of_z s.ranges.quantity, against c.before) at c.if-quantity-open.true))
 
-returns-3 : tie.Need-returns-3
+returns-3 : tie.Need-returns-else-quantity-open
 returns-3 c =
     let s : tie.Start = s c.before in
-    simp (against c.before) (closes-some _ _ _ (closes c.before) (simp (to_z-of_z s.fits.quantity, against c.before) at c.if3.false))
+    simp (against c.before) (closes-some _ _ _ (closes c.before) (simp (to_z-of_z s.ranges.quantity, against c.before) at c.if-quantity-open.false))
 
-pub closed-by-spec : {M : Type 1} → statement M
-closed-by-spec =
+pub closed_by_spec : {M : Type 1} → statement M
+closed_by_spec =
     tie.close (tie.spec is-to-close-requires returns is-buy-requires returns-2 returns-3)

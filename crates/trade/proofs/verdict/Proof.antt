@@ -33,76 +33,76 @@ module _ (s : tie.Start) where
   unfolding is_some
   at-14 =
       trade-tests s.args.records.now s.args.positions.now s.args.id s.args.account s.args.series s.args.side s.args.quantity s.args.price
-      past ap not s.pre.2
-      past ap is_some s.pre.3
+      past ap not s.requires.2
+      past ap is_some s.requires.3
 
 -- ---- test 14
 
-returns : tie.Need-returns
-returns c = stops (at-14 c.before.before) (sym c.before.lacks-records-room.ensures ∙ c.if1.true)
+returns : tie.Need-returns-then-lacks_records_room
+returns c = stops (at-14 c.before.before) (sym c.lacks_records_room.ensures ∙ c.if-lacks_records_room.true)
 
 -- ---- test 15
 
-module _ (c : tie.Else1) where
+module _ (c : tie.Else-lacks_records_room) where
   abbrev start15 : tie.Start
   start15 = c.before.before
 
   at-15 : From start15 15
-  at-15 = at-14 start15 past sym c.before.lacks-records-room.ensures ∙ c.if1.false
+  at-15 = at-14 start15 past sym c.lacks_records_room.ensures ∙ c.if-lacks_records_room.false
 
-absent : (c : tie.After-absent-row) → let a = (start15 c.before).args in c.absent-row.result ≡ absent_position a.positions.now a.account a.series
+absent : (c : tie.After-absent_row-absent) → let a = (start15 c.before).args in c.absent_row-absent.result ≡ absent_position a.positions.now a.account a.series
 absent c =
     let s : tie.Start = start15 c.before in
-    c.absent-row.ensures ∙ absent-is s.args.positions.now s.args.account s.args.series s.args.held.found s.pre.4.found-is
+    c.absent_row-absent.ensures ∙ absent-is s.args.positions.now s.args.account s.args.series s.args.held.found s.requires.4.found-is
 
-answer-15 : (c : tie.After-lacks-positions-room) → let a = (start15 c.before.before).args in
-    c.lacks-positions-room.result
+answer-15 : (c : tie.After-lacks_positions_room) → let a = (start15 c.before.before).args in
+    c.lacks_positions_room.result
     ≡ ltb (room_of positions_layout a.positions.now) (length (rows_of positions_layout a.positions.now) + absent_position a.positions.now a.account a.series)
-answer-15 c = simp (absent c.before) at c.lacks-positions-room.ensures
+answer-15 c = simp (absent c.before) at c.lacks_positions_room.ensures
 
-lacks-positions-room-requires : tie.Need-lacks-positions-room-requires
+lacks-positions-room-requires : tie.Need-lacks_positions_room-requires
 lacks-positions-room-requires c κs =
     let s : tie.Start = start15 c.before in
-    (s.pre.1, omega (arith, absent c, absent-at-most-one s.args.positions.now s.args.account s.args.series))
+    (s.requires.1, omega (arith, absent c, absent-at-most-one s.args.positions.now s.args.account s.args.series))
 
-returns-2 : tie.Need-returns-2
-returns-2 c = stops (at-15 c.before.before.before) (sym (answer-15 c.before) ∙ c.if2.true)
+returns-2 : tie.Need-returns-then-lacks_positions_room
+returns-2 c = stops (at-15 c.before.before.before) (sym (answer-15 c.before) ∙ c.if-lacks_positions_room.true)
 
 -- ---- test 16
 
-module _ (c : tie.Else2) where
+module _ (c : tie.Else-lacks_positions_room) where
   abbrev start16 : tie.Start
   start16 = start15 c.before.before.before
 
   at-16 : From start16 16
-  at-16 = at-15 c.before.before.before past sym (answer-15 c.before) ∙ c.if2.false
+  at-16 = at-15 c.before.before.before past sym (answer-15 c.before) ∙ c.if-lacks_positions_room.false
 
-answer-16 : (c : tie.After-sound-position) → let a = (start16 c.before.before).args in
-    c.sound-position.result ≡ sound_position (trade_position a.positions.now a.account a.series a.side a.quantity a.price)
+answer-16 : (c : tie.After-sound_position) → let a = (start16 c.before.before.before).args in
+    c.sound_position.result ≡ sound_position (trade_position a.positions.now a.account a.series a.side a.quantity a.price)
 answer-16 c =
-    let s : tie.Start = start16 c.before.before in
-    let left : c.before.position-after.result ≡ trade_position s.args.positions.now s.args.account s.args.series s.args.side s.args.quantity s.args.price
-    = (simp (to_z-of_z s.fits.side, to_z-of_z s.fits.quantity, to_z-of_z s.fits.price) at c.before.position-after.ensures)
-    ∙ after_is s.args.positions.now s.args.account s.args.series s.args.side s.args.quantity s.args.price s.args.held.position s.pre.4.read_is in
-    c.sound-position.ensures ∙ ap sound_position left
+    let s : tie.Start = start16 c.before.before.before in
+    let left : c.position_after-left.result ≡ trade_position s.args.positions.now s.args.account s.args.series s.args.side s.args.quantity s.args.price
+    = (simp (to_z-of_z s.ranges.side, to_z-of_z s.ranges.quantity, to_z-of_z s.ranges.price) at c.position_after-left.ensures)
+    ∙ after_is s.args.positions.now s.args.account s.args.series s.args.side s.args.quantity s.args.price s.args.held.position s.requires.4.read_is in
+    c.sound_position.ensures ∙ ap sound_position left
 
-position-after-requires : tie.Need-position-after-requires
+position-after-requires : tie.Need-position_after-left-requires
 position-after-requires c κs =
-    let s : tie.Start = start16 c in
-    simp (to_z-of_z s.fits.quantity, to_z-of_z s.fits.price) (
-      figures-quantity s.args.id s.args.account s.args.series s.args.side s.args.quantity s.args.price s.pre.2,
-      ap sound_position s.pre.4.read_is ∙ position-read-sound s.args.positions.now s.pre.1 s.args.account s.args.series,
-      figures-price s.args.id s.args.account s.args.series s.args.side s.args.quantity s.args.price s.pre.2,
+    let s : tie.Start = start16 c.before in
+    simp (to_z-of_z s.ranges.quantity, to_z-of_z s.ranges.price) (
+      figures-quantity s.args.id s.args.account s.args.series s.args.side s.args.quantity s.args.price s.requires.2,
+      ap sound_position s.requires.4.read_is ∙ position-read-sound s.args.positions.now s.requires.1 s.args.account s.args.series,
+      figures-price s.args.id s.args.account s.args.series s.args.side s.args.quantity s.args.price s.requires.2,
     )
 
-returns-3 : tie.Need-returns-3
-returns-3 c = stops (at-16 c.before.before.before) (ap not (failed (answer-16 c.before) c.if3.true))
+returns-3 : tie.Need-returns-then-not-sound_position
+returns-3 c = stops (at-16 c.before.before.before.before) (ap not (failed (answer-16 c.before) c.if-not-sound_position.true-raw))
 
-returns-4 : tie.Need-returns-4
-returns-4 c = ends (at-16 c.before.before.before past ap not (passed (answer-16 c.before) c.if3.false))
+returns-4 : tie.Need-returns
+returns-4 c = ends (at-16 c.before.before.before.before past ap not (passed (answer-16 c.before) c.if-not-sound_position.false-raw))
 
-pub verdict-spec : {M : Type 1} → statement M
-verdict-spec =
+pub verdict_spec : {M : Type 1} → statement M
+verdict_spec =
     tie.close
     (tie.spec
     (λ c κs. (record-rows-sound c.args.records.now c.requires.0, omega arith))

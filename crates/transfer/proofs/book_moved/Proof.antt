@@ -78,19 +78,19 @@ module _ (s : tie.Start) where
   reached = moving_new ps r to series
 
   found : FoundRecord id suffix r
-  found = found-record rs (record-rows-sound rs s.pre.records-sound) id suffix r s.pre.record-known.found
+  found = found-record rs (record-rows-sound rs s.requires.records-sound) id suffix r s.requires.record-known.found
 
   may : Movable rs ps id suffix from to series leaving arriving r
   may = record {
-    records-sound = s.pre.records-sound;
-    positions-sound = s.pre.positions-sound;
-    named = s.pre.record-known.found;
-    not-inverse = s.pre.not-inverse;
-    accounts-differ = s.pre.accounts-differ;
-    to-valid = s.pre.to-valid;
-    inverse-kind = s.pre.inverse-kind;
-    new-kind = s.pre.new-kind;
-    accepted = s.pre.accepted;
+    records-sound = s.requires.records-sound;
+    positions-sound = s.requires.positions-sound;
+    named = s.requires.record-known.found;
+    not-inverse = s.requires.not-inverse;
+    accounts-differ = s.requires.accounts-differ;
+    to-valid = s.requires.to-valid;
+    inverse-kind = s.requires.inverse-kind;
+    new-kind = s.requires.new-kind;
+    accepted = s.requires.accepted;
   }
 
   -- ---- the records
@@ -104,29 +104,29 @@ module _ (s : tie.Start) where
   adjusts : AdjustReady rs id suffix s.args.named (moving_inverse leaving (current_day rs) r next) (moving_arrived arriving (current_day rs) r next to) (r.quantity ∷ [])
   unfolding inverse_record adjustable_record
   adjusts = record {
-    sound = record-rows-sound rs s.pre.records-sound;
-    known = s.pre.record-known;
+    sound = record-rows-sound rs s.requires.records-sound;
+    known = s.requires.record-known;
     adjusted-sound = moving-adjusted rs ps id suffix from to series leaving arriving r may;
-    inverse-key = λ i. key_of (found.id-is i) (sym s.pre.record-known.next-is i);
-    first_key = λ i. key_of (found.id-is i) (sym s.pre.record-known.next-is i +ℤ pos 1);
+    inverse-key = λ i. key_of (found.id-is i) (sym s.requires.record-known.next-is i);
+    first_key = λ i. key_of (found.id-is i) (sym s.requires.record-known.next-is i +ℤ pos 1);
     room = (moving-ready rs ps id suffix from to series leaving arriving r may).records-room;
-    last-suffix = subst (λ (z : ℤ). (z +ℤ pos 1) ≤ℤ greatest_of_suffixes) (sym s.pre.record-known.next-is) suffixes.1;
+    last-suffix = subst (λ (z : ℤ). (z +ℤ pos 1) ≤ℤ greatest_of_suffixes) (sym s.requires.record-known.next-is) suffixes.1;
   }
 
   -- ---- the positions
 
   old-ready : sound_position s.args.old.position ≡ true
-  old-ready = ap sound_position s.pre.old-known.read_is ∙ position-read-sound ps s.pre.positions-sound from series
+  old-ready = ap sound_position s.requires.old-known.read_is ∙ position-read-sound ps s.requires.positions-sound from series
 
   new-ready : sound_position s.args.new.position ≡ true
-  new-ready = ap sound_position s.pre.new-known.read_is ∙ position-read-sound ps s.pre.positions-sound to series
+  new-ready = ap sound_position s.requires.new-known.read_is ∙ position-read-sound ps s.requires.positions-sound to series
 
   old-puts : PutReady ps left
   old-puts = moving-put-old rs ps id suffix from to series leaving arriving r may
 
   old-found : s.args.old.found ≡ found_in positions_layout (position_key left) ps
   unfolding moved
-  old-found = s.pre.old-known.found-is ∙ ap (λ (k : Key). found_in positions_layout k ps) (sym (read-key from series (rows_of positions_layout ps)))
+  old-found = s.requires.old-known.found-is ∙ ap (λ (k : Key). found_in positions_layout k ps) (sym (read-key from series (rows_of positions_layout ps)))
 
   -- Once the old account's row is written.
   module _ (ps₁ : List ℤ) (put : ps₁ ≡ put_one positions_layout position_key ps left) where
@@ -137,125 +137,125 @@ module _ (s : tie.Start) where
     unfolding moved
     new-found =
         let there = moving-old-there rs ps id suffix from to series leaving arriving r may in
-        s.pre.new-known.found-is
-        ∙ sym (found-kept positions_layout positions-lawful position_key positions-first sound_position ps (positions-known ps s.pre.positions-sound) left there.0 there.1 ps₁ put (key_of to series))
+        s.requires.new-known.found-is
+        ∙ sym (found-kept positions_layout positions-lawful position_key positions-first sound_position ps (positions-known ps s.requires.positions-sound) left there.0 there.1 ps₁ put (key_of to series))
         ∙ ap (λ (k : Key). found_in positions_layout k ps₁) (sym (read-key to series (rows_of positions_layout ps)))
 
 -- ---- what the calls give
 
-module _ (c : tie.After-inverse-row) where
+module _ (c : tie.After-inverse_row-inverse) where
   abbrev start : tie.Start
-  start = c.before.before.before.before.before
+  start = c.before.before.before.before
 
-  today-is : to_z w64 (of_z w64 c.before.today.result) ≡ current_day (rs start)
-  today-is = read_back c.before.today.result c.before.today.ok ∙ c.before.today.ensures
+  today-is : to_z w64 (of_z w64 c.today-today.result) ≡ current_day (rs start)
+  today-is = read_back c.today-today.result c.today-today.type_inv ∙ c.today-today.ensures
 
   next-is : to_z w64 (of_z w64 start.args.named.next) ≡ next start
-  next-is = read_back start.args.named.next c.before.before.before.struct_told.given.1.1.0.1 ∙ start.pre.record-known.next-is
+  next-is = read_back start.args.named.next c.struct_told-1.given.1.1.0.1 ∙ start.requires.record-known.next-is
 
-  inverse-is : c.inverse-row.result ≡ moving_inverse (leaving start) (current_day (rs start)) (r start) (next start)
-  inverse-is = simp (today-is, next-is, to_z-of_z start.fits.leaving) at c.inverse-row.ensures
+  inverse-is : c.inverse_row-inverse.result ≡ moving_inverse (leaving start) (current_day (rs start)) (r start) (next start)
+  inverse-is = simp (today-is, next-is, to_z-of_z start.ranges.leaving) at c.inverse_row-inverse.ensures
 
-module _ (c : tie.After-arrived-row) where
+module _ (c : tie.After-arrived_row-arrived) where
   abbrev start2 : tie.Start
   start2 = start c.before
 
   last-is : to_z w64 (of_z w64 (to_z w64 (of_z w64 start2.args.named.next) +ℤ pos 1)) ≡ (next start2 +ℤ pos 1)
   last-is = ap (λ (z : ℤ). to_z w64 (of_z w64 (z +ℤ pos 1))) (next-is c.before) ∙ to_z-of_z (next_fits start2)
 
-  arrived-is : c.arrived-row.result ≡ moving_arrived (arriving start2) (current_day (rs start2)) (r start2) (next start2) (to start2)
-  arrived-is = simp (today-is c.before, last-is, to_z-of_z start2.fits.to, to_z-of_z start2.fits.arriving) at c.arrived-row.ensures
+  arrived-is : c.arrived_row-arrived.result ≡ moving_arrived (arriving start2) (current_day (rs start2)) (r start2) (next start2) (to start2)
+  arrived-is = simp (today-is c.before, last-is, to_z-of_z start2.ranges.to, to_z-of_z start2.ranges.arriving) at c.arrived_row-arrived.ensures
 
 -- The one quantity of the rows that come out of the record.
-quantity-is : (c : tie.After-struct-told2) → to_z w64 (of_z w64 (r (start2 c.before)).quantity) ≡ (r (start2 c.before)).quantity
-quantity-is c = read_back (r (start2 c.before)).quantity c.struct-told2.given.1.1.1.1.1.1.1.1.0.1
+quantity-is : (c : tie.After-struct_told-2-1) → to_z w64 (of_z w64 (r (start2 c.before)).quantity) ≡ (r (start2 c.before)).quantity
+quantity-is c = read_back (r (start2 c.before)).quantity c.struct_told-2-1.given.1.1.1.1.1.1.1.1.0.1
 
-module _ (c : tie.After-adjust-named) where
-  abbrev at-quantity : tie.After-struct-told2
+module _ (c : tie.After-adjust_named) where
+  abbrev at-quantity : tie.After-struct_told-2-1
   at-quantity = c.before.before.before
 
   abbrev start3 : tie.Start
   start3 = start2 at-quantity.before
 
-  records-put : c.adjust-named.last.0 ≡ put_all records_layout record_key (rs start3) (moving_rows (leaving start3) (arriving start3) (current_day (rs start3)) (r start3) (next start3) (to start3))
+  records-put : c.adjust_named.new.records ≡ put_all records_layout record_key (rs start3) (moving_rows (leaving start3) (arriving start3) (current_day (rs start3)) (r start3) (next start3) (to start3))
   unfolding rows_like adjustable_record
-  records-put = simp (inverse-is at-quantity.before.before, arrived-is at-quantity.before, quantity-is at-quantity) at c.adjust-named.ensures
+  records-put = simp (inverse-is at-quantity.before.before, arrived-is at-quantity.before, quantity-is at-quantity) at c.adjust_named.ensures
 
-module _ (c : tie.After-taken-from) where
+module _ (c : tie.After-taken_from) where
   abbrev start4 : tie.Start
-  start4 = start3 c.before.before.before
+  start4 = start3 c.before.before.before.before
 
-  taken_is : c.taken-from.result ≡ left start4
-  taken_is = c.taken-from.ensures ∙ ap (λ (p : Position). moved p (in_side (r start4).side (neg_ℤ (r start4).quantity) (r start4).price)) start4.pre.old-known.read_is
+  taken_is : c.taken_from.result ≡ left start4
+  taken_is = c.taken_from.ensures ∙ ap (λ (p : Position). moved p (in_side (r start4).side (neg_ℤ (r start4).quantity) (r start4).price)) start4.requires.old-known.read_is
 
-module _ (c : tie.After-write-position) where
+module _ (c : tie.After-write_position) where
   abbrev start5 : tie.Start
   start5 = start4 c.before
 
-  old-put : c.write-position.last.0 ≡ put_one positions_layout position_key (ps start5) (left start5)
-  old-put = rw (taken_is c.before) at c.write-position.ensures.0
+  old-put : c.write_position.new.cells ≡ put_one positions_layout position_key (ps start5) (left start5)
+  old-put = rw (taken_is c.before) at c.write_position.ensures.0
 
-module _ (c : tie.After-given-to) where
-  abbrev put : tie.After-write-position
-  put = c.before.before.before
+module _ (c : tie.After-given_to) where
+  abbrev put : tie.After-write_position
+  put = c.before.before.before.before
 
   abbrev start6 : tie.Start
   start6 = start5 put
 
   given_is : c.given_to.result ≡ reached start6
-  given_is = c.given_to.ensures ∙ ap (λ (p : Position). moved p (in_side (r start6).side (r start6).quantity (r start6).price)) start6.pre.new-known.read_is
+  given_is = c.given_to.ensures ∙ ap (λ (p : Position). moved p (in_side (r start6).side (r start6).quantity (r start6).price)) start6.requires.new-known.read_is
 
 -- ---- what the calls require
 
-inverse-row-requires : tie.Need-inverse-row-requires
-inverse-row-requires c κs = (found c.before.before.before.before).quantity-small
+inverse-row-requires : tie.Need-inverse_row-inverse-requires
+inverse-row-requires c κs = (found c.before.before.before).quantity-small
 
-today-requires : tie.Need-today-requires
-today-requires c κs = let s : tie.Start = c.before.before.before in record-rows-sound (rs s) s.pre.records-sound
+today-requires : tie.Need-today-today-requires
+today-requires c κs = let s : tie.Start = c.before.before in record-rows-sound (rs s) s.requires.records-sound
 
-add-arrived-row : tie.Need-add-arrived-row
+add-arrived-row : tie.Need-overflow_add-next
 add-arrived-row c = rw (next-is c) (next_fits (start c))
 
-adjust-named-requires : tie.Need-adjust-named-requires
+adjust-named-requires : tie.Need-adjust_named-requires
 adjust-named-requires c κs =
-    let q : tie.After-struct-told2 = c.before.before in
+    let q : tie.After-struct_told-2-1 = c.before.before in
     let s : tie.Start = start2 q.before in
-    simp (to_z-of_z s.fits.id, to_z-of_z s.fits.suffix, inverse-is q.before.before, arrived-is q.before, quantity-is q) (adjusts s)
+    simp (to_z-of_z s.ranges.id, to_z-of_z s.ranges.suffix, inverse-is q.before.before, arrived-is q.before, quantity-is q) (adjusts s)
 
-taken-from-requires : tie.Need-taken-from-requires
+taken-from-requires : tie.Need-taken_from-requires
 taken-from-requires c κs =
-    let s : tie.Start = start3 c.before.before in
+    let s : tie.Start = start3 c.before.before.before in
     (old-ready s, (found s).quantity-small, (found s).sound.price)
 
-write-position-requires : tie.Need-write-position-requires
+write-position-requires : tie.Need-write_position-requires
 write-position-requires c κs =
     let p : PutReady (ps (start4 c)) (left (start4 c)) = old-puts (start4 c) in
     rw (taken_is c) (p.0, p.1, p.2, old-found (start4 c))
 
-given-to-requires : tie.Need-given-to-requires
+given-to-requires : tie.Need-given_to-requires
 given-to-requires c κs =
-    let s : tie.Start = start5 c.before.before in
+    let s : tie.Start = start5 c.before.before.before in
     (new-ready s, (found s).quantity-small, (found s).sound.price)
 
-write-position-requires-2 : tie.Need-write-position-requires-2
+write-position-requires-2 : tie.Need-write_position-requires-2
 write-position-requires-2 c κs =
-    let w : tie.After-write-position = put c in
+    let w : tie.After-write_position = put c in
     let s : tie.Start = start6 c in
-    let p : PutReady w.write-position.last.0 (reached s) = new-puts s w.write-position.last.0 (old-put w) w.write-position.ensures.1 in
-    rw (given_is c) (p.0, p.1, p.2, new-found s w.write-position.last.0 (old-put w))
+    let p : PutReady w.write_position.new.cells (reached s) = new-puts s w.write_position.new.cells (old-put w) w.write_position.ensures.1 in
+    rw (given_is c) (p.0, p.1, p.2, new-found s w.write_position.new.cells (old-put w))
 
 returns : tie.Need-returns
 returns c =
-    let g : tie.After-given-to = c.before.before in
+    let g : tie.After-given_to = c.before.before in
     let s : tie.Start = start6 g in
-    let a : tie.After-adjust-named = (put g).before.before.before.before in (
+    let a : tie.After-adjust_named = (put g).before.before.before.before.before in (
       records-put a,
       moving-returns (rs s) (ps s) (id s) (suffix s) (from s) (to s) (series s) (leaving s) (arriving s) (r s) (may s)
-          (put g).write-position.last.0 c.before.write-position2.last.0 (old-put (put g)) (rw (given_is g) at c.before.write-position2.ensures.0),
+          (put g).write_position.new.cells c.write_position-2.new.cells (old-put (put g)) (rw (given_is g) at c.write_position-2.ensures.0),
     )
 
-pub book-moved-spec : {M : Type 1} → statement M
-book-moved-spec =
+pub book_moved_spec : {M : Type 1} → statement M
+book_moved_spec =
     tie.close
     (tie.spec
     today-requires

@@ -35,93 +35,93 @@ module _ (s : tie.Start) where
   all-remain = record { is = refl }
 
 -- id
-answer1 : (c : tie.After-valid-id) → c.valid-id.result ≡ valid_id c.before.args.id
-answer1 c = simp (to_z-of_z c.before.ranges.id) at c.valid-id.ensures
+answer1 : (c : tie.After-valid_id) → c.valid_id.result ≡ valid_id c.args.id
+answer1 c = simp (to_z-of_z c.ranges.id) at c.valid_id.ensures
 
-abbrev start1 : tie.Else1 → tie.Start
+abbrev start1 : tie.Else-not-valid_id → tie.Start
 start1 c = c.before.before
 
-after1 : (c : tie.Else1) → After (start1 c) 1
-after1 c = goes_on (all-remain c.before.before) (answer1 c.before) c.if1.false
+after1 : (c : tie.Else-not-valid_id) → After (start1 c) 1
+after1 c = goes_on (all-remain c.before.before) (answer1 c.before) c.if-not-valid_id.false-raw
 
-valid-id-requires : tie.Need-valid-id-requires
+valid-id-requires : tie.Need-valid_id-requires
 valid-id-requires c κs = search rules
 
-returns : tie.Need-returns
-returns c = stops (all-remain c.before.before) (answer1 c.before) c.if1.true
+returns : tie.Need-returns-then-not-valid_id
+returns c = stops (all-remain c.before.before) (answer1 c.before) c.if-not-valid_id.true-raw
 
 -- suffix
-answer2 : (c : tie.After-valid-suffix) → c.valid-suffix.result ≡ valid_suffix (start1 c.before).args.suffix
-answer2 c = simp (to_z-of_z (start1 c.before).ranges.suffix) at c.valid-suffix.ensures
+answer2 : (c : tie.After-valid_suffix) → c.valid_suffix.result ≡ valid_suffix (start1 c.before).args.suffix
+answer2 c = simp (to_z-of_z (start1 c.before).ranges.suffix) at c.valid_suffix.ensures
 
-abbrev start2 : tie.Else2 → tie.Start
+abbrev start2 : tie.Else-not-valid_suffix → tie.Start
 start2 c = start1 c.before.before
 
-after2 : (c : tie.Else2) → After (start2 c) 2
-after2 c = goes_on (after1 c.before.before) (answer2 c.before) c.if2.false
+after2 : (c : tie.Else-not-valid_suffix) → After (start2 c) 2
+after2 c = goes_on (after1 c.before.before) (answer2 c.before) c.if-not-valid_suffix.false-raw
 
-valid-suffix-requires : tie.Need-valid-suffix-requires
+valid-suffix-requires : tie.Need-valid_suffix-requires
 valid-suffix-requires c κs = search rules
 
-returns-2 : tie.Need-returns-2
-returns-2 c = stops (after1 c.before.before) (answer2 c.before) c.if2.true
+returns-2 : tie.Need-returns-then-not-valid_suffix
+returns-2 c = stops (after1 c.before.before) (answer2 c.before) c.if-not-valid_suffix.true-raw
 
 -- from
-answer3 : (c : tie.After-valid-account) → c.valid-account.result ≡ valid_account (start2 c.before).args.from
-answer3 c = simp (to_z-of_z (start2 c.before).ranges.from) at c.valid-account.ensures
+answer3 : (c : tie.After-valid_account) → c.valid_account.result ≡ valid_account (start2 c.before).args.from
+answer3 c = simp (to_z-of_z (start2 c.before).ranges.from) at c.valid_account.ensures
 
-abbrev start3 : tie.Else3 → tie.Start
+abbrev start3 : tie.Else-not-valid_account → tie.Start
 start3 c = start2 c.before.before
 
-after3 : (c : tie.Else3) → After (start3 c) 3
-after3 c = goes_on (after2 c.before.before) (answer3 c.before) c.if3.false
+after3 : (c : tie.Else-not-valid_account) → After (start3 c) 3
+after3 c = goes_on (after2 c.before.before) (answer3 c.before) c.if-not-valid_account.false-raw
 
-valid-account-requires : tie.Need-valid-account-requires
+valid-account-requires : tie.Need-valid_account-requires
 valid-account-requires c κs = search rules
 
-returns-3 : tie.Need-returns-3
-returns-3 c = stops (after2 c.before.before) (answer3 c.before) c.if3.true
+returns-3 : tie.Need-returns-then-not-valid_account
+returns-3 c = stops (after2 c.before.before) (answer3 c.before) c.if-not-valid_account.true-raw
 
 -- to
-answer4 : (c : tie.After-valid-account2) → c.valid-account2.result ≡ valid_account (start3 c.before).args.to
-answer4 c = simp (to_z-of_z (start3 c.before).ranges.to) at c.valid-account2.ensures
+answer4 : (c : tie.After-valid_account-2) → c.valid_account-2.result ≡ valid_account (start3 c.before).args.to
+answer4 c = simp (to_z-of_z (start3 c.before).ranges.to) at c.valid_account-2.ensures
 
-abbrev start4 : tie.Else4 → tie.Start
+abbrev start4 : tie.Else-not-valid_account-2 → tie.Start
 start4 c = start3 c.before.before
 
-after4 : (c : tie.Else4) → After (start4 c) 4
-after4 c = goes_on (after3 c.before.before) (answer4 c.before) c.if4.false
+after4 : (c : tie.Else-not-valid_account-2) → After (start4 c) 4
+after4 c = goes_on (after3 c.before.before) (answer4 c.before) c.if-not-valid_account-2.false-raw
 
-valid-account-requires-2 : tie.Need-valid-account-requires-2
+valid-account-requires-2 : tie.Need-valid_account-requires-2
 valid-account-requires-2 c κs = search rules
 
-returns-4 : tie.Need-returns-4
-returns-4 c = stops (after3 c.before.before) (answer4 c.before) c.if4.true
+returns-4 : tie.Need-returns-then-not-valid_account-2
+returns-4 c = stops (after3 c.before.before) (answer4 c.before) c.if-not-valid_account-2.true-raw
 
 -- series
-answer5 : (c : tie.After-valid-series) → c.valid-series.result ≡ valid_series (start4 c.before).args.series
-answer5 c = simp (to_z-of_z (start4 c.before).ranges.series) at c.valid-series.ensures
+answer5 : (c : tie.After-valid_series) → c.valid_series.result ≡ valid_series (start4 c.before).args.series
+answer5 c = simp (to_z-of_z (start4 c.before).ranges.series) at c.valid_series.ensures
 
-abbrev start5 : tie.Else5 → tie.Start
+abbrev start5 : tie.Else-not-valid_series → tie.Start
 start5 c = start4 c.before.before
 
-after5 : (c : tie.Else5) → After (start5 c) 5
-after5 c = goes_on (after4 c.before.before) (answer5 c.before) c.if5.false
+after5 : (c : tie.Else-not-valid_series) → After (start5 c) 5
+after5 c = goes_on (after4 c.before.before) (answer5 c.before) c.if-not-valid_series.false-raw
 
-valid-series-requires : tie.Need-valid-series-requires
+valid-series-requires : tie.Need-valid_series-requires
 valid-series-requires c κs = search rules
 
-returns-5 : tie.Need-returns-5
-returns-5 c = stops (after4 c.before.before) (answer5 c.before) c.if5.true
+returns-5 : tie.Need-returns-then-not-valid_series
+returns-5 c = stops (after4 c.before.before) (answer5 c.before) c.if-not-valid_series.true-raw
 
 -- two accounts
-returns-6 : tie.Need-returns-6
+returns-6 : tie.Need-returns
 returns-6 c =
     let s : tie.Start = start5 c in
-    ends (after5 c) (ap not (eqb-of_z s.fits.from s.fits.to))
+    ends (after5 c) (ap not (eqb-of_z s.ranges.from s.ranges.to))
 
-pub figures-valid-spec : {M : Type 1} → statement M
-figures-valid-spec =
+pub figures_valid_spec : {M : Type 1} → statement M
+figures_valid_spec =
     tie.close
     (tie.spec
     valid-id-requires

@@ -9,13 +9,13 @@ shifted-requires c κs = search rules
 
 returns : tie.Need-returns
 returns c =
-    let r = c.before.before.before.before.args.r in
-    let known = c.before.struct-told3.given in
+    let r = c.args.r in
+    let known = c.struct_told-3-1.given in
     simp (
       read_back r.side known.1.1.1.1.1.1.1.0.1,
       read_back r.quantity known.1.1.1.1.1.1.1.1.0.1,
       read_back r.price known.1.1.1.1.1.1.1.1.1.0.1,
     ) at c.shifted.ensures
 
-pub given-to-spec : {M : Type 1} → statement M
-given-to-spec = tie.close (tie.spec shifted-requires returns)
+pub given_to_spec : {M : Type 1} → statement M
+given_to_spec = tie.close (tie.spec shifted-requires returns)

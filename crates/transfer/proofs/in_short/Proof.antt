@@ -7,18 +7,18 @@ use Rattle.transfer.proofs.BySide.{short-bought, short-sold}
 use Rattle.transfer.proofs.in_short.Statement.{statement}
 use Rattle.transfer.proofs.in_short.Tie as tie
 
-answer : (c : tie.After-is-buy) → c.is-buy.result ≡ is_buy c.before.args.side
-answer c = simp (to_z-of_z c.before.ranges.side) at c.is-buy.ensures
+answer : (c : tie.After-is_buy) → c.is_buy.result ≡ is_buy c.args.side
+answer c = simp (to_z-of_z c.ranges.side) at c.is_buy.ensures
 
-returns : tie.Need-returns
+returns : tie.Need-returns-then-is_buy
 returns c =
     let s : tie.Start = c.before.before in
-    short-bought s.args.side s.args.amount (sym (answer c.before) ∙ c.if1.true)
+    short-bought s.args.side s.args.amount (sym (answer c.before) ∙ c.if-is_buy.true)
 
-returns-2 : tie.Need-returns-2
+returns-2 : tie.Need-returns-else-is_buy
 returns-2 c =
     let s : tie.Start = c.before.before in
-    simp (to_z-of_z s.ranges.amount) (short-sold s.args.side s.args.amount (sym (answer c.before) ∙ c.if1.false))
+    simp (to_z-of_z s.ranges.amount) (short-sold s.args.side s.args.amount (sym (answer c.before) ∙ c.if-is_buy.false))
 
-pub in-short-spec : {M : Type 1} → statement M
-in-short-spec = tie.close (tie.spec (λ c κs. search rules) returns returns-2)
+pub in_short_spec : {M : Type 1} → statement M
+in_short_spec = tie.close (tie.spec (λ c κs. search rules) returns returns-2)

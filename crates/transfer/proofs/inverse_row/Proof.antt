@@ -12,8 +12,8 @@ use Rattle.transfer.proofs.Negated.{negated_fits, negated}
 use Rattle.transfer.proofs.inverse_row.Statement.{statement}
 use Rattle.transfer.proofs.inverse_row.Tie as tie
 
-module _ (c : tie.After-in-short) where
-  abbrev long-read : tie.After-in-long
+module _ (c : tie.After-in_short-short) where
+  abbrev long-read : tie.After-in_long-long
   long-read = c.before.before
 
   abbrev s : tie.Start
@@ -22,27 +22,27 @@ module _ (c : tie.After-in-short) where
   abbrev r : Record
   r = s.args.r
 
-  long-is : to_z w64 (of_z w64 long-read.in-long.result) ≡ in_long r.side (neg_ℤ r.quantity)
+  long-is : to_z w64 (of_z w64 long-read.in_long-long.result) ≡ in_long r.side (neg_ℤ r.quantity)
   long-is =
-      let known = long-read.before.struct-told2.given in
-      to_z-of_z (sfits_of long-read.in-long.ok)
-      ∙ (simp (read_back r.side known.1.1.1.1.1.1.1.0.1) at (rw (negated r.quantity s.pre known.1.1.1.1.1.1.1.1.0.1) at long-read.in-long.ensures))
+      let known = long-read.struct_told-2-1.given in
+      to_z-of_z {w = w64} (sfits_of long-read.in_long-long.type_inv)
+      ∙ (simp (read_back r.side known.1.1.1.1.1.1.1.0.1) at (rw (negated r.quantity s.requires known.1.1.1.1.1.1.1.1.0.1) at long-read.in_long-long.ensures))
 
-  short-is : to_z w64 (of_z w64 c.in-short.result) ≡ in_short r.side (neg_ℤ r.quantity)
+  short-is : to_z w64 (of_z w64 c.in_short-short.result) ≡ in_short r.side (neg_ℤ r.quantity)
   short-is =
-      let known = c.before.struct-told3.given in
-      to_z-of_z (sfits_of c.in-short.type-inv)
-      ∙ (simp (read_back r.side known.1.1.1.1.1.1.1.0.1) at (rw (negated r.quantity s.pre known.1.1.1.1.1.1.1.1.0.1) at c.in-short.ensures))
+      let known = c.struct_told-3-1.given in
+      to_z-of_z {w = w64} (sfits_of c.in_short-short.type_inv)
+      ∙ (simp (read_back r.side known.1.1.1.1.1.1.1.0.1) at (rw (negated r.quantity s.requires known.1.1.1.1.1.1.1.1.0.1) at c.in_short-short.ensures))
 
-sub-left : tie.Need-overflow-sub-left
+sub-left : tie.Need-overflow_sub-left
 sub-left c =
     let s : tie.Start = c.before.before in
-    simp (read_back s.args.r.quantity c.struct_told.given.1.1.1.1.1.1.1.1.0.1) (negated_fits s.args.r.quantity s.requires)
+    simp (read_back s.args.r.quantity c.struct_told-1.given.1.1.1.1.1.1.1.1.0.1) (negated_fits s.args.r.quantity s.requires)
 
 returns : tie.Need-returns
 returns c =
     let s : tie.Start = s c.before in
-    simp (to_z-of_z s.fits.today, to_z-of_z s.fits.next, to_z-of_z s.fits.kind, long-is c.before, short-is c.before) at c.inverse-record.ensures
+    simp (to_z-of_z s.ranges.today, to_z-of_z s.ranges.next, to_z-of_z s.ranges.kind, long-is c.before, short-is c.before) at c.inverse_record.ensures
 
-pub inverse-row-spec : {M : Type 1} → statement M
-inverse-row-spec = tie.close (tie.spec sub-left (λ c κs. search rules) (λ c κs. search rules) (λ c κs. search rules) returns)
+pub inverse_row_spec : {M : Type 1} → statement M
+inverse_row_spec = tie.close (tie.spec sub-left (λ c κs. search rules) (λ c κs. search rules) (λ c κs. search rules) returns)

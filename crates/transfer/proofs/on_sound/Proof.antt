@@ -55,39 +55,39 @@ module _ (s : tie.Start) where
 
 -- ---- test 3
 
-answer-3 : (c : tie.After-figures-valid)
-    → c.figures-valid.result ≡ transfer_figures (id c.before) (suffix c.before) (from c.before) (to c.before) (series c.before)
+answer-3 : (c : tie.After-figures_valid)
+    → c.figures_valid.result ≡ transfer_figures (id c.before) (suffix c.before) (from c.before) (to c.before) (series c.before)
 answer-3 c =
     let s : tie.Start = c.before in
-    simp (to_z-of_z s.ranges.id, to_z-of_z s.ranges.suffix, to_z-of_z s.ranges.from, to_z-of_z s.ranges.to, to_z-of_z s.ranges.series) at c.figures-valid.ensures
+    simp (to_z-of_z s.ranges.id, to_z-of_z s.ranges.suffix, to_z-of_z s.ranges.from, to_z-of_z s.ranges.to, to_z-of_z s.ranges.series) at c.figures_valid.ensures
 
-returns : tie.Need-returns
+returns : tie.Need-returns-then-not-figures_valid
 returns c =
     let s : tie.Start = c.before.before in
     refused-soundly (rs s) (ps s) s.requires (asked s)
-    (stops (transfer-tests (rs s) (ps s) (id s) (suffix s) (from s) (to s) (series s) _ refl) (ap not (failed (answer-3 c.before) c.if1.true)))
+    (stops (transfer-tests (rs s) (ps s) (id s) (suffix s) (from s) (to s) (series s) _ refl) (ap not (failed (answer-3 c.before) c.if-not-figures_valid.true-raw)))
     (pos 3) (pos 0) refl
 
 -- ---- test 5
 
-module _ (c : tie.After-look-up) where
+module _ (c : tie.After-look_up) where
   abbrev start : tie.Start
-  start = c.before.before.before.before
+  start = c.before.before.before
 
   figures : transfer_figures (id start) (suffix start) (from start) (to start) (series start) ≡ true
-  figures = passed (answer-3 c.before.before.before) c.before.before.if1.false
+  figures = passed (answer-3 c.before.before) c.if-not-figures_valid.false-raw
 
   looked : c.look_up.result ≡ record_sought (rs start) (id start) (suffix start)
-  looked = simp (to_z-of_z start.fits.id, to_z-of_z start.fits.suffix) at c.look_up.ensures
+  looked = simp (to_z-of_z start.ranges.id, to_z-of_z start.ranges.suffix) at c.look_up.ensures
 
-returns-2 : tie.Need-returns-2
+returns-2 : tie.Need-returns-in_default
 unfolding is_some
 returns-2 c =
-    let l : tie.After-look-up = c.before.before in
+    let l : tie.After-look_up = c.before in
     let s : tie.Start = start l in
-    let lacks : AbsentAt records_layout record_key (rs s) (key_of (id s) (suffix s)) c.enum_told.given.0.0 c.enum_told.given.0.1.0 =
-    table-lacks records_layout record_key records-first (rs s) (key_of (id s) (suffix s)) _ _ (sym (looked l) ∙ c.enum_told.given.1) in
-    refused-soundly (rs s) (ps s) s.pre (asked s)
+    let lacks : AbsentAt records_layout record_key (rs s) (key_of (id s) (suffix s)) c.in_default.field-0 c.in_default.field-1 =
+    table-lacks records_layout record_key records-first (rs s) (key_of (id s) (suffix s)) _ _ (sym (looked l) ∙ c.in_default.is) in
+    refused-soundly (rs s) (ps s) s.requires (asked s)
     (stops
     (transfer-tests (rs s) (ps s) (id s) (suffix s) (from s) (to s) (series s) _ refl past ap not (figures l))
     (ap (λ (o : Option Record). not (is_some o)) lacks.absent))
@@ -95,84 +95,84 @@ returns-2 c =
 
 -- ---- what was looked up
 
-record-named-requires : tie.Need-record-named-requires
+record-named-requires : tie.Need-record_named-named-requires
 record-named-requires c κs =
-    let k : tie.After-known-told = c.before in
-    let l : tie.After-look-up = k.before.before.before in
+    let k : tie.In-Present = c in
+    let l : tie.After-look_up = k.before in
     let s : tie.Start = start l in
-    simp (to_z-of_z s.fits.id, to_z-of_z s.fits.suffix, read_back k.before.row.given.0.1.0 k.known-told.given.1.0.1)
-    (record-rows-sound (rs s) s.pre.0, sym (looked l) ∙ k.before.row.given.1)
+    simp (to_z-of_z s.ranges.id, to_z-of_z s.ranges.suffix, read_back k.in-Present.greatest k.in-Present.known_told-1-own.given.1.0.1)
+    (record-rows-sound (rs s) s.requires.0, sym (looked l) ∙ k.in-Present.is)
 
-module _ (c : tie.After-position-held2) where
-  abbrev at_named : tie.After-record-named
-  at_named = c.before.before.before.before
+module _ (c : tie.After-position_held-new) where
+  abbrev at_named : tie.After-record_named-named
+  at_named = c.before.before
 
-  abbrev found : tie.After-look-up
-  found = at_named.before.before.before.before.before
+  abbrev found : tie.After-look_up
+  found = at_named.before.before
 
   abbrev s : tie.Start
   s = start found
 
-  named : KnownRecord (rs s) (id s) (suffix s) at_named.record-named.result
-  named = simp (to_z-of_z s.fits.id, to_z-of_z s.fits.suffix) at at_named.record-named.ensures
+  named : KnownRecord (rs s) (id s) (suffix s) at_named.record_named-named.result
+  named = simp (to_z-of_z s.ranges.id, to_z-of_z s.ranges.suffix) at at_named.record_named-named.ensures
 
-  old : KnownPosition (ps s) (from s) (series s) c.before.before.position-held.result
-  old = simp (to_z-of_z s.fits.from, to_z-of_z s.fits.series) at c.before.before.position-held.ensures
+  old : KnownPosition (ps s) (from s) (series s) c.position_held-old.result
+  old = simp (to_z-of_z s.ranges.from, to_z-of_z s.ranges.series) at c.position_held-old.ensures
 
-  new : KnownPosition (ps s) (to s) (series s) c.position-held2.result
-  new = simp (to_z-of_z s.fits.to, to_z-of_z s.fits.series) at c.position-held2.ensures
+  new : KnownPosition (ps s) (to s) (series s) c.position_held-new.result
+  new = simp (to_z-of_z s.ranges.to, to_z-of_z s.ranges.series) at c.position_held-new.ensures
 
 -- ---- the verdict
 
 verdict-requires : tie.Need-verdict-requires
 verdict-requires c κs =
-    let h : tie.After-position-held2 = c.before.before in
+    let h : tie.After-position_held-new = c in
     let s : tie.Start = s h in
-    simp (to_z-of_z s.fits.id, to_z-of_z s.fits.suffix, to_z-of_z s.fits.from, to_z-of_z s.fits.to, to_z-of_z s.fits.series)
-    ((record-rows-sound (rs s) s.pre.0, s.pre.1), (figures (found h), named h, old h, new h))
+    simp (to_z-of_z s.ranges.id, to_z-of_z s.ranges.suffix, to_z-of_z s.ranges.from, to_z-of_z s.ranges.to, to_z-of_z s.ranges.series)
+    ((record-rows-sound (rs s) s.requires.0, s.requires.1), (figures (found h), named h, old h, new h))
 
 module _ (v : tie.After-verdict) where
-  abbrev held : tie.After-position-held2
-  held = v.before.before.before
+  abbrev held : tie.After-position_held-new
+  held = v.before
 
   judged : v.verdict.result ≡ verdict_on (rs (s held)) (ps (s held)) (asked (s held))
   judged =
       let s : tie.Start = s held in
-      simp (to_z-of_z s.fits.id, to_z-of_z s.fits.suffix, to_z-of_z s.fits.from, to_z-of_z s.fits.to, to_z-of_z s.fits.series) at v.verdict.ensures
+      simp (to_z-of_z s.ranges.id, to_z-of_z s.ranges.suffix, to_z-of_z s.ranges.from, to_z-of_z s.ranges.to, to_z-of_z s.ranges.series) at v.verdict.ensures
 
 book-requires : tie.Need-book-requires
 book-requires c κs =
-    let told : tie.After-enum-told2 = c.before.before in
-    let v : tie.After-verdict = told.before.before in
-    let h : tie.After-position-held2 = held v in
+    let told : tie.In-Accepted = c.before.before in
+    let v : tie.After-verdict = told.before in
+    let h : tie.After-position_held-new = held v in
     let s : tie.Start = s h in
-    simp (to_z-of_z s.fits.id, to_z-of_z s.fits.suffix, to_z-of_z s.fits.from, to_z-of_z s.fits.to, to_z-of_z s.fits.series)
-    ((s.pre.0, s.pre.1, sym (judged v) ∙ told.enum-told2.given.1), (named h, old h, new h))
+    simp (to_z-of_z s.ranges.id, to_z-of_z s.ranges.suffix, to_z-of_z s.ranges.from, to_z-of_z s.ranges.to, to_z-of_z s.ranges.series)
+    ((s.requires.0, s.requires.1, sym (judged v) ∙ told.in-Accepted.is), (named h, old h, new h))
 
-returns-3 : tie.Need-returns-3
+returns-3 : tie.Need-returns-in-Refused
 returns-3 c =
-    let v : tie.After-verdict = c.before.before.before in
-    let number : ℤ = c.before.number.given.0.0 in
-    let place : ℤ = c.before.number.given.0.1.0 in
-    simp (read_back number c.known-told2.given.0.1, read_back place c.known-told2.given.1.0.1)
-    (refused-soundly _ _ (s (held v)).pre (asked (s (held v))) (judged v) number place c.before.number.given.1)
+    let v : tie.After-verdict = c.before in
+    let number : ℤ = c.in-Refused.number in
+    let place : ℤ = c.in-Refused.place in
+    simp (read_back number c.in-Refused.known_told-in-Refused-1-own.given.0.1, read_back place c.in-Refused.known_told-in-Refused-1-own.given.1.0.1)
+    (refused-soundly _ _ (s (held v)).requires (asked (s (held v))) (judged v) number place c.in-Refused.is)
 
-returns-4 : tie.Need-returns-4
+returns-4 : tie.Need-returns-in-Accepted
 returns-4 c =
-    let told : tie.After-enum-told2 = c.before.before.before.before.before in
-    let v : tie.After-verdict = told.before.before in
+    let told : tie.In-Accepted = c.before.before.before.before.before in
+    let v : tie.After-verdict = told.before in
     let s : tie.Start = s (held v) in
-    booked-soundly _ _ s.pre (asked s) (judged v) told.enum-told2.given.1 _
-    (simp (to_z-of_z s.fits.id, to_z-of_z s.fits.suffix, to_z-of_z s.fits.from, to_z-of_z s.fits.to, to_z-of_z s.fits.series)
-    at c.before.before.book.ensures)
+    booked-soundly _ _ s.requires (asked s) (judged v) told.in-Accepted.is _
+    (simp (to_z-of_z s.ranges.id, to_z-of_z s.ranges.suffix, to_z-of_z s.ranges.from, to_z-of_z s.ranges.to, to_z-of_z s.ranges.series)
+    at c.book.ensures)
 
-pub on-sound-spec : {M : Type 1} → statement M
-on-sound-spec =
+pub on_sound_spec : {M : Type 1} → statement M
+on_sound_spec =
     tie.close
     (tie.spec
     (λ c κs. search rules)
     returns
-    (λ c κs. let s : tie.Start = c.before.before.before in record-rows-sound (rs s) s.requires.0)
+    (λ c κs. let s : tie.Start = c.before.before in record-rows-sound (rs s) s.requires.0)
     (λ c. search rules)
     (λ c. search rules)
     (λ c. search rules)

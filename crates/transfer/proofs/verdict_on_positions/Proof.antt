@@ -60,21 +60,21 @@ module _ (s : tie.Start) where
 
   next_fits : SFits w64 (next +ℤ pos 1)
   next_fits =
-      let range : (pos 0 ≤ℤ next) × (next ≤ℤ pos 65536) = next-range rs s.pre.0.0 id in
+      let range : (pos 0 ≤ℤ next) × (next ≤ℤ pos 65536) = next-range rs s.requires.0.0 id in
       omega (zarith, +-lin next (pos 1))
 
   quantity-small : magnitude_at_most 1000000 r.quantity ≡ true
-  quantity-small = (found-record rs s.pre.0.0 id s.args.suffix r s.pre.1.0.found).quantity-small
+  quantity-small = (found-record rs s.requires.0.0 id s.args.suffix r s.requires.1.0.found).quantity-small
 
   price-valid : valid_price r.price ≡ true
-  price-valid = (found-record rs s.pre.0.0 id s.args.suffix r s.pre.1.0.found).sound.price
+  price-valid = (found-record rs s.requires.0.0 id s.args.suffix r s.requires.1.0.found).sound.price
 
   -- Both positions, as they were read.
   old-is : s.args.old.position ≡ position_read ps from series
-  old-is = s.pre.1.1.read_is
+  old-is = s.requires.1.1.read_is
 
   new_is : s.args.new.position ≡ position_read ps to series
-  new_is = s.pre.1.2.read_is
+  new_is = s.requires.1.2.read_is
 
   abbrev left : Position
   left = moving_old ps r from series
@@ -94,134 +94,134 @@ module _ (s : tie.Start) where
 at-12 : (s : tie.Start) → From s 12
 at-12 s = moving-tests (rs s) (ps s) (id s) (from s) (to s) (series s) (r s)
 
-answer-12 : (c : tie.After-holds-too-little) →
-    c.holds-too-little.result ≡ holds_too_little (r c.before.before) (position_read (ps c.before.before) (from c.before.before) (series c.before.before))
-answer-12 c = c.holds-too-little.ensures ∙ ap (holds_too_little (r c.before.before)) (old-is c.before.before)
+answer-12 : (c : tie.After-holds_too_little) →
+    c.holds_too_little.result ≡ holds_too_little (r c.before.before.before) (position_read (ps c.before.before.before) (from c.before.before.before) (series c.before.before.before))
+answer-12 c = c.holds_too_little.ensures ∙ ap (holds_too_little (r c.before.before.before)) (old-is c.before.before.before)
 
-returns : tie.Need-returns
-returns c = stops (at-12 c.before.before.before) (sym (answer-12 c.before) ∙ c.if1.true)
+returns : tie.Need-returns-then-holds_too_little
+returns c = stops (at-12 c.before.before.before.before) (sym (answer-12 c.before) ∙ c.if-holds_too_little.true)
 
 -- ---- test 13
 
-module _ (c : tie.After-struct-told) where
+module _ (c : tie.After-struct_told-1) where
   abbrev start : tie.Start
-  start = c.before.before.before.before.before
+  start = c.before.before.before.before.before.before
 
   at-13 : From start 13
-  at-13 = at-12 start past sym (answer-12 c.before.before.before) ∙ c.before.before.if1.false
+  at-13 = at-12 start past sym (answer-12 c.before.before.before) ∙ c.if-holds_too_little.false
 
   next-is : to_z w64 (of_z w64 start.args.named.next) ≡ next start
-  next-is = read_back start.args.named.next c.struct_told.given.1.1.0.1 ∙ start.pre.1.0.next-is
+  next-is = read_back start.args.named.next c.struct_told-1.given.1.1.0.1 ∙ start.requires.1.0.next-is
 
   last-is : to_z w64 (of_z w64 (to_z w64 (of_z w64 start.args.named.next) +ℤ pos 1)) ≡ (next start +ℤ pos 1)
   last-is = ap (λ (z : ℤ). to_z w64 (of_z w64 (z +ℤ pos 1))) next-is ∙ to_z-of_z (next_fits start)
 
-add-if2 : tie.Need-overflow-add-if2
+add-if2 : tie.Need-overflow_add-named
 add-if2 c = rw (next-is c) (next_fits (start c))
 
-returns-2 : tie.Need-returns-2
-returns-2 c = stops (at-13 c.before) (rw (last-is c.before) at c.if2.true)
+returns-2 : tie.Need-returns-then-named-gt-GREATEST_SUFFIX
+returns-2 c = stops (at-13 c.before) (rw (last-is c.before) at c.if-named-gt-GREATEST_SUFFIX.true)
 
 -- ---- test 14
 
-module _ (c : tie.After-lacks-records-room) where
+module _ (c : tie.After-lacks_records_room) where
   abbrev start2 : tie.Start
   start2 = start c.before.before
 
   at-14 : From start2 14
-  at-14 = at-13 c.before.before past rw (last-is c.before.before) at c.before.if2.false
+  at-14 = at-13 c.before.before past rw (last-is c.before.before) at c.if-named-gt-GREATEST_SUFFIX.false
 
-returns-3 : tie.Need-returns-3
-returns-3 c = stops (at-14 c.before) (sym c.before.lacks-records-room.ensures ∙ c.if3.true)
+returns-3 : tie.Need-returns-then-lacks_records_room
+returns-3 c = stops (at-14 c.before) (sym c.lacks_records_room.ensures ∙ c.if-lacks_records_room.true)
 
 -- ---- test 15
 
-module _ (c : tie.After-absent-row2) where
-  abbrev else3 : tie.Else3
+module _ (c : tie.After-absent_row-2) where
+  abbrev else3 : tie.Else-lacks_records_room
   else3 = c.before.before
 
   abbrev start3 : tie.Start
   start3 = start2 else3.before
 
   at-15 : From start3 15
-  at-15 = at-14 else3.before past sym else3.before.lacks-records-room.ensures ∙ else3.if3.left
+  at-15 = at-14 else3.before past sym else3.lacks_records_room.ensures ∙ else3.if-lacks_records_room.false
 
-  absent : c.before.absent-row.result + c.absent-row2.result ≡ lacking start3
+  absent : c.absent_row.result + c.absent_row-2.result ≡ lacking start3
   absent =
       ap₂ ◌+◌
-      (c.before.absent-row.ensures ∙ absent-is (ps start3) (from start3) (series start3) start3.args.old.found start3.pre.1.1.found-is)
-      (c.absent-row2.ensures ∙ absent-is (ps start3) (to start3) (series start3) start3.args.new.found start3.pre.1.2.found-is)
+      (c.absent_row.ensures ∙ absent-is (ps start3) (from start3) (series start3) start3.args.old.found start3.requires.1.1.found-is)
+      (c.absent_row-2.ensures ∙ absent-is (ps start3) (to start3) (series start3) start3.args.new.found start3.requires.1.2.found-is)
 
-  absent-few : c.before.absent-row.result + c.absent-row2.result ≤ 2
+  absent-few : c.absent_row.result + c.absent_row-2.result ≤ 2
   absent-few = omega (arith, absent, absent-at-most-one (ps start3) (from start3) (series start3), absent-at-most-one (ps start3) (to start3) (series start3))
 
-add-absent : tie.Need-overflow-add-absent
+add-absent : tie.Need-overflow_add-absent
 add-absent c = omega (arith, absent-few c)
 
-lacks-positions-room-requires : tie.Need-lacks-positions-room-requires
+lacks-positions-room-requires : tie.Need-lacks_positions_room-requires
 lacks-positions-room-requires c κs = ((start3 c).requires.0.1, absent-few c)
 
-module _ (c : tie.After-lacks-positions-room) where
+module _ (c : tie.After-lacks_positions_room) where
   abbrev start4 : tie.Start
   start4 = start3 c.before
 
-  answer-15 : c.lacks-positions-room.result ≡ ltb (room_of positions_layout (ps start4)) (length (rows_of positions_layout (ps start4)) + lacking start4)
-  answer-15 = rw (absent c.before) at c.lacks-positions-room.ensures
+  answer-15 : c.lacks_positions_room.result ≡ ltb (room_of positions_layout (ps start4)) (length (rows_of positions_layout (ps start4)) + lacking start4)
+  answer-15 = rw (absent c.before) at c.lacks_positions_room.ensures
 
-returns-4 : tie.Need-returns-4
-returns-4 c = stops (at-15 c.before.before) (sym (answer-15 c.before) ∙ c.if4.true)
+returns-4 : tie.Need-returns-then-lacks_positions_room
+returns-4 c = stops (at-15 c.before.before) (sym (answer-15 c.before) ∙ c.if-lacks_positions_room.true)
 
 -- ---- test 16
 
-module _ (c : tie.Else4) where
+module _ (c : tie.Else-lacks_positions_room) where
   abbrev start5 : tie.Start
   start5 = start4 c.before
 
   at-16 : From start5 16
-  at-16 = at-15 c.before.before past sym (answer-15 c.before) ∙ c.if4.false
+  at-16 = at-15 c.before.before past sym (answer-15 c.before) ∙ c.if-lacks_positions_room.false
 
-taken-from-requires : tie.Need-taken-from-requires
+taken-from-requires : tie.Need-taken_from-requires
 taken-from-requires c κs =
-    let s : tie.Start = start5 c in
-    (rw (old-is s) (position-read-sound (ps s) s.pre.0.1 (from s) (series s)), quantity-small s, price-valid s)
+    let s : tie.Start = start5 c.before in
+    (rw (old-is s) (position-read-sound (ps s) s.requires.0.1 (from s) (series s)), quantity-small s, price-valid s)
 
-old-answer : (c : tie.After-sound-position) → c.sound-position.result ≡ sound_position (left (start5 c.before.before))
+old-answer : (c : tie.After-sound_position) → c.sound_position.result ≡ sound_position (left (start5 c.before.before.before))
 old-answer c =
-    let s : tie.Start = start5 c.before.before in
-    c.sound-position.ensures ∙ ap sound_position (rw (old-is s) at c.before.taken-from.ensures)
-
-returns-5 : tie.Need-returns-5
-returns-5 c =
-    let e : tie.Else4 = c.before.before.before in
-    stops (at-16 e) (ap (λ (b : Bool). not (b && sound_position (reached (start5 e)))) (failed (old-answer c.before) c.if5.true))
-
-given-to-requires : tie.Need-given-to-requires
-given-to-requires c κs =
     let s : tie.Start = start5 c.before.before.before in
-    (rw (new_is s) (position-read-sound (ps s) s.pre.0.1 (to s) (series s)), quantity-small s, price-valid s)
+    c.sound_position.ensures ∙ ap sound_position (rw (old-is s) at c.taken_from.ensures)
 
-module _ (c : tie.After-sound-position2) where
-  abbrev else5 : tie.Else5
-  else5 = c.before.before
+returns-5 : tie.Need-returns-then-not-sound_position
+returns-5 c =
+    let e : tie.Else-lacks_positions_room = c.before.before.before.before in
+    stops (at-16 e) (ap (λ (b : Bool). not (b && sound_position (reached (start5 e)))) (failed (old-answer c.before) c.if-not-sound_position.true-raw))
+
+given-to-requires : tie.Need-given_to-requires
+given-to-requires c κs =
+    let s : tie.Start = start5 c.before.before.before.before.before in
+    (rw (new_is s) (position-read-sound (ps s) s.requires.0.1 (to s) (series s)), quantity-small s, price-valid s)
+
+module _ (c : tie.After-sound_position-2) where
+  abbrev else5 : tie.Else-not-sound_position
+  else5 = c.before.before.before
 
   abbrev start6 : tie.Start
-  start6 = start5 else5.before.before.before
+  start6 = start5 else5.before.before.before.before
 
-  new-answer : c.sound-position2.result ≡ sound_position (reached start6)
-  new-answer = c.sound-position2.ensures ∙ ap sound_position (rw (new_is start6) at c.before.given_to.ensures)
+  new-answer : c.sound_position-2.result ≡ sound_position (reached start6)
+  new-answer = c.sound_position-2.ensures ∙ ap sound_position (rw (new_is start6) at c.given_to.ensures)
 
   -- The old account's position stays sound: the test is that of the new one's.
   new-alone : not (sound_position (left start6) && sound_position (reached start6)) ≡ not (sound_position (reached start6))
-  new-alone = rw (passed (old-answer else5.before) else5.if5.left)
+  new-alone = rw (passed (old-answer else5.before) else5.if-not-sound_position.false-raw)
 
-returns-6 : tie.Need-returns-6
-returns-6 c = stops (at-16 (else5 c.before).before.before.before) (new-alone c.before ∙ ap not (failed (new-answer c.before) c.if6.true))
+returns-6 : tie.Need-returns-then-not-sound_position-2
+returns-6 c = stops (at-16 (else5 c.before).before.before.before.before) (new-alone c.before ∙ ap not (failed (new-answer c.before) c.if-not-sound_position-2.true-raw))
 
-returns-7 : tie.Need-returns-7
-returns-7 c = ends (at-16 (else5 c.before).before.before.before past new-alone c.before ∙ ap not (passed (new-answer c.before) c.if6.false))
+returns-7 : tie.Need-returns
+returns-7 c = ends (at-16 (else5 c.before).before.before.before.before past new-alone c.before ∙ ap not (passed (new-answer c.before) c.if-not-sound_position-2.false-raw))
 
-pub verdict-on-positions-spec : {M : Type 1} → statement M
-verdict-on-positions-spec =
+pub verdict_on_positions_spec : {M : Type 1} → statement M
+verdict_on_positions_spec =
     tie.close
     (tie.spec
     (λ c κs. search rules)
