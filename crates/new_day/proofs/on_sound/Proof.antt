@@ -25,40 +25,40 @@ module _ (s : tie.Start) where
   rs = s.args.records.now
 
   headed : records_layout.header ≤ length rs
-  headed = (records-known rs (record-rows-sound rs s.pre)).header-within
+  headed = (records-known rs (record-rows-sound rs s.requires)).header-within
 
-range : (c : tie.After-valid-day) → c.valid-day.result ≡ valid_day c.before.args.day
-range c = simp (to_z-of_z c.before.ranges.day) at c.valid-day.ensures
+range : (c : tie.After-valid_day) → c.valid_day.result ≡ valid_day c.args.day
+range c = simp (to_z-of_z c.ranges.day) at c.valid_day.ensures
 
-returns : tie.Need-returns
-returns c = out_of_range (rs c.before.before) c.before.before.args.day c.before.before.requires (failed (range c.before) c.if1.true)
+returns : tie.Need-returns-then-not-valid_day
+returns c = out_of_range (rs c.before.before) c.args.day c.requires (failed (range c.before) c.if-not-valid_day.true-raw)
 
 -- The current day, as it was read.
-module _ (c : tie.After-today) where
+module _ (c : tie.After-today-1) where
   abbrev s : tie.Start
   s = c.before.before.before
 
   valid : valid_day s.args.day ≡ true
-  valid = passed (range c.before.before) c.before.if1.false
+  valid = passed (range c.before.before) c.if-not-valid_day.false-raw
 
   read : to_z w64 (of_z w64 (current_day (rs s))) ≡ current_day (rs s)
-  read = read_back (current_day (rs s)) c.today.given
+  read = read_back (current_day (rs s)) c.today-1.given
 
-returns-2 : tie.Need-returns-2
+returns-2 : tie.Need-returns-then-day-today
 returns-2 c =
     let s : tie.Start = s c.before in
-    let h : lt_z (current_day (rs s)) s.args.day ≡ false = omega (zarith, simp (to_z-of_z s.fits.day, read c.before) at c.if2.true) in
-    not-later (rs s) s.args.day s.pre (valid c.before) h
+    let h : lt_z (current_day (rs s)) s.args.day ≡ false = omega (zarith, simp (to_z-of_z s.ranges.day, read c.before) at c.if-day-today.true) in
+    not-later (rs s) s.args.day s.requires (valid c.before) h
 
-returns-3 : tie.Need-returns-3
+returns-3 : tie.Need-returns
 returns-3 c =
     let s : tie.Start = s c.before in
-    let h : lt_z (current_day (rs s)) s.args.day ≡ true = omega (zarith, simp (to_z-of_z s.fits.day, read c.before) at c.if2.false) in
-    later (rs s) s.args.day s.pre (valid c.before) h _
-    (simp (to_z-of_z s.fits.day) (day-set s.args.day (rs s) (headed s)))
+    let h : lt_z (current_day (rs s)) s.args.day ≡ true = omega (zarith, simp (to_z-of_z s.ranges.day, read c.before) at c.if-day-today.false) in
+    later (rs s) s.args.day s.requires (valid c.before) h _
+    (simp (to_z-of_z s.ranges.day) (day-set s.args.day (rs s) (headed s)))
 
-pub on-sound-spec : {M : Type 1} → statement M
-on-sound-spec =
+pub on_sound_spec : {M : Type 1} → statement M
+on_sound_spec =
     tie.close
     (tie.spec
     (λ c κs. search rules)

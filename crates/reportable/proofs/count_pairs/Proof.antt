@@ -20,10 +20,10 @@ use Rattle.reportable.proofs.Listing.{CountedSoFar, none-counted, row-lacks, row
 use Rattle.reportable.proofs.count_pairs.Statement.{statement}
 use Rattle.reportable.proofs.count_pairs.Tie as tie
 
-abbrev invariant-loop : tie.invariant-loop
+abbrev invariant-loop : tie.invariant-loop-row
 invariant-loop records today rows row₀ pairs₀ row pairs = CountedSoFar (to_z w64 today) records pairs row
 
-abbrev decreases-loop : tie.decreases-loop
+abbrev decreases-loop : tie.decreases-loop-row
 decreases-loop records today rows row₀ pairs₀ row pairs = rows - row
 
 module _ (s : tie.Start invariant-loop decreases-loop) where
@@ -38,33 +38,33 @@ module _ (s : tie.Start invariant-loop decreases-loop) where
   day = to_z w64 (of_z w64 s.args.today)
 
   few : length rows ≤ 4096
-  few = omega (arith, (records-known cells s.pre).rows_fit, room_most records_layout cells)
+  few = omega (arith, (records-known cells s.requires).rows_fit, room_most records_layout cells)
 
   as-asked : {a : Counted} → a ≡ counted_of day rows rows → a ≡ counted_of s.args.today rows rows
-  as-asked e = e ∙ ap (λ (z : ℤ). counted_of z rows rows) (to_z-of_z s.fits.today)
+  as-asked e = e ∙ ap (λ (z : ℤ). counted_of z rows rows) (to_z-of_z s.ranges.today)
 
-module _ (k : tie.In-loop invariant-loop decreases-loop) where
-  abbrev a : tie.At-loop invariant-loop decreases-loop
+module _ (k : tie.In-loop-row invariant-loop decreases-loop) where
+  abbrev a : tie.At-loop-row invariant-loop decreases-loop
   a = k.before
 
   abbrev s : tie.Start invariant-loop decreases-loop
   s = a.before.before
 
-  below : a.loop.row < length (rows s)
-  below = omega (arith, k.loop-test.taken, a.before.count.ensures)
+  below : a.loop-row.row < length (rows s)
+  below = omega (arith, k.loop-row-test.true, a.count-rows.ensures)
 
-returns : tie.Need-returns invariant-loop decreases-loop
+returns : tie.Need-returns-then-given-eq-NO_PARENT invariant-loop decreases-loop
 returns c =
-    let k : tie.In-loop invariant-loop decreases-loop = c.before.before in
-    as-asked (s k) (row-lacks (day (s k)) (cells (s k)) (a k).loop.pairs (a k).loop.row (a k).loop.invariant (below k) (sym c.before.pairs_of.ensures ∙ c.if1.true))
+    let k : tie.In-loop-row invariant-loop decreases-loop = c.before.before in
+    as-asked (s k) (row-lacks (day (s k)) (cells (s k)) (a k).loop-row.pairs (a k).loop-row.row (a k).loop-row.invariant (below k) (sym c.pairs_of-given.ensures ∙ c.if-given-eq-NO_PARENT.true))
 
-counted : (c : tie.Else1 invariant-loop decreases-loop) → let k = c.before.before in CountedSoFar (day (s k)) (cells (s k)) ((a k).loop.pairs + c.before.pairs_of.result) ((a k).loop.row + 1)
+counted : (c : tie.Else-given-eq-NO_PARENT invariant-loop decreases-loop) → let k = c in CountedSoFar (day (s k)) (cells (s k)) ((a k).loop-row.pairs + c.pairs_of-given.result) ((a k).loop-row.row + 1)
 counted c =
-    let k : tie.In-loop invariant-loop decreases-loop = c.before.before in
-    row-counted (day (s k)) (cells (s k)) (a k).loop.pairs (a k).loop.row (a k).loop.invariant (below k) c.before.pairs_of.result c.before.pairs_of.ensures c.if1.false
+    let k : tie.In-loop-row invariant-loop decreases-loop = c.before.before in
+    row-counted (day (s k)) (cells (s k)) (a k).loop-row.pairs (a k).loop-row.row (a k).loop-row.invariant (below k) c.pairs_of-given.result c.pairs_of-given.ensures c.if-given-eq-NO_PARENT.false
 
-pub count-pairs-spec : {M : Type 1} → statement M
-count-pairs-spec =
+pub count_pairs_spec : {M : Type 1} → statement M
+count_pairs_spec =
     tie.close
     (tie.spec
     invariant-loop
@@ -75,9 +75,9 @@ count-pairs-spec =
     returns
     (λ c. omega (arith, (counted c).few, (counted c).within, few (s c.before.before)))
     (λ c. omega (arith, (counted c).within, few (s c.before.before)))
-    (λ c. omega (arith, c.before.before.loop-test.true))
+    (λ c. omega (arith, c.loop-row-test.true))
     counted
     (λ c.
-    let l : tie.At-loop invariant-loop decreases-loop = c.before in
+    let l : tie.At-loop-row invariant-loop decreases-loop = c.before in
     as-asked l.before.before
-    (all-counted (day l.before.before) (cells l.before.before) l.loop.pairs l.loop.row l.loop.invariant (omega (arith, c.loop-test.false, l.before.count.ensures)))))
+    (all-counted (day l.before.before) (cells l.before.before) l.loop-row.pairs l.loop-row.row l.loop-row.invariant (omega (arith, c.loop-row-test.false, l.count-rows.ensures)))))

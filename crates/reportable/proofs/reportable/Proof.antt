@@ -37,50 +37,50 @@ module _ (s : tie.Start) where
   abbrev pairs : List ℤ
   pairs = s.args.pairs.now
 
-sound : (c : tie.Else1) → sound_records (rs c.before.before) ≡ true
-sound c = passed c.before.records-sound.ensures c.if1.false
+sound : (c : tie.Else-not-records_sound) → sound_records (rs c.before.before) ≡ true
+sound c = passed c.records_sound.ensures c.if-not-records_sound.false-raw
 
-returns : tie.Need-returns
-returns c = refused-unsound (rs c.before.before) (pairs c.before.before) (failed c.before.records-sound.ensures c.if1.true)
+returns : tie.Need-returns-then-not-records_sound
+returns c = refused-unsound (rs c.before.before) (pairs c.before.before) (failed c.records_sound.ensures c.if-not-records_sound.true-raw)
 
 -- ---- the current day
 
-module _ (c : tie.After-today) where
+module _ (c : tie.After-today-today) where
   abbrev s1 : tie.Start
   s1 = c.before.before.before
 
-  today-is : to_z w64 (of_z w64 c.today.result) ≡ current_day (rs s1)
-  today-is = read_back c.today.result c.today.type-inv ∙ c.today.ensures
+  today-is : to_z w64 (of_z w64 c.today-today.result) ≡ current_day (rs s1)
+  today-is = read_back c.today-today.result c.today-today.type_inv ∙ c.today-today.ensures
 
 -- ---- the count
 
-module _ (c : tie.After-count-pairs) where
+module _ (c : tie.After-count_pairs) where
   abbrev s2 : tie.Start
   s2 = s1 c.before
 
   rows-sound : sound_records (rs s2) ≡ true
   rows-sound = sound c.before.before
 
-  counted : c.count-pairs.result ≡ counted_of (current_day (rs s2)) (rows s2) (rows s2)
-  counted = c.count-pairs.ensures ∙ ap (λ (z : ℤ). counted_of z (rows s2) (rows s2)) (today-is c.before)
+  counted : c.count_pairs.result ≡ counted_of (current_day (rs s2)) (rows s2) (rows s2)
+  counted = c.count_pairs.ensures ∙ ap (λ (z : ℤ). counted_of z (rows s2) (rows s2)) (today-is c.before)
 
-returns-2 : tie.Need-returns-2
+returns-2 : tie.Need-returns-in_default
 returns-2 c =
-    let k : tie.After-count-pairs = c.before.before in
-    refused-missing (rs (s2 k)) (pairs (s2 k)) (rows-sound k) (sym (counted k) ∙ c.enum_told.given.1)
+    let k : tie.After-count_pairs = c.before in
+    refused-missing (rs (s2 k)) (pairs (s2 k)) (rows-sound k) (sym (counted k) ∙ c.in_default.is)
 
-module _ (c : tie.After-known-told) where
-  abbrev k : tie.After-count-pairs
-  k = c.before.before.before
+module _ (c : tie.In-Pairs) where
+  abbrev k : tie.After-count_pairs
+  k = c.before
 
   abbrev s3 : tie.Start
   s3 = s2 k
 
   abbrev count : ℕ
-  count = c.before.count.given.0.0
+  count = c.in-Pairs.count
 
   is-count : counted_of (current_day (rs s3)) (rows s3) (rows s3) ≡ Pairs count
-  is-count = sym (counted k) ∙ c.before.count.given.1
+  is-count = sym (counted k) ∙ c.in-Pairs.is
 
   few : count ≤ 4096
   few =
@@ -92,29 +92,29 @@ module _ (c : tie.After-known-told) where
         room_most records_layout (rs s3),
       )
 
-returns-3 : tie.Need-returns-3
+returns-3 : tie.Need-returns-then-pairs-count
 returns-3 c =
-    let t : tie.After-known-told = c.before in
-    refused-short (rs (s3 t)) (pairs (s3 t)) (rows-sound (k t)) (count t) (is-count t) (lt-ltb _ _ c.if2.true)
+    let t : tie.In-Pairs = c.before in
+    refused-short (rs (s3 t)) (pairs (s3 t)) (rows-sound (k t)) (count t) (is-count t) (lt-ltb _ _ c.if-pairs-count.true)
 
-write-pairs-requires : tie.Need-write-pairs-requires
+write-pairs-requires : tie.Need-write_pairs-requires
 write-pairs-requires c κs =
-    let t : tie.After-known-told = c.before.before in
+    let t : tie.In-Pairs = c.before.before in
     let all = counted-all (rs (s3 t)) (pairs (s3 t)) (rows-sound (k t)) (count t) (is-count t) in
-    simp (today-is (k t).before) (record-rows-sound (rs (s3 t)) (rows-sound (k t)), all.0, omega (arith, two-cells-each (reportable_records (current_day (rs (s3 t))) (rows (s3 t))), all.1, c.before.if2.false))
+    simp (today-is (k t).before) (record-rows-sound (rs (s3 t)) (rows-sound (k t)), all.0, omega (arith, two-cells-each (reportable_records (current_day (rs (s3 t))) (rows (s3 t))), all.1, c.if-pairs-count.false))
 
-returns-4 : tie.Need-returns-4
+returns-4 : tie.Need-returns
 returns-4 c =
-    let w : tie.After-write-pairs = c.before in
-    let e : tie.Else2 = w.before.before in
-    let t : tie.After-known-told = e.before in
+    let w : tie.After-write_pairs = c.before in
+    let e : tie.Else-pairs-count = w.before.before in
+    let t : tie.In-Pairs = e.before in
     let s : tie.Start = s3 t in
     let small : count t < 2 ^ 63 = omega (arith, few t) in
-    ap (λ (n : ℤ). left (Listed n) w.write-pairs.new.1.1.0 (rs s) []) (to_z_pos w64 small)
-    ∙ listed-all (rs s) (pairs s) (rows-sound (k t)) (count t) (is-count t) (le-ltb _ _ e.if2.false) _ (simp (today-is (k t).before) at w.write-pairs.ensures)
+    ap (λ (n : ℤ). left (Listed n) w.write_pairs.new.pairs (rs s) []) (to_z_pos w64 small)
+    ∙ listed-all (rs s) (pairs s) (rows-sound (k t)) (count t) (is-count t) (le-ltb _ _ e.if-pairs-count.false) _ (simp (today-is (k t).before) at w.write_pairs.ensures)
 
-pub reportable-spec : {M : Type 1} → statement M
-reportable-spec =
+pub reportable_spec : {M : Type 1} → statement M
+reportable_spec =
     tie.close
     (tie.spec
     (λ c κs. search rules)

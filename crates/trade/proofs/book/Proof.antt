@@ -36,6 +36,7 @@ use Rattle.verdict.proofs.TradeReady.{trade-quantity, trade-price, trade-insert,
 use Rattle.trade.specs.Booking.{booking_of}
 use Rattle.trade.proofs.TradeBooked.{opened-fits, booking-moves, closed_is, movement-is, error-is, moved-is, left_key}
 use Rattle.trade.proofs.book.Statement.{statement}
+use Rattle.trade.proofs.book.Lts.{then-b, else-b}
 use Rattle.trade.proofs.book.Tie as tie
 
 -- What `insert_record` and `write_position` ask.
@@ -127,10 +128,9 @@ module _ (c : tie.After-new_record-row) where
   kind : to_z w64 c.if-b.kind-bits ≡ trade_kind b.booking_of-b.result.error
   unfolding trade_kind
   kind =
-      ⊎_elim
-      (λ w. ap (to_z w64) w.1 ∙ sym (ap trade_kind w.0.taken))
-      (λ w. ap (to_z w64) w.1 ∙ sym (ap trade_kind w.0.left))
-      c.if-b.branch
+      elim c.if-b.branch [
+        then-b w ↦ w.kind-is ∙ sym (ap trade_kind w.if-b.true)
+      | else-b w ↦ w.kind-is ∙ sym (ap trade_kind w.if-b.false) ]
 
   row : c.new_record-row.result ≡ row_of (s b)
   row =

@@ -15,6 +15,7 @@ use Rattle.rules.specs.declared.Movement.{Movement}
 use Rattle.verdict.proofs.Moves.{quantity-magnitude}
 use Rattle.trade.proofs.TradeBooked.{error-open, error-close, booking-buy, booking-sell, opened-fits, undone-fits}
 use Rattle.trade.proofs.booking_of.Statement.{statement}
+use Rattle.trade.proofs.booking_of.Lts.{then-is_to_close, else-is_to_close}
 use Rattle.trade.proofs.booking_of.Tie as tie
 
 -- What is closed, opened and undone.
@@ -47,10 +48,9 @@ module _ (c : tie.Joined-is_to_close) where
 
   error : c.if-is_to_close.error ≡ is_closing_error t.args.side t.args.quantity (closed_by t.args.side t.args.quantity t.args.p)
   error =
-      ⊎_elim
-      (λ w. w.1 ∙ simp (closed after, quantity after) (error-close t.args.side t.args.quantity t.args.p (sym to-close ∙ w.0.taken)))
-      (λ w. w.1 ∙ error-open t.args.side t.args.quantity t.args.p (sym to-close ∙ w.0.left))
-      c.if-is_to_close.branch
+      elim c.if-is_to_close.branch [
+        then-is_to_close w ↦ w.error-is ∙ simp (closed after, quantity after) (error-close t.args.side t.args.quantity t.args.p (sym to-close ∙ w.if-is_to_close.true))
+      | else-is_to_close w ↦ w.error-is ∙ error-open t.args.side t.args.quantity t.args.p (sym to-close ∙ w.if-is_to_close.false) ]
 
 buys : (c : tie.After-is_buy) → c.is_buy.result ≡ is_buy (t c.before).args.side
 buys c = simp (to_z-of_z (t c.before).ranges.side) at c.is_buy.ensures

@@ -12,6 +12,7 @@ use Rattle.figures.proofs.Tests.{failed, passed}
 use Rattle.scan.proofs.ReadBack.{read_back}
 use Rattle.trade.proofs.TradeBooked.{opens, closes-all, closes-some, against-buy, against-sell}
 use Rattle.trade.proofs.closed_by.Statement.{statement}
+use Rattle.trade.proofs.closed_by.Lts.{then-is_buy, else-is_buy}
 use Rattle.trade.proofs.closed_by.Tie as tie
 
 to-close : (c : tie.After-is_to_close) → c.is_to_close.result ≡ is_to_close c.args.side
@@ -31,12 +32,11 @@ module _ (c : tie.Joined-is_buy) where
   buys : c.is_buy.result ≡ is_buy s.args.side
   buys = simp (to_z-of_z s.ranges.side) at c.is_buy.ensures
 
-  against : to_z w64 c.if-is_buy.«open» ≡ open_against s.args.side s.args.p
+  against : to_z w64 c.if-is_buy.open-bits ≡ open_against s.args.side s.args.p
   against =
-      ⊎_elim
-      (λ w. ap (to_z w64) w.2 ∙ read_back s.args.p.short w.1.given.1.1.1.0.1 ∙ against-buy s.args.side s.args.p (sym buys ∙ w.0.taken))
-      (λ w. ap (to_z w64) w.1 ∙ read_back s.args.p.long told.struct_told-1.given.1.1.0.1 ∙ against-sell s.args.side s.args.p (sym buys ∙ w.0.left))
-      c.if-is_buy.branch
+      elim c.if-is_buy.branch [
+        then-is_buy w ↦ w.open-is ∙ read_back s.args.p.short w.struct_told-then-is_buy-1.given.1.1.1.0.1 ∙ against-buy s.args.side s.args.p (sym buys ∙ w.if-is_buy.true)
+      | else-is_buy w ↦ w.open-is ∙ read_back s.args.p.long told.struct_told-1.given.1.1.0.1 ∙ against-sell s.args.side s.args.p (sym buys ∙ w.if-is_buy.false) ]
 
 is-to-close-requires : tie.Need-is_to_close-requires
 is-to-close-requires c κs = search rules

@@ -87,8 +87,7 @@ module _ (c : tie.After-look_up) where
 returns-2 : tie.Need-returns-in_default
 returns-2 c =
     let l : tie.After-look_up = c.before in
-    let w = c.enum_told-1.given.0 in
-    taken l w.1.0 (table-present records_layout record_key records-first (rs (s4 l)) (key_of (s4 l).args.id (pos 0)) w.0 w.1.0 w.1.1.0 (sym (answer l) ∙ c.in_default.is)).greatest-is
+    taken l c.in_default.field-1 (table-present records_layout record_key records-first (rs (s4 l)) (key_of (s4 l).args.id (pos 0)) c.in_default.field-0 c.in_default.field-1 c.in_default.field-2 (sym (answer l) ∙ c.in_default.is)).greatest-is
 
 -- What was said of an id that has none, or has one.
 module _ (c : tie.In-Absent) where

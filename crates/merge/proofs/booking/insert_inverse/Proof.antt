@@ -48,39 +48,39 @@ module _ (s : tie.Start) where
   unfolding inverse_record
   inverse-key r e =
       ap (λ (z : ℤ). key_of z (next_of rows s.args.id))
-      (ap (λ (x : Record). x.id) (found-record (find record_key key rows) r e) ∙ (SoundReads.found-record cells s.pre.0 s.args.id s.args.suffix r e).id-is)
+      (ap (λ (x : Record). x.id) (found-record (find record_key key rows) r e) ∙ (SoundReads.found-record cells s.requires.0 s.args.id s.args.suffix r e).id-is)
 
   absent : (r : Record) → find record_key key rows ≡ some r → find record_key (record_key inverse) rows ≡ none
   absent r e =
       ap (λ (k : Key). find record_key k rows) (inverse-key r e) ∙ free-from-next rows s.args.id (next_of rows s.args.id) (≤ℤ_refl (next_of rows s.args.id))
 
-module _ (c : tie.After-look-up) where
+module _ (c : tie.After-look_up) where
   abbrev start : tie.Start
-  start = c.before.before
+  start = c.before
 
   answer : c.look_up.result ≡ record_sought (cells start) start.args.id start.args.suffix
-  answer = simp (to_z-of_z start.fits.id, to_z-of_z start.fits.suffix) at c.look_up.ensures
+  answer = simp (to_z-of_z start.ranges.id, to_z-of_z start.ranges.suffix) at c.look_up.ensures
 
 -- ---- what the lookup said
 
-module _ (c : tie.After-known-told) where
-  abbrev w : tie.After-row
-  w = c.before
+module _ (c : tie.In-Present) where
+  abbrev w : tie.In-Present
+  w = c
 
   abbrev s : tie.Start
-  s = start w.before.before
+  s = start w.before
 
   abbrev row : ℕ
-  row = w.row.given.0.0
+  row = w.in-Present.row
 
   abbrev greatest : ℤ
-  greatest = w.row.given.0.1.0
+  greatest = w.in-Present.greatest
 
   abbrev place : ℕ
-  place = w.row.given.0.1.1.0
+  place = w.in-Present.place
 
   there : PresentAt records_layout record_key (cells s) (key s) row greatest place
-  there = table-present records_layout record_key records-first (cells s) (key s) row greatest place (sym (answer w.before.before) ∙ w.row.given.1)
+  there = table-present records_layout record_key records-first (cells s) (key s) row greatest place (sym (answer w.before) ∙ w.in-Present.is)
 
   place_is : place ≡ place_in records_layout (record_key (inverse s)) (cells s)
   unfolding next_suffix
@@ -90,60 +90,60 @@ module _ (c : tie.After-known-told) where
 
 -- ---- the record and its inverse
 
-module _ (c : tie.After-record-named) where
-  abbrev looked : tie.After-known-told
-  looked = c.before.before
+module _ (c : tie.After-record_named-named) where
+  abbrev looked : tie.In-Present
+  looked = c.before
 
-  known : KnownRecord (cells (s looked)) (s looked).args.id (s looked).args.suffix c.record-named.result
-  known = simp (to_z-of_z (s looked).fits.id, to_z-of_z (s looked).fits.suffix) at c.record-named.ensures
+  known : KnownRecord (cells (s looked)) (s looked).args.id (s looked).args.suffix c.record_named-named.result
+  known = simp (to_z-of_z (s looked).ranges.id, to_z-of_z (s looked).ranges.suffix) at c.record_named-named.ensures
 
-module _ (c : tie.After-inverse-record) where
-  abbrev n : tie.After-record-named
-  n = c.before.before
+module _ (c : tie.After-inverse_record-inverse) where
+  abbrev n : tie.After-record_named-named
+  n = c.before.before.before
 
   abbrev from : tie.Start
   from = s (looked n)
 
-  inverse-is : c.inverse-record.result ≡ inverse from
+  inverse-is : c.inverse_record-inverse.result ≡ inverse from
   inverse-is =
-      let m = n.record-named.result in
-      let e : c.inverse-record.result ≡ inverse_record from.args.today m.record m.next merge_kind (pos 0) (pos 0) from.args.into
-      = simp (read_back m.next c.before.struct_told.given.1.1.0.1, to_z-of_z from.fits.today, to_z-of_z from.fits.into) at c.inverse-record.ensures in
+      let m = n.record_named-named.result in
+      let e : c.inverse_record-inverse.result ≡ inverse_record from.args.today m.record m.next merge_kind (pos 0) (pos 0) from.args.into
+      = simp (read_back m.next c.struct_told-1.given.1.1.0.1, to_z-of_z from.ranges.today, to_z-of_z from.ranges.into) at c.inverse_record-inverse.ensures in
       let record_is : m.record ≡ the_record (find record_key (key from) (rows from)) = sym (found-record (find record_key (key from) (rows from)) m.record (known n).found) in
       e ∙ (λ i. inverse_record from.args.today (record_is i) ((known n).next-is i) merge_kind (pos 0) (pos 0) from.args.into)
 
-returns : tie.Need-returns
+returns : tie.Need-returns-in_default
 returns c =
-    let a : tie.After-look-up = c.before.before in
+    let a : tie.After-look_up = c.before in
     let s : tie.Start = start a in
-    clash s.pre.1
-    (ap (λ (o : Option Record). is_some o) (table-lacks records_layout record_key records-first (cells s) (key s) _ _ (sym (answer a) ∙ c.enum_told.given.1)).absent ∙ is_some-none Record)
+    clash s.requires.1
+    (ap (λ (o : Option Record). is_some o) (table-lacks records_layout record_key records-first (cells s) (key s) _ _ (sym (answer a) ∙ c.in_default.is)).absent ∙ is_some-none Record)
 
-record-named-requires : tie.Need-record-named-requires
+record-named-requires : tie.Need-record_named-named-requires
 record-named-requires c κs =
-    let k : tie.After-known-told = c.before in
-    simp (to_z-of_z (s k).ranges.id, to_z-of_z (s k).ranges.suffix, read_back (greatest k) k.known-told.given.1.0.1)
-    ((s k).requires.0, sym (answer (w k).before.before) ∙ (w k).row.given.1)
+    let k : tie.In-Present = c in
+    simp (to_z-of_z (s k).ranges.id, to_z-of_z (s k).ranges.suffix, read_back (greatest k) k.in-Present.known_told-1-own.given.1.0.1)
+    ((s k).requires.0, sym (answer (w k).before) ∙ (w k).in-Present.is)
 
-inverse-record-requires : tie.Need-inverse-record-requires
+inverse-record-requires : tie.Need-inverse_record-inverse-requires
 inverse-record-requires c κs =
-    let n : tie.After-record-named = c.before in
+    let n : tie.After-record_named-named = c.before.before in
     let s : tie.Start = s (looked n) in
-    (SoundReads.found-record (cells s) s.pre.0 s.args.id s.args.suffix n.record-named.result.record (known n).found).quantity-small
+    (SoundReads.found-record (cells s) s.requires.0 s.args.id s.args.suffix n.record_named-named.result.record (known n).found).quantity-small
 
-insert-record-requires : tie.Need-insert-record-requires
+insert-record-requires : tie.Need-insert_record-requires
 insert-record-requires c κs =
-    let i : tie.After-inverse-record = c.before in
+    let i : tie.After-inverse_record-inverse = c.before in
     let s : tie.Start = from i in
-    rw (inverse-is i) (s.pre.0, s.pre.2, absent s _ (known (n i)).found, s.pre.3, place_is (looked (n i)))
+    rw (inverse-is i) (s.requires.0, s.requires.2, absent s _ (known (n i)).found, s.requires.3, place_is (looked (n i)))
 
-returns-2 : tie.Need-returns-2
+returns-2 : tie.Need-returns
 returns-2 c =
-    let i : tie.After-inverse-record = c.before.before.before in
-    (rw (inverse-is i) at c.before.insert-record.ensures.0, c.before.insert-record.ensures.1)
+    let i : tie.After-inverse_record-inverse = c.before.before.before in
+    (rw (inverse-is i) at c.insert_record.ensures.0, c.insert_record.ensures.1)
 
-pub insert-inverse-spec : {M : Type 1} → statement M
-insert-inverse-spec =
+pub insert_inverse_spec : {M : Type 1} → statement M
+insert_inverse_spec =
     tie.close
     (tie.spec
     (λ c κs. search rules)

@@ -20,121 +20,121 @@ use Rattle.merge_sources.proofs.InsertingCells.{InvertedSoFar, inverted-start, i
 use Rattle.merge.proofs.booking.insert_inverses.Statement.{statement}
 use Rattle.merge.proofs.booking.insert_inverses.Tie as tie
 
-abbrev invariant-loop : tie.invariant-loop
+abbrev invariant-loop : tie.invariant-loop-i
 invariant-loop records₀ today pairs into count i₀ records i = InvertedSoFar (to_z w64 today) (to_z w64 into) records₀ pairs records i
 
-abbrev decreases-loop : tie.decreases-loop
+abbrev decreases-loop : tie.decreases-loop-i
 decreases-loop records₀ today pairs into count i₀ records i = length pairs / 2 - i
 
 -- ---- the turn
 
-module _ (l : tie.At-loop invariant-loop decreases-loop) where
+module _ (l : tie.At-loop-i invariant-loop decreases-loop) where
   abbrev cells : List ℤ
-  cells = l.before.args.records.now
+  cells = l.args.records.now
 
   abbrev list : List ℤ
-  list = l.before.args.pairs.now
+  list = l.args.pairs.now
 
   abbrev into : ℤ
-  into = l.before.args.into
+  into = l.args.into
 
   abbrev today : ℤ
-  today = l.before.args.today
+  today = l.args.today
 
-  so_far : InvertedSoFar today into cells list l.loop.records l.loop.i
-  so_far = simp (to_z-of_z l.before.fits.today, to_z-of_z l.before.fits.into) at l.loop.inv
+  so_far : InvertedSoFar today into cells list l.loop-i.records l.loop-i.i
+  so_far = simp (to_z-of_z l.ranges.today, to_z-of_z l.ranges.into) at l.loop-i.invariant
 
-module _ (k : tie.In-loop invariant-loop decreases-loop) where
-  abbrev a : tie.At-loop invariant-loop decreases-loop
+module _ (k : tie.In-loop-i invariant-loop decreases-loop) where
+  abbrev a : tie.At-loop-i invariant-loop decreases-loop
   a = k.before
 
-  more : a.loop.i < length (list a) / 2
-  more = k.loop-test.taken
+  more : a.loop-i.i < length (list a) / 2
+  more = k.loop-i-test.true
 
-  fit : 2 * a.loop.i + 2 ≤ length (list a)
+  fit : 2 * a.loop-i.i + 2 ≤ length (list a)
   fit = omega (arith, more)
 
 -- The figures of the pair.
-module _ (c : tie.After-insert-inverse-arg3 invariant-loop decreases-loop) where
-  abbrev turn : tie.In-loop invariant-loop decreases-loop
+module _ (c : tie.After-insert_inverse-arg-in-loop-i-2-1 invariant-loop decreases-loop) where
+  abbrev turn : tie.In-loop-i invariant-loop decreases-loop
   turn = c.before.before.before
 
-  id-fits : SFits w64 (get_or (list (a turn)) (2 * (a turn).loop.i) (pos 0))
-  id-fits = sfits_of c.before.insert-inverse-arg2.given
+  id-fits : SFits w64 (get_or (list (a turn)) (2 * (a turn).loop-i.i) (pos 0))
+  id-fits = sfits_of c.insert_inverse-arg-in-loop-i-1.given
 
-  suffix-fits : SFits w64 (get_or (list (a turn)) (2 * (a turn).loop.i + 1) (pos 0))
-  suffix-fits = sfits_of c.insert-inverse-arg3.given
+  suffix-fits : SFits w64 (get_or (list (a turn)) (2 * (a turn).loop-i.i + 1) (pos 0))
+  suffix-fits = sfits_of c.insert_inverse-arg-in-loop-i-2-1.given
 
-put : (c : tie.After-insert-inverse invariant-loop decreases-loop) → c.insert-inverse.new.0
+put : (c : tie.After-insert_inverse invariant-loop decreases-loop) → c.insert_inverse.new.records
     ≡ write records_layout (a (turn c.before)).loop.records
     (upsert record_key (inverse_named (today (a (turn c.before))) (a (turn c.before)).loop.records (pair_at (list (a (turn c.before))) (a (turn c.before)).loop.i) (into (a (turn c.before))))
     (rows_of records_layout (a (turn c.before)).loop.records))
 unfolding pair_at
 put c =
-    simp (to_z-of_z (id-fits c.before), to_z-of_z (suffix-fits c.before), to_z-of_z (a (turn c.before)).before.fits.today, to_z-of_z (a (turn c.before)).before.fits.into) at c.insert-inverse.ensures.0
+    simp (to_z-of_z (id-fits c.before), to_z-of_z (suffix-fits c.before), to_z-of_z (a (turn c.before)).ranges.today, to_z-of_z (a (turn c.before)).ranges.into) at c.insert_inverse.ensures.0
 
-loop-holds : tie.Need-loop-init invariant-loop decreases-loop
+loop-holds : tie.Need-loop-i-init invariant-loop decreases-loop
 loop-holds c = simp (to_z-of_z c.ranges.today, to_z-of_z c.ranges.into) (inverted-start c.args.today c.args.into c.args.records.now c.args.pairs.now c.requires.1 c.requires.0)
 
-mul-insert-inverse : tie.Need-overflow-mul-insert-inverse invariant-loop decreases-loop
+mul-insert-inverse : tie.Need-overflow_mul-i invariant-loop decreases-loop
 mul-insert-inverse c = omega (arith, fit c.before)
 
-mul-insert-inverse-2 : tie.Need-overflow-mul-insert-inverse-2 invariant-loop decreases-loop
+mul-insert-inverse-2 : tie.Need-offset_bounds-pairs-i invariant-loop decreases-loop
 mul-insert-inverse-2 c = omega (arith, fit c.before)
 
-shared-slice-copy-out-insert-inverse : tie.Need-shared-slice-copy-out-insert-inverse invariant-loop decreases-loop
+shared-slice-copy-out-insert-inverse : tie.Need-bounds-pairs-i invariant-loop decreases-loop
 shared-slice-copy-out-insert-inverse c = omega (arith, fit c.before)
 
-mul-insert-inverse-3 : tie.Need-overflow-mul-insert-inverse-3 invariant-loop decreases-loop
+mul-insert-inverse-3 : tie.Need-overflow_mul-i-in-loop-i invariant-loop decreases-loop
 mul-insert-inverse-3 c = omega (arith, fit c.before.before)
 
-add-insert-inverse : tie.Need-overflow-add-insert-inverse invariant-loop decreases-loop
+add-insert-inverse : tie.Need-overflow_add-i invariant-loop decreases-loop
 add-insert-inverse c = omega (arith, fit c.before.before)
 
-mul-insert-inverse-4 : tie.Need-overflow-mul-insert-inverse-4 invariant-loop decreases-loop
+mul-insert-inverse-4 : tie.Need-offset_bounds-pairs-i-in-loop-i invariant-loop decreases-loop
 mul-insert-inverse-4 c = omega (arith, fit c.before.before)
 
-shared-slice-copy-out-insert-inverse-2 : tie.Need-shared-slice-copy-out-insert-inverse-2 invariant-loop decreases-loop
+shared-slice-copy-out-insert-inverse-2 : tie.Need-bounds-pairs-i-in-loop-i invariant-loop decreases-loop
 shared-slice-copy-out-insert-inverse-2 c = omega (arith, fit c.before.before)
 
-insert-inverse-requires : tie.Need-insert-inverse-requires invariant-loop decreases-loop
+insert-inverse-requires : tie.Need-insert_inverse-requires invariant-loop decreases-loop
 unfolding pair_at
 insert-inverse-requires c κs =
-    let k : tie.In-loop invariant-loop decreases-loop = turn c in
-    let l : tie.At-loop invariant-loop decreases-loop = a k in
-    let p = l.before.pre in
-    simp (to_z-of_z (id-fits c), to_z-of_z (suffix-fits c), to_z-of_z l.before.fits.today, to_z-of_z l.before.fits.into) (
-      l.loop.inv.sound,
-      insert-found (today l) (into l) (cells l) (list l) p.1 p.2 p.3 l.loop.records l.loop.i (so_far l) (more k),
-      insert-sound (today l) (into l) (cells l) (list l) p.1 p.2 p.3 l.loop.records l.loop.i (so_far l) (more k),
-      insert-room (today l) (into l) (cells l) (list l) p.1 p.2 p.3 l.loop.records l.loop.i (so_far l) (more k),
+    let k : tie.In-loop-i invariant-loop decreases-loop = turn c in
+    let l : tie.At-loop-i invariant-loop decreases-loop = a k in
+    let p = l.requires in
+    simp (to_z-of_z (id-fits c), to_z-of_z (suffix-fits c), to_z-of_z l.ranges.today, to_z-of_z l.ranges.into) (
+      l.loop-i.invariant.sound,
+      insert-found (today l) (into l) (cells l) (list l) p.1 p.2 p.3 l.loop-i.records l.loop-i.i (so_far l) (more k),
+      insert-sound (today l) (into l) (cells l) (list l) p.1 p.2 p.3 l.loop-i.records l.loop-i.i (so_far l) (more k),
+      insert-room (today l) (into l) (cells l) (list l) p.1 p.2 p.3 l.loop-i.records l.loop-i.i (so_far l) (more k),
     )
 
-add-i : tie.Need-overflow-add-i invariant-loop decreases-loop
+add-i : tie.Need-overflow_add-i-in-loop-i invariant-loop decreases-loop
 add-i c = omega (arith, fit (turn c.before.before))
 
-loop-less : tie.Need-loop-smaller invariant-loop decreases-loop
+loop-less : tie.Need-loop-i-smaller invariant-loop decreases-loop
 loop-less c = omega (arith, more (turn c.before.before))
 
-loop-again : tie.Need-loop-preserved invariant-loop decreases-loop
+loop-again : tie.Need-loop-i-preserved invariant-loop decreases-loop
 loop-again c =
-    let k : tie.In-loop invariant-loop decreases-loop = turn c.before.before in
-    let l : tie.At-loop invariant-loop decreases-loop = a k in
-    let p = l.before.pre in
-    simp (to_z-of_z l.before.fits.today, to_z-of_z l.before.fits.into)
-    (insert-next (today l) (into l) (cells l) (list l) p.1 p.2 p.3 l.loop.records l.loop.i (so_far l) (more k) c.before.insert-inverse.new.0
-    (put c.before) c.before.insert-inverse.ensures.1 c.before.insert-inverse.auto.0)
+    let k : tie.In-loop-i invariant-loop decreases-loop = turn c.before.before in
+    let l : tie.At-loop-i invariant-loop decreases-loop = a k in
+    let p = l.requires in
+    simp (to_z-of_z l.ranges.today, to_z-of_z l.ranges.into)
+    (insert-next (today l) (into l) (cells l) (list l) p.1 p.2 p.3 l.loop-i.records l.loop-i.i (so_far l) (more k) c.insert_inverse.new.records
+    (put c.before) c.insert_inverse.ensures.1 c.insert_inverse.auto.records)
 
-same_length : tie.Need-same-length invariant-loop decreases-loop
-same_length c = c.before.loop.invariant.same_size
+same_length : tie.Need-shape_of-records invariant-loop decreases-loop
+same_length c = c.loop-i.invariant.same_size
 
 returns : tie.Need-returns invariant-loop decreases-loop
 returns c =
-    let l : tie.At-loop invariant-loop decreases-loop = c.before in
-    inverted-end (today l) (into l) (cells l) (list l) l.before.requires.1 l.loop.records l.loop.i c.loop-test.false (so_far l)
+    let l : tie.At-loop-i invariant-loop decreases-loop = c.before in
+    inverted-end (today l) (into l) (cells l) (list l) l.requires.1 l.loop-i.records l.loop-i.i c.loop-i-test.false (so_far l)
 
-pub insert-inverses-spec : {M : Type 1} → statement M
-insert-inverses-spec =
+pub insert_inverses_spec : {M : Type 1} → statement M
+insert_inverses_spec =
     tie.close
     (tie.spec
     invariant-loop

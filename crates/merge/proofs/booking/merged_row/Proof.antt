@@ -5,7 +5,7 @@ use Rattle.scan.proofs.ReadBack.{read_back}
 use Rattle.merge.proofs.booking.merged_row.Statement.{statement}
 use Rattle.merge.proofs.booking.merged_row.Tie as tie
 
-new-record-requires : tie.Need-new-record-requires
+new-record-requires : tie.Need-new_record-requires
 new-record-requires c κs = search rules
 
 returns : tie.Need-returns
@@ -13,14 +13,14 @@ returns c =
     let s : tie.Start = c.before.before.before.before in
     let r = s.args.first in
     simp (
-      read_back r.account c.before.before.before.struct_told.given.1.1.1.1.1.0.1,
-      read_back r.series c.before.before.struct-told2.given.1.1.1.1.1.1.0.1,
-      read_back r.side c.before.struct-told3.given.1.1.1.1.1.1.1.0.1,
+      read_back r.account c.struct_told-1.given.1.1.1.1.1.0.1,
+      read_back r.series c.struct_told-2-1.given.1.1.1.1.1.1.0.1,
+      read_back r.side c.struct_told-3-1.given.1.1.1.1.1.1.1.0.1,
       to_z-of_z s.ranges.today,
       to_z-of_z s.ranges.id,
       to_z-of_z s.ranges.quantity,
       to_z-of_z s.ranges.price,
-    ) at c.new-record.ensures
+    ) at c.new_record.ensures
 
-pub merged-row-spec : {M : Type 1} → statement M
-merged-row-spec = tie.close (tie.spec new-record-requires returns)
+pub merged_row_spec : {M : Type 1} → statement M
+merged_row_spec = tie.close (tie.spec new-record-requires returns)

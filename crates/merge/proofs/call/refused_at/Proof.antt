@@ -7,7 +7,7 @@ use mir.Syntax.{w64}
 use Rattle.merge.proofs.call.refused_at.Statement.{statement}
 use Rattle.merge.proofs.call.refused_at.Tie as tie
 
-cast-t3 : tie.Need-overflow-cast-t3
+cast-t3 : tie.Need-overflow_cast-result
 cast-t3 c = search rules
 
 returns : tie.Need-returns
@@ -15,5 +15,5 @@ returns c =
     let small : c.args.place < 2 ^ 63 = omega (arith, c.requires) in
     simp (to_z-of_z c.ranges.number, to_z_pos w64 small)
 
-pub refused-at-spec : {M : Type 1} → statement M
-refused-at-spec = tie.close (tie.spec cast-t3 returns)
+pub refused_at_spec : {M : Type 1} → statement M
+refused_at_spec = tie.close (tie.spec cast-t3 returns)

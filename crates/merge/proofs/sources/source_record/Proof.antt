@@ -25,20 +25,20 @@ module _ (s : tie.Start) where
   place = s.args.place
 
   known : (place < length kept) × RowOfPair cells list place (get_or kept place 0)
-  known = row_kept cells list kept place s.pre.2 s.pre.1
+  known = row_kept cells list kept place s.requires.2 s.requires.1
 
-mul-read-record : tie.Need-overflow-mul-read-record
+mul-read-record : tie.Need-offset_bounds-rows-place
 mul-read-record c = search rules
 
-shared-slice-read-read-record : tie.Need-shared-slice-read-read-record
+shared-slice-read-read-record : tie.Need-bounds-rows-place
 shared-slice-read-read-record c = (known c.before.before).0
 
-cast-read-record : tie.Need-overflow-cast-read-record
+cast-read-record : tie.Need-overflow_cast-rows
 cast-read-record c =
     let s : tie.Start = c.before.before in
     omega (arith, row_small (cells s) (list s) (place s) _ (known s).1 s.requires.0)
 
-read-record-requires : tie.Need-read-record-requires
+read-record-requires : tie.Need-read_record-requires
 read-record-requires c κs =
     let s : tie.Start = c.before.before in
     (s.requires.0, row_within (cells s) (list s) (place s) _ (known s).1)
@@ -46,7 +46,7 @@ read-record-requires c κs =
 returns : tie.Need-returns
 returns c =
     let s : tie.Start = c.before.before.before in
-    row-record (cells s) (list s) (place s) _ (known s).1 ∙ ap some (sym c.read-record.ensures)
+    row-record (cells s) (list s) (place s) _ (known s).1 ∙ ap some (sym c.read_record.ensures)
 
-pub source-record-spec : {M : Type 1} → statement M
-source-record-spec = tie.close (tie.spec mul-read-record shared-slice-read-read-record cast-read-record read-record-requires returns)
+pub source_record_spec : {M : Type 1} → statement M
+source_record_spec = tie.close (tie.spec mul-read-record shared-slice-read-read-record cast-read-record read-record-requires returns)

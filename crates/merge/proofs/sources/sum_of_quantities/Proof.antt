@@ -23,10 +23,10 @@ use Rattle.merge.proofs.sources.sum_of_quantities.Tie as tie
 abbrev sum_first : List ℤ → List ℤ → ℕ → ℤ
 sum_first cells pairs i = sum_over quantity_of (take i (source_records cells pairs))
 
-abbrev invariant-loop : tie.invariant-loop
+abbrev invariant-loop : tie.invariant-loop-i
 invariant-loop records pairs rows count sum₀ i₀ sum i = (i ≤ length pairs / 2) × (to_z w64 sum ≡ sum_first records pairs i)
 
-abbrev decreases-loop : tie.decreases-loop
+abbrev decreases-loop : tie.decreases-loop-i
 decreases-loop records pairs rows count sum₀ i₀ sum i = length pairs / 2 - i
 
 module _ (s : tie.Start invariant-loop decreases-loop) where
@@ -37,60 +37,60 @@ module _ (s : tie.Start invariant-loop decreases-loop) where
   list = s.args.pairs.now
 
   sum_fits : (i : ℕ) → i ≤ length list / 2 → SFits w64 (sum_first cells list i)
-  sum_fits i h = quantity-sum-fits cells list s.pre.0 s.pre.2 i h s.pre.3
+  sum_fits i h = quantity-sum-fits cells list s.requires.0 s.requires.2 i h s.requires.3
 
 -- One more source, in the words of the code.
-module _ (c : tie.After-struct-told invariant-loop decreases-loop) where
-  abbrev here : tie.In-loop invariant-loop decreases-loop
+module _ (c : tie.After-struct_told-1 invariant-loop decreases-loop) where
+  abbrev here : tie.In-loop-i invariant-loop decreases-loop
   here = c.before.before.before
 
   abbrev s : tie.Start invariant-loop decreases-loop
   s = here.before.before.before
 
   abbrev i : ℕ
-  i = here.before.loop.i
+  i = here.loop-i.i
 
   abbrev r : Record
-  r = c.before.before.source-record.result
+  r = c.source_record-r.result
 
   quantity-fits : SFits w64 r.quantity
-  quantity-fits = sfits_of {w = w64} {z = r.quantity} c.struct_told.given.1.1.1.1.1.1.1.1.0.1
+  quantity-fits = sfits_of {w = w64} {z = r.quantity} c.struct_told-1.given.1.1.1.1.1.1.1.1.0.1
 
-  one_more : to_z w64 here.before.loop.sum +ℤ r.quantity ≡ sum_first (cells s) (list s) (i + 1)
+  one_more : to_z w64 here.loop-i.sum-bits +ℤ r.quantity ≡ sum_first (cells s) (list s) (i + 1)
   one_more =
-      ap (λ (z : ℤ). z +ℤ r.quantity) here.before.loop.inv.1
+      ap (λ (z : ℤ). z +ℤ r.quantity) here.loop-i.invariant.1
       ∙ ap (λ (x : Record). sum_first (cells s) (list s) i +ℤ x.quantity)
-      (sym (record-found (cells s) (list s) i here.loop-test.taken r c.before.before.source-record.ensures))
-      ∙ sym (sum-next quantity_of (source_records (cells s) (list s)) i no_record (omega (arith, record-count (cells s) (list s), here.loop-test.taken)))
+      (sym (record-found (cells s) (list s) i here.loop-i-test.true r c.source_record-r.ensures))
+      ∙ sym (sum-next quantity_of (source_records (cells s) (list s)) i no_record (omega (arith, record-count (cells s) (list s), here.loop-i-test.true)))
 
-  more-fits : SFits w64 (to_z w64 here.before.loop.sum +ℤ r.quantity)
-  more-fits = subst (λ (z : ℤ). SFits w64 z) (sym one_more) (sum_fits s (i + 1) (omega (arith, here.loop-test.taken)))
+  more-fits : SFits w64 (to_z w64 here.loop-i.sum-bits +ℤ r.quantity)
+  more-fits = subst (λ (z : ℤ). SFits w64 z) (sym one_more) (sum_fits s (i + 1) (omega (arith, here.loop-i-test.true)))
 
-loop-holds : tie.Need-loop-init invariant-loop decreases-loop
+loop-holds : tie.Need-loop-i-init invariant-loop decreases-loop
 loop-holds c = (omega arith, sym (sum-at-first quantity_of []))
 
-source-record-requires : tie.Need-source-record-requires invariant-loop decreases-loop
+source-record-requires : tie.Need-source_record-r-requires invariant-loop decreases-loop
 source-record-requires c κs =
     let s : tie.Start invariant-loop decreases-loop = c.before.before.before in
     (s.requires.0, s.requires.1, omega arith)
 
-add-sum : tie.Need-overflow-add-sum invariant-loop decreases-loop
+add-sum : tie.Need-overflow_add-sum invariant-loop decreases-loop
 add-sum c = simp (to_z-of_z (quantity-fits c)) (more-fits c)
 
-add-i : tie.Need-overflow-add-i invariant-loop decreases-loop
+add-i : tie.Need-overflow_add-i invariant-loop decreases-loop
 add-i c = omega arith
 
-loop-less : tie.Need-loop-smaller invariant-loop decreases-loop
+loop-less : tie.Need-loop-i-smaller invariant-loop decreases-loop
 loop-less c = omega arith
 
-loop-again : tie.Need-loop-preserved invariant-loop decreases-loop
+loop-again : tie.Need-loop-i-preserved invariant-loop decreases-loop
 loop-again c = (omega arith, simp (to_z-of_z (quantity-fits c), to_z-of_z (more-fits c)) (one_more c))
 
 returns : tie.Need-returns invariant-loop decreases-loop
 returns c =
     let s : tie.Start invariant-loop decreases-loop = c.before.before.before in
     let rs : List Record = source_records (cells s) (list s) in
-    c.before.loop.invariant.1 ∙ sum-at-last quantity_of rs c.before.loop.i (omega (arith, record-count (cells s) (list s), c.loop-test.false)) ∙ sym (quantities-sum rs)
+    c.loop-i.invariant.1 ∙ sum-at-last quantity_of rs c.loop-i.i (omega (arith, record-count (cells s) (list s), c.loop-i-test.false)) ∙ sym (quantities-sum rs)
 
-pub sum-of-quantities-spec : {M : Type 1} → statement M
-sum-of-quantities-spec = tie.close (tie.spec invariant-loop decreases-loop loop-holds source-record-requires add-sum add-i loop-less loop-again returns)
+pub sum_of_quantities_spec : {M : Type 1} → statement M
+sum_of_quantities_spec = tie.close (tie.spec invariant-loop decreases-loop loop-holds source-record-requires add-sum add-i loop-less loop-again returns)

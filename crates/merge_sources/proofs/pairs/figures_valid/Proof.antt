@@ -38,65 +38,65 @@ holds m e = goes_on m (sym e) refl
 fails : {whole t : Bool} {rest : List Bool} → Remaining whole (t ∷ rest) → t ≡ false → false ≡ whole
 fails m e = stops m (sym e) refl
 
-id-test : (c : tie.After-valid-id) → c.valid-id.result ≡ valid_id c.before.args.id
-id-test c = simp (to_z-of_z c.before.ranges.id) at c.valid-id.ensures
+id-test : (c : tie.After-valid_id) → c.valid_id.result ≡ valid_id c.args.id
+id-test c = simp (to_z-of_z c.ranges.id) at c.valid_id.ensures
 
-after1 : (c : tie.Else1) → After 1 c.before.before
-after1 c = goes_on (all-remain c.before.before) (id-test c.before) c.if1.false
+after1 : (c : tie.Else-not-valid_id) → After 1 c.before.before
+after1 c = goes_on (all-remain c.before.before) (id-test c.before) c.if-not-valid_id.false-raw
 
-account-test : (c : tie.After-valid-account) → c.valid-account.result ≡ valid_account c.before.before.before.args.account
-account-test c = simp (to_z-of_z c.before.before.before.ranges.account) at c.valid-account.ensures
+account-test : (c : tie.After-valid_account) → c.valid_account.result ≡ valid_account c.args.account
+account-test c = simp (to_z-of_z c.ranges.account) at c.valid_account.ensures
 
-after2 : (c : tie.Else2) → After 2 c.before.before.before.before
-after2 c = goes_on (after1 c.before.before) (account-test c.before) c.if2.false
+after2 : (c : tie.Else-not-valid_account) → After 2 c.before.before.before.before
+after2 c = goes_on (after1 c.before.before) (account-test c.before) c.if-not-valid_account.false-raw
 
-series-test : (c : tie.After-valid-series) → c.valid-series.result ≡ valid_series c.before.before.before.before.before.args.series
-series-test c = simp (to_z-of_z c.before.before.before.before.before.ranges.series) at c.valid-series.ensures
+series-test : (c : tie.After-valid_series) → c.valid_series.result ≡ valid_series c.args.series
+series-test c = simp (to_z-of_z c.ranges.series) at c.valid_series.ensures
 
-after3 : (c : tie.Else3) → After 3 c.before.before.before.before.before.before
-after3 c = goes_on (after2 c.before.before) (series-test c.before) c.if3.false
+after3 : (c : tie.Else-not-valid_series) → After 3 c.before.before.before.before.before.before
+after3 c = goes_on (after2 c.before.before) (series-test c.before) c.if-not-valid_series.false-raw
 
-after4 : (c : tie.Else4) → After 4 c.before.before.before.before.before.before.before
-after4 c = holds (after3 c.before) (eq-eqb _ 0 c.if4.false)
+after4 : (c : tie.Else-pairs-ne0) → After 4 c.before.before.before.before.before.before.before
+after4 c = holds (after3 c.before) (eq-eqb _ 0 c.if-pairs-ne0.false)
 
-after5 : (c : tie.Else6) → After 5 c.before.before.before.before.before.before.before.before.before
-after5 c = holds (after4 c.before.before) (right-count _ c.before.if5.false c.if6.false)
+after5 : (c : tie.Else-pairs-gt2000) → After 5 c.before.before.before.before.before.before.before.before.before
+after5 c = holds (after4 c.before.before) (right-count _ c.if-pairs-lt4.false c.if-pairs-gt2000.false)
 
-valid-id-requires : tie.Need-valid-id-requires
+valid-id-requires : tie.Need-valid_id-requires
 valid-id-requires c κs = search rules
 
-returns : tie.Need-returns
-returns c = stops (all-remain c.before.before) (id-test c.before) c.if1.true
+returns : tie.Need-returns-then-not-valid_id
+returns c = stops (all-remain c.before.before) (id-test c.before) c.if-not-valid_id.true-raw
 
-valid-account-requires : tie.Need-valid-account-requires
+valid-account-requires : tie.Need-valid_account-requires
 valid-account-requires c κs = search rules
 
-returns-2 : tie.Need-returns-2
-returns-2 c = stops (after1 c.before.before) (account-test c.before) c.if2.true
+returns-2 : tie.Need-returns-then-not-valid_account
+returns-2 c = stops (after1 c.before.before) (account-test c.before) c.if-not-valid_account.true-raw
 
-valid-series-requires : tie.Need-valid-series-requires
+valid-series-requires : tie.Need-valid_series-requires
 valid-series-requires c κs = search rules
 
-returns-3 : tie.Need-returns-3
-returns-3 c = stops (after2 c.before.before) (series-test c.before) c.if3.true
+returns-3 : tie.Need-returns-then-not-valid_series
+returns-3 c = stops (after2 c.before.before) (series-test c.before) c.if-not-valid_series.true-raw
 
-returns-4 : tie.Need-returns-4
-returns-4 c = fails (after3 c.before) (ne_eqb _ 0 c.if4.true)
+returns-4 : tie.Need-returns-then-pairs-ne0
+returns-4 c = fails (after3 c.before) (ne_eqb _ 0 c.if-pairs-ne0.true)
 
-returns-5 : tie.Need-returns-5
-returns-5 c = fails (after4 c.before) (too_few _ c.if5.true)
+returns-5 : tie.Need-returns-then-pairs-lt4
+returns-5 c = fails (after4 c.before) (too_few _ c.if-pairs-lt4.true)
 
-returns-6 : tie.Need-returns-6
-returns-6 c = fails (after4 c.before.before) (too_many _ c.before.before.if4.false c.before.if5.false c.if6.true)
+returns-6 : tie.Need-returns-then-pairs-gt2000
+returns-6 c = fails (after4 c.before.before) (too_many _ c.if-pairs-ne0.false c.if-pairs-lt4.false c.if-pairs-gt2000.true)
 
-pairs-valid-requires : tie.Need-pairs-valid-requires
+pairs-valid-requires : tie.Need-pairs_valid-requires
 pairs-valid-requires c κs = search rules
 
-returns-7 : tie.Need-returns-7
-returns-7 c = ends (after5 c.before) c.pairs-valid.ensures
+returns-7 : tie.Need-returns
+returns-7 c = ends (after5 c.before) c.pairs_valid.ensures
 
-pub figures-valid-spec : {M : Type 1} → statement M
-figures-valid-spec =
+pub figures_valid_spec : {M : Type 1} → statement M
+figures_valid_spec =
     tie.close
     (tie.spec
     valid-id-requires

@@ -35,7 +35,7 @@ use Rattle.merge.proofs.sources.locate.Tie as tie
 abbrev pub missing : List ℤ → List ℤ → List Bool
 missing cells pairs = map is_missing (sources_in cells pairs)
 
-abbrev pub Inv-loop : tie.invariant-loop
+abbrev pub Inv-loop : tie.invariant-loop-i
 Inv-loop records pairs rows₀ suffixes₀ count i₀ rows suffixes i =
     (i ≤ length pairs / 2)
     × (any_of (take i (missing records pairs)) ≡ false)
@@ -44,12 +44,12 @@ Inv-loop records pairs rows₀ suffixes₀ count i₀ rows suffixes i =
     × KnownTo (RowOfPair records pairs) rows i
     × KnownTo (SuffixOfPair records pairs) suffixes i
 
-abbrev pub μ-loop : tie.decreases-loop
+abbrev pub μ-loop : tie.decreases-loop-i
 μ-loop records pairs rows₀ suffixes₀ count i₀ rows suffixes i = length pairs / 2 - i
 
 -- ---- the table, the pairs, and the pair of this turn
 
-module _ (a : tie.At-loop Inv-loop μ-loop) where
+module _ (a : tie.At-loop-i Inv-loop μ-loop) where
   abbrev pub start : tie.Start Inv-loop μ-loop
   start = a.before.before.before
 
@@ -60,49 +60,49 @@ module _ (a : tie.At-loop Inv-loop μ-loop) where
   list = start.args.pairs.now
 
   abbrev pair : Key
-  pair = pair_at list a.loop.i
+  pair = pair_at list a.loop-i.i
 
   pub many : length (missing cells list) ≡ length list / 2
   many = length-map (sources_in cells list) is_missing ∙ source-count cells list
 
-abbrev pub turn : tie.After-look-up Inv-loop μ-loop → tie.At-loop Inv-loop μ-loop
+abbrev pub turn : tie.After-look_up Inv-loop μ-loop → tie.At-loop-i Inv-loop μ-loop
 turn c = c.before.before.before.before
 
-answer : (c : tie.After-look-up Inv-loop μ-loop) → c.look_up.result ≡ sought_in records_layout (pair (turn c)) (cells (turn c))
+answer : (c : tie.After-look_up Inv-loop μ-loop) → c.look_up.result ≡ sought_in records_layout (pair (turn c)) (cells (turn c))
 unfolding pair_at
 answer c =
-    let a : tie.At-loop Inv-loop μ-loop = turn c in
-    let f : SFits w64 (get_or (list a) (2 * a.loop.i) (pos 0)) = sfits_of c.before.before.look-up-arg.given in
-    let g : SFits w64 (get_or (list a) (2 * a.loop.i + 1) (pos 0)) = sfits_of c.before.look-up-arg2.given in
+    let a : tie.At-loop-i Inv-loop μ-loop = turn c in
+    let f : SFits w64 (get_or (list a) (2 * a.loop-i.i) (pos 0)) = sfits_of c.look_up-arg-1.given in
+    let g : SFits w64 (get_or (list a) (2 * a.loop-i.i + 1) (pos 0)) = sfits_of c.look_up-arg-in-loop-i-1.given in
     simp (to_z-of_z f, to_z-of_z g) at c.look_up.ensures
 
-pub absent : (c : tie.After-enum-told Inv-loop μ-loop) → let a = turn c.before.before in find record_key (pair a) (rows_of records_layout (cells a)) ≡ none
+pub absent : (c : tie.In_default Inv-loop μ-loop) → let a = turn c.before in find record_key (pair a) (rows_of records_layout (cells a)) ≡ none
 absent c =
-    let a : tie.At-loop Inv-loop μ-loop = turn c.before.before in
-    (table-lacks records_layout record_key records-first (cells a) (pair a) _ _ (sym (answer c.before.before) ∙ c.enum_told.given.1)).absent
+    let a : tie.At-loop-i Inv-loop μ-loop = turn c.before in
+    (table-lacks records_layout record_key records-first (cells a) (pair a) _ _ (sym (answer c.before) ∙ c.in_default.is)).absent
 
-module _ (c : tie.After-known-told Inv-loop μ-loop) where
-  abbrev here : tie.At-loop Inv-loop μ-loop
-  here = turn c.before.before.before
+module _ (c : tie.In-Present Inv-loop μ-loop) where
+  abbrev here : tie.At-loop-i Inv-loop μ-loop
+  here = turn c.before
 
   abbrev pub row : ℕ
-  row = c.before.row.given.0.0
+  row = c.in-Present.row
 
   abbrev suffix : ℤ
-  suffix = c.before.row.given.0.1.0
+  suffix = c.in-Present.greatest
 
-  pub there : PresentAt records_layout record_key (cells here) (pair here) row suffix c.before.row.given.0.1.1.0
-  there = table-present records_layout record_key records-first (cells here) (pair here) row suffix _ (sym (answer c.before.before.before) ∙ c.before.row.given.1)
+  pub there : PresentAt records_layout record_key (cells here) (pair here) row suffix c.in-Present.next
+  there = table-present records_layout record_key records-first (cells here) (pair here) row suffix _ (sym (answer c.before) ∙ c.in-Present.is)
 
   pub small : row < 65536
-  small = row_small (cells here) (list here) here.loop.i row there.found-is (start here).pre.0
+  small = row_small (cells here) (list here) here.loop-i.i row there.found-is (start here).requires.0
 
   -- The suffix as it is kept: it fits 16 bits.
   abbrev kept : ℤ
   kept = to_z w64 (of_z w64 suffix)
 
   range : (pos 0 ≤ℤ suffix) × (suffix ≤ℤ pos 65535)
-  range = greatest-range (cells here) (start here).pre.0 (pair here).major suffix there.greatest-is
+  range = greatest-range (cells here) (start here).requires.0 (pair here).major suffix there.greatest-is
 
   kept-is : kept ≡ suffix
   kept-is = let f : SFits w64 suffix = omega (zarith, range.0, range.1) in to_z-of_z f
@@ -110,14 +110,14 @@ module _ (c : tie.After-known-told Inv-loop μ-loop) where
   pub suffix-casts : T (non_neg kept) × Fits w16 (nat_abs kept)
   suffix-casts = rw kept-is (omega (zarith, range.0), record { fits = omega (zarith, range.0, range.1, abs-lin suffix) })
 
-  pub suffix-is : SuffixOfPair (cells here) (list here) here.loop.i (nat_abs kept)
+  pub suffix-is : SuffixOfPair (cells here) (list here) here.loop-i.i (nat_abs kept)
   suffix-is = there.greatest-is ∙ ap some (sym (pos-nat_abs kept suffix-casts.0 ∙ kept-is))
 
-  abbrev more : here.loop.i < length (list here) / 2
-  more = c.before.before.before.before.before.before.loop-test.true
+  abbrev more : here.loop-i.i < length (list here) / 2
+  more = c.loop-i-test.true
 
-  pub room : here.loop.i < length here.loop.rows
-  room = omega (arith, more, here.loop.inv.2, (start here).pre.1)
+  pub room : here.loop-i.i < length here.loop-i.rows
+  room = omega (arith, more, here.loop-i.invariant.2, (start here).requires.1)
 
-  pub suffix-room : here.loop.i < length here.loop.suffixes
-  suffix-room = omega (arith, more, here.loop.inv.3, (start here).pre.2)
+  pub suffix-room : here.loop-i.i < length here.loop-i.suffixes
+  suffix-room = omega (arith, more, here.loop-i.invariant.3, (start here).requires.2)
