@@ -57,22 +57,22 @@ module _ (t : ℕ) where
   Start = origin-lts.Start (claims t) (origin-at t) origin.Post
 
   abbrev Looked : Type 0
-  Looked = origin-lts.After-look-up (claims t) (origin-at t) origin.Post
+  Looked = origin-lts.After-look_up (claims t) (origin-at t) origin.Post
 
   abbrev Told : Type 0
-  Told = origin-lts.After-known-told (claims t) (origin-at t) origin.Post
+  Told = origin-lts.In-Present (claims t) (origin-at t) origin.Post
 
   abbrev Read : Type 0
-  Read = origin-lts.After-read-record (claims t) (origin-at t) origin.Post
+  Read = origin-lts.After-read_record-r (claims t) (origin-at t) origin.Post
 
   abbrev Onward : Type 0
-  Onward = origin-lts.Else1 (claims t) (origin-at t) origin.Post
+  Onward = origin-lts.Else-suffix-eq0 (claims t) (origin-at t) origin.Post
 
   abbrev Followed : Type 0
   Followed = origin-lts.After-origin (claims t) (origin-at t) origin.Post
 
   abbrev Linked : Type 0
-  Linked = origin-lts.After-price (claims t) (origin-at t) origin.Post
+  Linked = origin-lts.In-From (claims t) (origin-at t) origin.Post
 
   module _ (s : Start) where
     abbrev cells : List ℤ
@@ -85,24 +85,24 @@ module _ (t : ℕ) where
     suffix = s.args.suffix
 
     sound : sound_record_rows cells ≡ true
-    sound = s.pre.1.0
+    sound = s.requires.1.0
 
   looked : (c : Looked) → c.look_up.result ≡ record_sought (cells c.before) (id c.before) (suffix c.before)
-  looked c = simp (to_z-of_z c.before.ranges.id, to_z-of_z c.before.ranges.suffix) at c.look_up.ensures
+  looked c = simp (to_z-of_z c.ranges.id, to_z-of_z c.ranges.suffix) at c.look_up.ensures
 
   -- The row that the lookup answered.
   module _ (c : Told) where
     abbrev start : Start
     start = c.before.before.before.before
 
-    there : PresentAt records_layout record_key (cells start) (key_of (id start) (suffix start)) c.before.row.given.0.0 c.before.row.given.0.1.0 c.before.row.given.0.1.1.0
+    there : PresentAt records_layout record_key (cells start) (key_of (id start) (suffix start)) c.in-Present.row c.in-Present.greatest c.in-Present.next
     there =
         table-present records_layout record_key records-first (cells start) (key_of (id start) (suffix start)) _ _ _
-        (sym (looked c.before.before.before) ∙ c.before.row.given.1)
+        (sym (looked c.before.before.before) ∙ c.in-Present.is)
 
   -- The record that was read.
-  named : (c : Read) → records_of_id (cells (start c.before)) (id (start c.before)) (suffix (start c.before)) ≡ some c.read-record.result
-  named c = (there c.before).found ∙ ap some (sym c.read-record.ensures)
+  named : (c : Read) → records_of_id (cells (start c.before)) (id (start c.before)) (suffix (start c.before)) ≡ some c.read_record-r.result
+  named c = (there c.before).found ∙ ap some (sym c.read_record-r.ensures)
 
   -- Past suffix 0: the origin of the parent.
   module _ (c : Onward) where
@@ -110,33 +110,33 @@ module _ (t : ℕ) where
     from = start c.before.before
 
     abbrev parent : ℤ
-    parent = c.before.read-record.result.parent
+    parent = c.read_record-r.result.parent
 
     not-zero : eq_z (suffix from) (pos 0) ≡ false
-    not-zero = not-literal 0 from.fits.suffix c.if1.false
+    not-zero = not-literal 0 from.ranges.suffix c.if-suffix-eq0.false
 
     parent-is-valid : valid_suffix parent ≡ true
-    parent-is-valid = parent-valid (cells from) (sound from) (id from) (suffix from) c.before.read-record.result (named c.before)
+    parent-is-valid = parent-valid (cells from) (sound from) (id from) (suffix from) c.read_record-r.result (named c.before)
 
     parent-fits : SFits w64 parent
     parent-fits = let range : (pos 0 ≤ℤ parent) × (parent ≤ℤ greatest_of_suffixes) = suffix-range parent parent-is-valid in omega zarith
 
   followed : (c : Followed)
       → c.origin.result ≡ origin_found (cells (from c.before.before)) (id (from c.before.before)) (parent c.before.before)
-  followed c = simp (to_z-of_z (from c.before.before).fits.id, to_z-of_z (parent-fits c.before.before)) at c.origin.ensures
+  followed c = simp (to_z-of_z (from c.before.before).ranges.id, to_z-of_z (parent-fits c.before.before)) at c.origin.ensures
 
   module _ (c : Linked) where
     abbrev onward : Onward
     onward = c.before.before.before.before
 
     abbrev price : ℤ
-    price = c.price.given.0.0
+    price = c.in-From.price
 
     abbrev links : ℤ
-    links = c.price.given.0.1.0
+    links = c.in-From.links
 
     origin-is : origin_found (cells (from onward)) (id (from onward)) (parent onward) ≡ From price links
-    origin-is = sym (followed c.before.before) ∙ c.price.given.1
+    origin-is = sym (followed c.before.before) ∙ c.in-From.is
 
     links-range : (pos 0 ≤ℤ links) × (links ≤ℤ greatest_of_suffixes)
     links-range = links-few (cells (from onward)) (sound (from onward)) (id (from onward)) (parent onward) price links (parent-is-valid onward) origin-is
@@ -147,57 +147,57 @@ module _ (t : ℕ) where
     next_fits : SFits w64 (links +ℤ pos 1)
     next_fits = let range : (pos 0 ≤ℤ links) × (links ≤ℤ greatest_of_suffixes) = links-range in omega (zarith, +-lin links (pos 1))
 
-origin-look-up-requires : (t : ℕ) → origin-lts.Need-look-up-requires (claims t) (origin-at t) origin.Post
+origin-look-up-requires : (t : ℕ) → origin-lts.Need-look_up-requires (claims t) (origin-at t) origin.Post
 origin-look-up-requires t c κs = sound t c
 
-origin-returns : (t : ℕ) → origin-lts.Need-returns (claims t) (origin-at t) origin.Post
+origin-returns : (t : ℕ) → origin-lts.Need-returns-in_default (claims t) (origin-at t) origin.Post
 origin-returns t c =
     let s : Start t = c.before.before.before in
     step-missing (cells t s) (id t s) (suffix t s)
-    (table-lacks records_layout record_key records-first (cells t s) (key_of (id t s) (suffix t s)) _ _ (sym (looked t c.before.before) ∙ c.enum_told.given.1)).absent
+    (table-lacks records_layout record_key records-first (cells t s) (key_of (id t s) (suffix t s)) _ _ (sym (looked t c.before.before) ∙ c.in_default.is)).absent
 
-origin-read-record-requires : (t : ℕ) → origin-lts.Need-read-record-requires (claims t) (origin-at t) origin.Post
+origin-read-record-requires : (t : ℕ) → origin-lts.Need-read_record-r-requires (claims t) (origin-at t) origin.Post
 origin-read-record-requires t c κs = (sound t (start t c), (there t c).row_within)
 
-origin-returns-2 : (t : ℕ) → origin-lts.Need-returns-2 (claims t) (origin-at t) origin.Post
+origin-returns-2 : (t : ℕ) → origin-lts.Need-returns-then-suffix-eq0 (claims t) (origin-at t) origin.Post
 origin-returns-2 t c =
     let r : Read t = c.before.before in
     let s : Start t = start t r.before in
-    ap (λ (z : ℤ). From z (pos 0)) (read_back r.read-record.result.price c.struct_told.given.1.1.1.1.1.1.1.1.1.0.1)
-    ∙ (step-first (cells t s) (id t s) (suffix t s) r.read-record.result (named t r) (is-literal 0 tt s.fits.suffix c.before.if1.true))
+    ap (λ (z : ℤ). From z (pos 0)) (read_back r.read-record.result.price c.struct_told-1.given.1.1.1.1.1.1.1.1.1.0.1)
+    ∙ (step-first (cells t s) (id t s) (suffix t s) r.read-record.result (named t r) (is-literal 0 tt s.ranges.suffix c.if-suffix-eq0.true))
 
 origin-origin-requires : (t : ℕ) → origin-lts.Need-origin-requires (claims t) (origin-at t) origin.Post
 origin-origin-requires t c κs =
     let o : Onward t = c.before in
     let s : Start t = from t o in
     simp (to_z-of_z (parent-fits t o)) (
-      subst (λ (n : ℕ). nat_abs (parent t o) < n) s.pre.0
-          (parent-nearer (cells t s) (id t s) (suffix t s) o.before.read-record.result (named t o.before) (sound t s) (not-zero t o)),
+      subst (λ (n : ℕ). nat_abs (parent t o) < n) s.requires.0
+          (parent-nearer (cells t s) (id t s) (suffix t s) o.read-record.result (named t o.before) (sound t s) (not-zero t o)),
       (sound t s, parent-is-valid t o),
     )
 
-origin-add-t14 : (t : ℕ) → origin-lts.Need-overflow-add-t14 (claims t) (origin-at t) origin.Post
+origin-add-t14 : (t : ℕ) → origin-lts.Need-overflow_add-result (claims t) (origin-at t) origin.Post
 origin-add-t14 t c = simp (to_z-of_z (links-fit t c.before)) (next_fits t c.before)
 
-origin-returns-3 : (t : ℕ) → origin-lts.Need-returns-3 (claims t) (origin-at t) origin.Post
+origin-returns-3 : (t : ℕ) → origin-lts.Need-returns-in-From (claims t) (origin-at t) origin.Post
 origin-returns-3 t c =
     let l : Linked t = c.before in
     let o : Onward t = onward t l in
     let s : Start t = from t o in
-    simp (read_back (price t l) c.known-told2.given.0.1, to_z-of_z (links-fit t l))
+    simp (read_back (price t l) c.in-From.known_told-in-From-1-own.given.0.1, to_z-of_z (links-fit t l))
     (simp (to_z-of_z (next_fits t l))
-    (step_from (cells t s) (id t s) (suffix t s) o.before.read-record.result (named t o.before) (sound t s) (not-zero t o) (price t l) (links t l) (origin-is t l)))
+    (step_from (cells t s) (id t s) (suffix t s) o.read-record.result (named t o.before) (sound t s) (not-zero t o) (price t l) (links t l) (origin-is t l)))
 
-origin-returns-4 : (t : ℕ) → origin-lts.Need-returns-4 (claims t) (origin-at t) origin.Post
+origin-returns-4 : (t : ℕ) → origin-lts.Need-returns-in-Missing (claims t) (origin-at t) origin.Post
 origin-returns-4 t c =
     let f : Followed t = c.before.before in
     let o : Onward t = f.before.before in
     let s : Start t = from t o in
-    step-onward-missing (cells t s) (id t s) (suffix t s) o.before.read-record.result (named t o.before) (sound t s) (not-zero t o)
-    (sym (followed t f) ∙ c.enum-told2.given.1)
+    step-onward-missing (cells t s) (id t s) (suffix t s) o.read-record.result (named t o.before) (sound t s) (not-zero t o)
+    (sym (followed t f) ∙ c.in-Missing.is)
 
-pub +origin-spec : {M : Type 1} → statement M
-+origin-spec =
+pub +origin_spec : {M : Type 1} → statement M
++origin_spec =
     close μ-origin
     (λ t.
     origin-lts.spec (claims t) (origin-at t) origin.Post

@@ -58,7 +58,7 @@ returns c =
     let k : tie.In-loop-row invariant-loop decreases-loop = c.before.before in
     as-asked (s k) (row-lacks (day (s k)) (cells (s k)) (a k).loop-row.pairs (a k).loop-row.row (a k).loop-row.invariant (below k) (sym c.pairs_of-given.ensures ∙ c.if-given-eq-NO_PARENT.true))
 
-counted : (c : tie.Else-given-eq-NO_PARENT invariant-loop decreases-loop) → let k = c in CountedSoFar (day (s k)) (cells (s k)) ((a k).loop-row.pairs + c.pairs_of-given.result) ((a k).loop-row.row + 1)
+counted : (c : tie.Else-given-eq-NO_PARENT invariant-loop decreases-loop) → let k = c.before.before in CountedSoFar (day (s k)) (cells (s k)) ((a k).loop-row.pairs + c.pairs_of-given.result) ((a k).loop-row.row + 1)
 counted c =
     let k : tie.In-loop-row invariant-loop decreases-loop = c.before.before in
     row-counted (day (s k)) (cells (s k)) (a k).loop-row.pairs (a k).loop-row.row (a k).loop-row.invariant (below k) c.pairs_of-given.result c.pairs_of-given.ensures c.if-given-eq-NO_PARENT.false

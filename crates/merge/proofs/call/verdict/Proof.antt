@@ -56,7 +56,7 @@ module _ (s : tie.Start) where
 
 -- ---- test 3
 
-answer-3 : (c : tie.After-figures_valid) → let s = c in c.figures_valid.result ≡ merge_figures (id s) (account s) (series s) (list s)
+answer-3 : (c : tie.After-figures_valid) → let s = c.before.before.before in c.figures_valid.result ≡ merge_figures (id s) (account s) (series s) (list s)
 answer-3 c =
     let s : tie.Start = c.before.before.before in
     simp (to_z-of_z s.ranges.id, to_z-of_z s.ranges.account, to_z-of_z s.ranges.series) at c.figures_valid.ensures
