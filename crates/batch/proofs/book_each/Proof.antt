@@ -22,10 +22,10 @@ use Rattle.batch.proofs.BookedSoFar.{BookedSoFar, trades-fit, none-booked, one_m
 use Rattle.batch.proofs.book_each.Statement.{statement}
 use Rattle.batch.proofs.book_each.Tie as tie
 
-abbrev invariant-loop : tie.invariant-loop
+abbrev invariant-loop : tie.invariant-loop-i
 invariant-loop records₀ positions₀ trades excess₀ count i₀ records positions excess i = BookedSoFar (tables_of records₀ positions₀) trades excess₀ records positions excess i
 
-abbrev decreases-loop : tie.decreases-loop
+abbrev decreases-loop : tie.decreases-loop-i
 decreases-loop records₀ positions₀ trades excess₀ count i₀ records positions excess i = trade_count trades - i
 
 module _ (s : tie.Start invariant-loop decreases-loop) where
@@ -36,90 +36,90 @@ module _ (s : tie.Start invariant-loop decreases-loop) where
   list = s.args.trades.now
 
   fits : (trade_count list ≤ 1000) × (trade_count list ≤ length s.args.excess.now)
-  fits = trades-fit list (length s.args.excess.now) s.pre.2
+  fits = trades-fit list (length s.args.excess.now) s.requires.2
 
-abbrev turn : tie.After-book-trade invariant-loop decreases-loop → tie.In-loop invariant-loop decreases-loop
+abbrev turn : tie.After-book_trade invariant-loop decreases-loop → tie.In-loop-i invariant-loop decreases-loop
 turn c = c.before.before.before
 
 -- What the turn's trade came to.
-abbrev Became : tie.After-book-trade invariant-loop decreases-loop → Outcome → Type 0
+abbrev Became : tie.After-book_trade invariant-loop decreases-loop → Outcome → Type 0
 Became c outcome =
-    BookedSoundly (tables_of (turn c).before.loop.records (turn c).before.loop.positions) (trade_at (list (turn c).before.before) ((turn c).before.loop.i * 6))
-    outcome (tables_of c.book-trade.new.0 c.book-trade.new.1.0)
+    BookedSoundly (tables_of (turn c).loop-i.records (turn c).loop-i.positions) (trade_at (list (turn c).before.before) ((turn c).loop-i.i * 6))
+    outcome (tables_of c.book_trade.new.records c.book_trade.new.positions)
 
-became : (c : tie.After-book-trade invariant-loop decreases-loop) → Became c c.book-trade.result
-became c = c.book-trade.ensures
+became : (c : tie.After-book_trade invariant-loop decreases-loop) → Became c c.book_trade.result
+became c = c.book_trade.ensures
 
-loop-holds : tie.Need-loop-init invariant-loop decreases-loop
+loop-holds : tie.Need-loop-i-init invariant-loop decreases-loop
 loop-holds c = none-booked c.args.records.now c.args.positions.now (list c) c.args.excess.now c.requires.0 c.requires.1
 
-mul-book-trade : tie.Need-overflow-mul-book-trade invariant-loop decreases-loop
-mul-book-trade c = let k : tie.In-loop invariant-loop decreases-loop = c.before.before in omega (arith, k.loop-test.true, (fits k.before.before).0)
+mul-book-trade : tie.Need-overflow_mul-i invariant-loop decreases-loop
+mul-book-trade c = let k : tie.In-loop-i invariant-loop decreases-loop = c.before.before in omega (arith, k.loop-i-test.true, (fits k.before.before).0)
 
-book-trade-requires : tie.Need-book-trade-requires invariant-loop decreases-loop
+book-trade-requires : tie.Need-book_trade-requires invariant-loop decreases-loop
 book-trade-requires c κs =
-    let k : tie.In-loop invariant-loop decreases-loop = c.before.before in
-    (k.before.loop.invariant.records-sound, k.before.loop.invariant.positions-sound, omega (arith, k.loop-test.true))
+    let k : tie.In-loop-i invariant-loop decreases-loop = c.before.before in
+    (k.loop-i.invariant.records-sound, k.loop-i.invariant.positions-sound, omega (arith, k.loop-i-test.true))
 
-cast-booked : tie.Need-overflow-cast-booked invariant-loop decreases-loop
+cast-booked : tie.Need-overflow_cast-booked invariant-loop decreases-loop
 cast-booked c =
-    let k : tie.In-loop invariant-loop decreases-loop = turn c.before.before.before.before.before in
-    record { sfits = omega (arith, k.loop-test.taken, (fits k.before.before).0) }
+    let k : tie.In-loop-i invariant-loop decreases-loop = turn c.before.before.before in
+    record { sfits = omega (arith, k.loop-i-test.true, (fits k.before.before).0) }
 
-returns : tie.Need-returns invariant-loop decreases-loop
+returns : tie.Need-returns-in-Refused invariant-loop decreases-loop
 returns c =
-    let a : tie.After-book-trade invariant-loop decreases-loop = c.before.before.before.before.before in
-    let l : tie.At-loop invariant-loop decreases-loop = (turn a).before in
+    let a : tie.After-book_trade invariant-loop decreases-loop = c.before.before.before in
+    let l : tie.At-loop-i invariant-loop decreases-loop = (turn a).before in
     let s : tie.Start invariant-loop decreases-loop = l.before in
-    let number : ℤ = c.before.number.given.0.0 in
-    let place : ℤ = c.before.number.given.0.1.0 in
-    let small : l.loop.i < 2 ^ 63 = omega (arith, (turn a).loop-test.true, (fits s).0) in
-    simp (read_back number c.known-told.given.0.1, read_back place c.known-told.given.1.0.1, to_z_pos w64 small)
-    (stopped (start s) (list s) s.args.excess.now l.loop.records l.loop.positions l.loop.excess l.loop.i l.loop.inv number place _ _ (turn a).loop-test.true
-    (subst (Became a) c.before.number.given.1 (became a)))
+    let number : ℤ = c.in-Refused.number in
+    let place : ℤ = c.in-Refused.place in
+    let small : l.loop-i.i < 2 ^ 63 = omega (arith, (turn a).loop-i-test.true, (fits s).0) in
+    simp (read_back number c.in-Refused.known_told-1-own.given.0.1, read_back place c.in-Refused.known_told-1-own.given.1.0.1, to_z_pos w64 small)
+    (stopped (start s) (list s) s.args.excess.now l.loop-i.records l.loop-i.positions l.loop-i.excess l.loop-i.i l.loop-i.invariant number place _ _ (turn a).loop-i-test.true
+    (subst (Became a) c.in-Refused.is (became a)))
 
 -- The place of the excess, in the lent cells as they stand.
-abbrev at-over : tie.After-known-told2 invariant-loop decreases-loop → tie.In-loop invariant-loop decreases-loop
-at-over c = turn c.before.before.before.before.before
+abbrev at-over : tie.In-Booked invariant-loop decreases-loop → tie.In-loop-i invariant-loop decreases-loop
+at-over c = turn c.before.before.before
 
-below : (k : tie.In-loop invariant-loop decreases-loop) → k.before.loop.i < length k.before.loop.excess
-below k = omega (arith, k.loop-test.true, (fits k.before.before).1, k.before.loop.invariant.same_size)
+below : (k : tie.In-loop-i invariant-loop decreases-loop) → k.loop-i.i < length k.loop-i.excess
+below k = omega (arith, k.loop-i-test.true, (fits k.before.before).1, k.loop-i.invariant.same_size)
 
-mul-over : tie.Need-overflow-mul-over invariant-loop decreases-loop
-mul-over c = omega (arith, (at-over c).loop-test.true, (fits (at-over c).before.before).0)
+mul-over : tie.Need-offset_bounds-excess-i invariant-loop decreases-loop
+mul-over c = omega (arith, (at-over c).loop-i-test.true, (fits (at-over c).before.before).0)
 
-slice-set-from-over : tie.Need-slice-set-from-over invariant-loop decreases-loop
+slice-set-from-over : tie.Need-bounds-excess-i invariant-loop decreases-loop
 slice-set-from-over c = below (at-over c)
 
-add-i : tie.Need-overflow-add-i invariant-loop decreases-loop
-add-i c = omega (arith, (at-over c).loop-test.true, (fits (at-over c).before.before).0)
+add-i : tie.Need-overflow_add-i invariant-loop decreases-loop
+add-i c = omega (arith, (at-over c).loop-i-test.true, (fits (at-over c).before.before).0)
 
-loop-less : tie.Need-loop-smaller invariant-loop decreases-loop
-loop-less c = omega (arith, (at-over c).loop-test.true)
+loop-less : tie.Need-loop-i-smaller invariant-loop decreases-loop
+loop-less c = omega (arith, (at-over c).loop-i-test.true)
 
-cast-rows : tie.Need-overflow-cast-rows invariant-loop decreases-loop
+cast-rows : tie.Need-overflow_cast-rows invariant-loop decreases-loop
 cast-rows c = record { sfits = omega (arith, (fits c.before.before).0) }
 
-loop-again : tie.Need-loop-preserved invariant-loop decreases-loop
+loop-again : tie.Need-loop-i-preserved invariant-loop decreases-loop
 loop-again c =
-    let a : tie.After-book-trade invariant-loop decreases-loop = c.before.before.before.before.before in
-    let l : tie.At-loop invariant-loop decreases-loop = (turn a).before in
+    let a : tie.After-book_trade invariant-loop decreases-loop = c.before.before.before in
+    let l : tie.At-loop-i invariant-loop decreases-loop = (turn a).before in
     let s : tie.Start invariant-loop decreases-loop = l.before in
-    let over : ℤ = c.before.over.given.0.0 in
-    simp (read_back over c.known-told2.given.0.1)
-    (one_more (start s) (list s) s.args.excess.now l.loop.records l.loop.positions l.loop.excess l.loop.i l.loop.inv over _ _ (turn a).loop-test.true
-    (omega (arith, (turn a).loop-test.true, (fits s).1)) (subst (Became a) c.before.over.given.1 (became a)) a.book-trade.auto.0 a.book-trade.auto.1.0)
+    let over : ℤ = c.in-Booked.over in
+    simp (read_back over c.in-Booked.known_told-in-Booked-1-own.given.0.1)
+    (one_more (start s) (list s) s.args.excess.now l.loop-i.records l.loop-i.positions l.loop-i.excess l.loop-i.i l.loop-i.invariant over _ _ (turn a).loop-i-test.true
+    (omega (arith, (turn a).loop-i-test.true, (fits s).1)) (subst (Became a) c.in-Booked.is (became a)) a.book_trade.auto.records a.book_trade.auto.positions)
 
-returns-2 : tie.Need-returns-2 invariant-loop decreases-loop
+returns-2 : tie.Need-returns invariant-loop decreases-loop
 returns-2 c =
-    let l : tie.At-loop invariant-loop decreases-loop = c.before in
+    let l : tie.At-loop-i invariant-loop decreases-loop = c.before in
     let s : tie.Start invariant-loop decreases-loop = l.before in
     let small : trade_count (list s) < 2 ^ 63 = omega (arith, (fits s).0) in
-    ap (λ (rows : ℤ). left (Reply.Booked rows (pos 0)) l.loop.excess l.loop.records l.loop.positions) (to_z_pos w64 small)
-    ∙ all-booked (start s) (list s) s.args.excess.now l.loop.records l.loop.positions l.loop.excess l.loop.i l.loop.invariant c.loop-test.false l.loop.invariant.within
+    ap (λ (rows : ℤ). left (Reply.Booked rows (pos 0)) l.loop-i.excess l.loop-i.records l.loop-i.positions) (to_z_pos w64 small)
+    ∙ all-booked (start s) (list s) s.args.excess.now l.loop-i.records l.loop-i.positions l.loop-i.excess l.loop-i.i l.loop-i.invariant c.loop-i-test.false l.loop-i.invariant.within
 
-pub book-each-spec : {M : Type 1} → statement M
-book-each-spec =
+pub book_each_spec : {M : Type 1} → statement M
+book_each_spec =
     tie.close
     (tie.spec
     invariant-loop
@@ -140,7 +140,7 @@ book-each-spec =
     loop-less
     loop-again
     cast-rows
-    (λ c. c.before.loop.invariant.records-size)
-    (λ c. c.before.loop.invariant.positions-size)
-    (λ c. c.before.loop.invariant.same_size)
+    (λ c. c.loop-i.invariant.records-size)
+    (λ c. c.loop-i.invariant.positions-size)
+    (λ c. c.loop-i.invariant.same_size)
     returns-2)

@@ -14,7 +14,7 @@ use Rattle.batch.specs.Outcome.{outcome_of}
 use Rattle.batch.proofs.book_trade.Statement.{statement}
 use Rattle.batch.proofs.book_trade.Tie as tie
 
-module _ (c : tie.After-price) where
+module _ (c : tie.After-price-1) where
   abbrev s : tie.Start
   s = c.before.before.before.before.before.before
 
@@ -22,45 +22,45 @@ module _ (c : tie.After-price) where
   figure at = get_or s.args.trades.now at (pos 0)
 
   id-fits : SFits w64 (figure s.args.at)
-  id-fits = sfits_of c.before.before.before.before.before.id.given
+  id-fits = sfits_of c.id-1.given
 
   account-fits : SFits w64 (figure (s.args.at + 1))
-  account-fits = sfits_of c.before.before.before.before.account.given
+  account-fits = sfits_of c.account-1.given
 
   series-fits : SFits w64 (figure (s.args.at + 2))
-  series-fits = sfits_of c.before.before.before.series.given
+  series-fits = sfits_of c.series-1.given
 
   side-fits : SFits w64 (figure (s.args.at + 3))
-  side-fits = sfits_of c.before.before.side.given
+  side-fits = sfits_of c.side-1.given
 
   quantity-fits : SFits w64 (figure (s.args.at + 4))
-  quantity-fits = sfits_of c.before.quantity.given
+  quantity-fits = sfits_of c.quantity-1.given
 
   price-fits : SFits w64 (figure (s.args.at + 5))
-  price-fits = sfits_of c.price.given
+  price-fits = sfits_of c.price-1.given
 
-abbrev at-price : tie.After-on-sound → tie.After-price
+abbrev at-price : tie.After-on_sound-reply → tie.After-price-1
 at-price c = c.before.before.before
 
 -- The trade's own promise, of the figures as they stand in the list.
-handled : (c : tie.After-on-sound) → HandledSoundly (s (at-price c)).args.records.now (s (at-price c)).args.positions.now (trade_at (s (at-price c)).args.trades.now (s (at-price c)).args.at)
-    (answered c.on-sound.result c.on-sound.new.0 c.on-sound.new.1.0)
+handled : (c : tie.After-on_sound-reply) → HandledSoundly (s (at-price c)).args.records.now (s (at-price c)).args.positions.now (trade_at (s (at-price c)).args.trades.now (s (at-price c)).args.at)
+    (answered c.on_sound-reply.result c.on_sound-reply.new.records c.on_sound-reply.new.positions)
 handled c =
-    let p : tie.After-price = at-price c in
-    simp (to_z-of_z (id-fits p), to_z-of_z (account-fits p), to_z-of_z (series-fits p), to_z-of_z (side-fits p), to_z-of_z (quantity-fits p), to_z-of_z (price-fits p)) at c.on-sound.ensures
+    let p : tie.After-price-1 = at-price c in
+    simp (to_z-of_z (id-fits p), to_z-of_z (account-fits p), to_z-of_z (series-fits p), to_z-of_z (side-fits p), to_z-of_z (quantity-fits p), to_z-of_z (price-fits p)) at c.on_sound-reply.ensures
 
 returns : tie.Need-returns
 returns c =
     let h = handled c.before.before.before in
     record {
-      outcome = c.outcome-of.ensures ∙ ap (λ (a : Answer). outcome_of a.reply) h.handled;
+      outcome = c.outcome_of.ensures ∙ ap (λ (a : Answer). outcome_of a.reply) h.handled;
       tables = ap (λ (a : Answer). a.tables) h.handled;
       records-sound = h.records-sound;
       positions-sound = h.positions-sound;
     }
 
-pub book-trade-spec : {M : Type 1} → statement M
-book-trade-spec =
+pub book_trade_spec : {M : Type 1} → statement M
+book_trade_spec =
     tie.close
     (tie.spec
     (λ c. search rules)

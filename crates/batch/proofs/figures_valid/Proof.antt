@@ -23,26 +23,26 @@ all-remain : (s : tie.Start) → After 0 s
 unfolding batch_figures
 all-remain s = record { is = refl }
 
-after1 : (c : tie.Else1) → After 1 c.before
-after1 c = goes_on (all-remain c.before) (sym (eq-eqb _ 0 c.if1.false)) refl
+after1 : (c : tie.Else-trades-ne0) → After 1 c.before
+after1 c = goes_on (all-remain c.before) (sym (eq-eqb _ 0 c.if-trades-ne0.false)) refl
 
-after2 : (c : tie.Else2) → After 2 c.before.before
-after2 c = goes_on (after1 c.before) (sym (le-leb 1 _ c.if2.false)) refl
+after2 : (c : tie.Else-count-lt1) → After 2 c.before.before
+after2 c = goes_on (after1 c.before) (sym (le-leb 1 _ c.if-count-lt1.false)) refl
 
-after3 : (c : tie.Else3) → After 3 c.before.before.before
-after3 c = goes_on (after2 c.before) (sym (le-leb _ 1000 c.if3.false)) refl
+after3 : (c : tie.Else-count-gt-MOST_TRADES) → After 3 c.before.before.before
+after3 c = goes_on (after2 c.before) (sym (le-leb _ 1000 c.if-count-gt-MOST_TRADES.false)) refl
 
-returns : tie.Need-returns
-returns c = stops (all-remain c.before) (sym (ne_eqb _ 0 c.if1.true)) refl
+returns : tie.Need-returns-then-trades-ne0
+returns c = stops (all-remain c.before) (sym (ne_eqb _ 0 c.if-trades-ne0.true)) refl
 
-returns-2 : tie.Need-returns-2
-returns-2 c = stops (after1 c.before) (sym (lt-leb 1 _ c.if2.true)) refl
+returns-2 : tie.Need-returns-then-count-lt1
+returns-2 c = stops (after1 c.before) (sym (lt-leb 1 _ c.if-count-lt1.true)) refl
 
-returns-3 : tie.Need-returns-3
-returns-3 c = stops (after2 c.before) (sym (lt-leb _ 1000 c.if3.true)) refl
+returns-3 : tie.Need-returns-then-count-gt-MOST_TRADES
+returns-3 c = stops (after2 c.before) (sym (lt-leb _ 1000 c.if-count-gt-MOST_TRADES.true)) refl
 
-returns-4 : tie.Need-returns-4
+returns-4 : tie.Need-returns
 returns-4 c = ends (after3 c) refl
 
-pub figures-valid-spec : {M : Type 1} → statement M
-figures-valid-spec = tie.close (tie.spec returns returns-2 returns-3 returns-4)
+pub figures_valid_spec : {M : Type 1} → statement M
+figures_valid_spec = tie.close (tie.spec returns returns-2 returns-3 returns-4)

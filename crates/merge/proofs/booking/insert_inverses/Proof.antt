@@ -66,9 +66,9 @@ module _ (c : tie.After-insert_inverse-arg-in-loop-i-2-1 invariant-loop decrease
   suffix-fits = sfits_of c.insert_inverse-arg-in-loop-i-2-1.given
 
 put : (c : tie.After-insert_inverse invariant-loop decreases-loop) → c.insert_inverse.new.records
-    ≡ write records_layout (a (turn c.before)).loop.records
-    (upsert record_key (inverse_named (today (a (turn c.before))) (a (turn c.before)).loop.records (pair_at (list (a (turn c.before))) (a (turn c.before)).loop.i) (into (a (turn c.before))))
-    (rows_of records_layout (a (turn c.before)).loop.records))
+    ≡ write records_layout (a (turn c.before)).loop-i.records
+    (upsert record_key (inverse_named (today (a (turn c.before))) (a (turn c.before)).loop-i.records (pair_at (list (a (turn c.before))) (a (turn c.before)).loop-i.i) (into (a (turn c.before))))
+    (rows_of records_layout (a (turn c.before)).loop-i.records))
 unfolding pair_at
 put c =
     simp (to_z-of_z (id-fits c.before), to_z-of_z (suffix-fits c.before), to_z-of_z (a (turn c.before)).ranges.today, to_z-of_z (a (turn c.before)).ranges.into) at c.insert_inverse.ensures.0

@@ -186,7 +186,7 @@ module _ (c : tie.After-residual-residual) where
       let f : SFits w64 c.residual-residual.result = sfits_of c.residual-residual.type_inv in
       to_z-of_z f
       ∙ c.residual-residual.ensures
-      ∙ ap (λ (z : ℤ). residual_of s6.args.buy z (to_z w64 (of_z w64 (tested c.before.before).sum-of-quantities.result))) (value-is c.before)
+      ∙ ap (λ (z : ℤ). residual_of s6.args.buy z (to_z w64 (of_z w64 (tested c.before.before).sum_of_quantities-quantity.result))) (value-is c.before)
       ∙ ap (λ (z : ℤ). residual_of s6.args.buy (sum_of_values (sources s6)) z) (sum_is (tested c.before.before).before)
       ∙ ap (λ (b : Bool). residual_of b (sum_of_values (sources s6)) (sum_of_quantities (sources s6))) s6.requires.1.1.1.2
 

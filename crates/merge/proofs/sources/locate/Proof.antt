@@ -24,10 +24,10 @@ loop-holds c =
     )
 
 same_length : tie.Need-shape_of-rows-in_default Inv-loop μ-loop
-same_length c = (turn c.before).loop.invariant.2
+same_length c = (turn c.before).loop-i.invariant.2
 
 same-length-2 : tie.Need-shape_of-suffixes-in_default Inv-loop μ-loop
-same-length-2 c = (turn c.before).loop.invariant.3
+same-length-2 c = (turn c.before).loop-i.invariant.3
 
 returns : tie.Need-returns-in_default Inv-loop μ-loop
 returns c =

@@ -122,7 +122,7 @@ loop-holds : tie.Need-loop-i-init invariant-loop decreases-loop
 loop-holds c = (omega arith, none-at-first [])
 
 shared-slice-read-next : tie.Need-bounds-suffixes-i invariant-loop decreases-loop
-shared-slice-read-next c = (kept c).0
+shared-slice-read-next c = (suffix-kept c.args.records.now c.args.pairs.now c.args.suffixes.now c.loop-i.i (omega (arith, c.loop-i-test.true)) c.requires.2).0
 
 cast-next : tie.Need-overflow_cast-next invariant-loop decreases-loop
 cast-next c = record { sfits = omega (arith, small c) }
@@ -133,7 +133,7 @@ returns c = let t : tie.After-times_earlier invariant-loop decreases-loop = c.be
 loop-again : tie.Need-loop-i-preserved invariant-loop decreases-loop
 loop-again c =
     let t : tie.After-times_earlier invariant-loop decreases-loop = c.before in
-    (omega arith, none-next (above (cells (k t)) (list (k t))) (i t) (within t) (here (k t)).loop.invariant.1 (sym (compared t) ∙ c.if-next-times_earlier-gt-GREATEST_SUFFIX.false))
+    (omega arith, none-next (above (cells (k t)) (list (k t))) (i t) (within t) (here (k t)).loop-i.invariant.1 (sym (compared t) ∙ c.if-next-times_earlier-gt-GREATEST_SUFFIX.false))
 
 returns-2 : tie.Need-returns invariant-loop decreases-loop
 returns-2 c =
