@@ -1,4 +1,5 @@
 -- `batch::outcome_of` meets its contract: each arm is given which reply it is, at which `outcome_of` computes, and that its numbers fit 64 bits. Assumes nothing.
+use mir.Syntax.{w64}
 use mathlib.Core.Path.{sym, ap, ap₂, ◌∙◌}
 use borrow.Author.Rules.{rules, sfits_of}
 use mir.Facts.{to_z-of_z}
@@ -11,13 +12,13 @@ returns : tie.Need-returns-in-Booked
 returns c = sym (ap outcome_of c.in-Booked.is)
 
 returns-2 : tie.Need-returns-in-ClosingError
-returns-2 c = ap (λ z. Booked z) (to_z-of_z (sfits_of c.in-ClosingError.known_told-in-ClosingError-1-own.given.0.1)) ∙ sym (ap outcome_of c.in-ClosingError.is)
+returns-2 c = ap (λ z. Booked z) (to_z-of_z {w = w64} (sfits_of c.in-ClosingError.known_told-in-ClosingError-1-own.given.0.1)) ∙ sym (ap outcome_of c.in-ClosingError.is)
 
 returns-3 : tie.Need-returns-in-Lineage
 returns-3 c = sym (ap outcome_of c.in-Lineage.is)
 
 returns-4 : tie.Need-returns-in-Refused
-returns-4 c = ap₂ (λ n p. Refused n p) (to_z-of_z (sfits_of c.in-Refused.known_told-in-Refused-1-own.given.0.1)) (to_z-of_z (sfits_of c.in-Refused.known_told-in-Refused-1-own.given.1.0.1)) ∙ sym (ap outcome_of c.in-Refused.is)
+returns-4 c = ap₂ (λ n p. Refused n p) (to_z-of_z {w = w64} (sfits_of c.in-Refused.known_told-in-Refused-1-own.given.0.1)) (to_z-of_z {w = w64} (sfits_of c.in-Refused.known_told-in-Refused-1-own.given.1.0.1)) ∙ sym (ap outcome_of c.in-Refused.is)
 
 returns-5 : tie.Need-returns-in-Stopped
 returns-5 c = sym (ap outcome_of c.in-Stopped.is)

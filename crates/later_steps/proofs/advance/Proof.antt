@@ -35,15 +35,15 @@ restate-requires c κs =
       s.requires.0.ready.later,
     )
 
-replace-process-requires : tie.Need-replace-process-requires
+replace-process-requires : tie.Need-replace_process-requires
 replace-process-requires c κs =
-    let e : tie.After-stepped = c.before.before.before.before in
+    let e : tie.After-stepped-q = c.before.before.before.before in
     let s : tie.Start = e.before in
-    stepped-ready (rs s) (ps s) (qs s) s.args.step s.args.g s.args.at s.args.p s.args.named s.requires.0 e.stepped.result e.stepped.ensures
+    stepped-ready (rs s) (ps s) (qs s) s.args.step s.args.g s.args.at s.args.p s.args.named s.requires.0 e.stepped-q.result e.stepped-q.ensures
 
 -- The records, by the record that was found.
 records-left : (c : tie.After-restate) → (let s : tie.Start = c.before.before.before in
-    c.restate.new.0 ≡ write records_layout (rs s) (upsert_all record_key (record_after s.args.step s.args.named.record) (rows_of records_layout (rs s))))
+    c.restate.new.records ≡ write records_layout (rs s) (upsert_all record_key (record_after s.args.step s.args.named.record) (rows_of records_layout (rs s))))
 records-left c =
     let s : tie.Start = c.before.before.before in
     c.restate.ensures
@@ -52,17 +52,17 @@ records-left c =
 returns : tie.Need-returns
 returns c =
     let w : tie.After-restate = c.before.before.before.before in
-    let e : tie.After-stepped = w.before.before in
+    let e : tie.After-stepped-q = w.before.before in
     let s : tie.Start = e.before in
     let k = s.requires.0 in
     later-advanced (rs s) (ps s) (qs s) k.ready.sound
     s.args.g.process s.args.g.id s.args.g.suffix s.args.g.giving s.args.g.taking s.args.g.series
     s.args.step k.ready.later k.ready.figures (row_of_process s.args.p) k.ready.known.found k.ready.turn
     s.args.named.record k.record-known.found k.passed
-    s.requires.1 (row_of_process e.stepped.result) e.stepped.ensures _ _ (records-left w) c.before.replace-process.ensures.0
+    s.requires.1 (row_of_process e.stepped-q.result) e.stepped-q.ensures _ _ (records-left w) c.replace_process.ensures.0
 
-pub advance-spec : {M : Type 1} → statement M
-advance-spec =
+pub advance_spec : {M : Type 1} → statement M
+advance_spec =
     tie.close
     (tie.spec
     (λ c κs. search rules)

@@ -38,87 +38,87 @@ module _ (s : tie.Start) where
 
 -- ---- what was held
 
-abbrev told : tie.After-position-held → tie.After-struct-told
+abbrev told : tie.After-position_held-old → tie.After-struct_told-1
 told c = c.before.before
 
-abbrev start : tie.After-position-held → tie.Start
-start c = (told c).before.before
+abbrev start : tie.After-position_held-old → tie.Start
+start c = (told c).before
 
-old-known : (c : tie.After-position-held) → KnownPosition (ps (start c)) (g (start c)).giving (g (start c)).series c.position-held.result
+old-known : (c : tie.After-position_held-old) → KnownPosition (ps (start c)) (g (start c)).giving (g (start c)).series c.position_held-old.result
 old-known c =
     simp (
-      read_back (g (start c)).giving (told c).struct_told.given.1.1.1.0.1,
-      read_back (g (start c)).series (told c).struct_told.given.1.1.1.1.1.0.1,
-    ) at c.position-held.ensures
+      read_back (g (start c)).giving (told c).struct_told-1.given.1.1.1.0.1,
+      read_back (g (start c)).series (told c).struct_told-1.given.1.1.1.1.1.0.1,
+    ) at c.position_held-old.ensures
 
-abbrev first : tie.After-position-held2 → tie.After-position-held
-first c = c.before.before.before.before
+abbrev first : tie.After-position_held-new → tie.After-position_held-old
+first c = c.before.before.before
 
-abbrev start2 : tie.After-position-held2 → tie.Start
+abbrev start2 : tie.After-position_held-new → tie.Start
 start2 c = start (first c)
 
-new-known : (c : tie.After-position-held2) → KnownPosition (ps (start2 c)) (g (start2 c)).taking (g (start2 c)).series c.position-held2.result
+new-known : (c : tie.After-position_held-new) → KnownPosition (ps (start2 c)) (g (start2 c)).taking (g (start2 c)).series c.position_held-new.result
 new-known c =
     simp (
-      read_back (g (start2 c)).taking (told (first c)).struct_told.given.1.1.1.1.0.1,
-      read_back (g (start2 c)).series (told (first c)).struct_told.given.1.1.1.1.1.0.1,
-    ) at c.position-held2.ensures
+      read_back (g (start2 c)).taking (told (first c)).struct_told-1.given.1.1.1.1.0.1,
+      read_back (g (start2 c)).series (told (first c)).struct_told-1.given.1.1.1.1.1.0.1,
+    ) at c.position_held-new.ensures
 
 -- ---- tests 12 to 16
 
-verdict-on-positions-requires : tie.Need-verdict-on-positions-requires
+verdict-on-positions-requires : tie.Need-verdict_on_positions-requires
 verdict-on-positions-requires c κs =
-    let h : tie.After-position-held2 = c.before.before.before.before.before.before.before in
+    let h : tie.After-position_held-new = c.before.before.before.before.before in
     let s : tie.Start = start2 h in
-    let f : tie.After-struct-told = told (first h) in
+    let f : tie.After-struct_told-1 = told (first h) in
     simp (
-      read_back (g s).id f.struct_told.given.1.0.1,
-      read_back (g s).suffix f.struct_told.given.1.1.0.1,
-      read_back (g s).giving f.struct_told.given.1.1.1.0.1,
-      read_back (g s).taking f.struct_told.given.1.1.1.1.0.1,
-      read_back (g s).series f.struct_told.given.1.1.1.1.1.0.1,
+      read_back (g s).id f.struct_told-1.given.1.0.1,
+      read_back (g s).suffix f.struct_told-1.given.1.1.0.1,
+      read_back (g s).giving f.struct_told-1.given.1.1.1.0.1,
+      read_back (g s).taking f.struct_told-1.given.1.1.1.1.0.1,
+      read_back (g s).series f.struct_told-1.given.1.1.1.1.1.0.1,
     )
-    ((record-rows-sound (rs s) s.pre.0.ready.sound.records, s.pre.0.ready.sound.positions), (s.pre.0.record-known, old-known (first h), new-known h))
+    ((record-rows-sound (rs s) s.requires.0.ready.sound.records, s.requires.0.ready.sound.positions), (s.requires.0.record-known, old-known (first h), new-known h))
 
-abbrev held : tie.After-verdict-on-positions → tie.After-position-held2
-held c = c.before.before.before.before.before.before.before.before
+abbrev held : tie.After-verdict_on_positions → tie.After-position_held-new
+held c = c.before.before.before.before.before.before
 
-abbrev start3 : tie.After-verdict-on-positions → tie.Start
+abbrev start3 : tie.After-verdict_on_positions → tie.Start
 start3 c = start2 (held c)
 
-judged : (c : tie.After-verdict-on-positions)
-    → c.verdict-on-positions.result ≡ moving_verdict (rs (start3 c)) (ps (start3 c)) (r (start3 c)) (g (start3 c)).id (g (start3 c)).giving (g (start3 c)).taking (g (start3 c)).series
+judged : (c : tie.After-verdict_on_positions)
+    → c.verdict_on_positions.result ≡ moving_verdict (rs (start3 c)) (ps (start3 c)) (r (start3 c)) (g (start3 c)).id (g (start3 c)).giving (g (start3 c)).taking (g (start3 c)).series
 judged c =
     let s : tie.Start = start3 c in
-    let f : tie.After-struct-told = told (first (held c)) in
+    let f : tie.After-struct_told-1 = told (first (held c)) in
     simp (
-      read_back (g s).id f.struct_told.given.1.0.1,
-      read_back (g s).giving f.struct_told.given.1.1.1.0.1,
-      read_back (g s).taking f.struct_told.given.1.1.1.1.0.1,
-      read_back (g s).series f.struct_told.given.1.1.1.1.1.0.1,
-    ) at c.verdict-on-positions.ensures
+      read_back (g s).id f.struct_told-1.given.1.0.1,
+      read_back (g s).giving f.struct_told-1.given.1.1.1.0.1,
+      read_back (g s).taking f.struct_told-1.given.1.1.1.1.0.1,
+      read_back (g s).series f.struct_told-1.given.1.1.1.1.1.0.1,
+    ) at c.verdict_on_positions.ensures
 
-returns : tie.Need-returns
+returns : tie.Need-returns-in-Refused
 returns c =
-    let v : tie.After-verdict-on-positions = c.before.before.before in
+    let v : tie.After-verdict_on_positions = c.before in
     let s : tie.Start = start3 v in
-    let k = s.pre.0 in
-    let number : ℤ = c.before.number.given.0.0 in
-    let place : ℤ = c.before.number.given.0.1.0 in
-    simp (read_back number c.known-told.given.0.1, read_back place c.known-told.given.1.0.1)
+    let k = s.requires.0 in
+    let number : ℤ = c.in-Refused.number in
+    let place : ℤ = c.in-Refused.place in
+    simp (read_back number c.in-Refused.known_told-1-own.given.0.1, read_back place c.in-Refused.known_told-1-own.given.1.0.1)
     (later-not-moved (rs s) (ps s) (qs s) k.ready.sound (g s).process (g s).id (g s).suffix (g s).giving (g s).taking (g s).series
-    s.args.step k.ready.later k.ready.figures (row_of_process s.args.p) k.ready.known.found k.ready.turn (r s) k.record-known.found k.passed s.pre.1
-    number place (sym (judged v) ∙ c.before.number.given.1))
+    s.args.step k.ready.later k.ready.figures (row_of_process s.args.p) k.ready.known.found k.ready.turn (r s) k.record-known.found k.passed s.requires.1
+    number place (sym (judged v) ∙ c.in-Refused.is))
 
 -- ---- the booking
 
-ready : (c : tie.After-enum-told) → (let v : tie.After-verdict-on-positions = c.before.before in
+ready : (c : tie.In-Accepted) → (let v : tie.After-verdict_on_positions = c.before in
     let s : tie.Start = start3 v in
-    MovingReady (rs s) (ps s) s.args.named (first (held v)).position-held.result (held v).position-held2.result (g s).id (g s).suffix (g s).giving (g s).taking (g s).series give_up_kind take_up_kind)
+    MovingReady (rs s) (ps s) s.args.named (first (held v)).position_held-old.result (held v).position_held-new.result (g s).id (g s).suffix (g s).giving (g s).taking (g s).series give_up_kind take_up_kind)
 ready c =
-    let v : tie.After-verdict-on-positions = c.before.before in
+    let v : tie.After-verdict_on_positions = c.before in
     let s : tie.Start = start3 v in
-    let k = s.pre.0 in
+    let k = s.requires.0 in
     record {
       records-sound = k.ready.sound.records;
       positions-sound = k.ready.sound.positions;
@@ -130,68 +130,68 @@ ready c =
       to-valid = taking-valid (rs s) (ps s) (qs s) s.args.step (g s) s.args.at s.args.p s.args.named k;
       inverse-kind = kind-give-up;
       new-kind = kind-take-up;
-      accepted = sym (judged v) ∙ c.enum_told.given.1;
+      accepted = sym (judged v) ∙ c.in-Accepted.is;
     }
 
-book-moved-requires : tie.Need-book-moved-requires
+book-moved-requires : tie.Need-book_moved-requires
 book-moved-requires c κs =
-    let e : tie.After-enum-told = c.before.before.before.before.before.before.before in
-    let v : tie.After-verdict-on-positions = e.before.before in
+    let e : tie.In-Accepted = c.before.before.before.before.before.before.before in
+    let v : tie.After-verdict_on_positions = e.before in
     let s : tie.Start = start3 v in
-    let f : tie.After-struct-told = told (first (held v)) in
+    let f : tie.After-struct_told-1 = told (first (held v)) in
     simp (
-      read_back (g s).id f.struct_told.given.1.0.1,
-      read_back (g s).suffix f.struct_told.given.1.1.0.1,
-      read_back (g s).giving f.struct_told.given.1.1.1.0.1,
-      read_back (g s).taking f.struct_told.given.1.1.1.1.0.1,
-      read_back (g s).series f.struct_told.given.1.1.1.1.1.0.1,
+      read_back (g s).id f.struct_told-1.given.1.0.1,
+      read_back (g s).suffix f.struct_told-1.given.1.1.0.1,
+      read_back (g s).giving f.struct_told-1.given.1.1.1.0.1,
+      read_back (g s).taking f.struct_told-1.given.1.1.1.1.0.1,
+      read_back (g s).series f.struct_told-1.given.1.1.1.1.1.0.1,
     ) (ready e)
 
-abbrev told-so : tie.After-book-moved → tie.After-enum-told
+abbrev told-so : tie.After-book_moved → tie.In-Accepted
 told-so c = c.before.before.before.before.before.before.before.before
 
-abbrev start4 : tie.After-book-moved → tie.Start
-start4 c = start3 (told-so c).before.before
+abbrev start4 : tie.After-book_moved → tie.Start
+start4 c = start3 (told-so c).before
 
-moved : (c : tie.After-book-moved) → (let s : tie.Start = start4 c in
-    (c.book-moved.new.0 ≡ records_after (moving_effects give_up_kind take_up_kind (rs s) (ps s) (r s) (g s).id (g s).giving (g s).taking (g s).series) (rs s))
-    × (c.book-moved.new.1.0 ≡ positions_after (moving_effects give_up_kind take_up_kind (rs s) (ps s) (r s) (g s).id (g s).giving (g s).taking (g s).series) (ps s)))
+moved : (c : tie.After-book_moved) → (let s : tie.Start = start4 c in
+    (c.book_moved.new.records ≡ records_after (moving_effects give_up_kind take_up_kind (rs s) (ps s) (r s) (g s).id (g s).giving (g s).taking (g s).series) (rs s))
+    × (c.book_moved.new.positions ≡ positions_after (moving_effects give_up_kind take_up_kind (rs s) (ps s) (r s) (g s).id (g s).giving (g s).taking (g s).series) (ps s)))
 moved c =
     let s : tie.Start = start4 c in
-    let f : tie.After-struct-told = told (first (held (told-so c).before.before)) in
+    let f : tie.After-struct_told-1 = told (first (held (told-so c).before)) in
     simp (
-      read_back (g s).id f.struct_told.given.1.0.1,
-      read_back (g s).giving f.struct_told.given.1.1.1.0.1,
-      read_back (g s).taking f.struct_told.given.1.1.1.1.0.1,
-      read_back (g s).series f.struct_told.given.1.1.1.1.1.0.1,
-    ) at c.book-moved.ensures
+      read_back (g s).id f.struct_told-1.given.1.0.1,
+      read_back (g s).giving f.struct_told-1.given.1.1.1.0.1,
+      read_back (g s).taking f.struct_told-1.given.1.1.1.1.0.1,
+      read_back (g s).series f.struct_told-1.given.1.1.1.1.1.0.1,
+    ) at c.book_moved.ensures
 
 -- ---- the process
 
-abbrev booked : tie.After-finished → tie.After-book-moved
+abbrev booked : tie.After-finished-q → tie.After-book_moved
 booked c = c.before.before.before.before
 
-is-finished : (c : tie.After-finished) → (let s : tie.Start = start4 (booked c) in row_of_process c.finished.result ≡ finished (stepped s.args.step (row_of_process s.args.p)))
-is-finished c = c.finished.ensures ∙ ap (λ (p : ProcessRow). finished p) c.before.stepped.ensures
+is-finished : (c : tie.After-finished-q) → (let s : tie.Start = start4 (booked c) in row_of_process c.finished-q.result ≡ finished (stepped s.args.step (row_of_process s.args.p)))
+is-finished c = c.finished-q.ensures ∙ ap (λ (p : ProcessRow). finished p) c.stepped.ensures
 
-replace-process-requires : tie.Need-replace-process-requires
+replace-process-requires : tie.Need-replace_process-requires
 replace-process-requires c κs =
-    let e : tie.After-finished = c.before in
+    let e : tie.After-finished-q = c.before in
     let s : tie.Start = start4 (booked e) in
-    finished-ready (rs s) (ps s) (qs s) s.args.step (g s) s.args.at s.args.p s.args.named s.pre.0 e.finished.result (is-finished e)
+    finished-ready (rs s) (ps s) (qs s) s.args.step (g s) s.args.at s.args.p s.args.named s.requires.0 e.finished-q.result (is-finished e)
 
-returns-2 : tie.Need-returns-2
+returns-2 : tie.Need-returns-in-Accepted
 returns-2 c =
-    let e : tie.After-finished = c.before.before.before in
-    let b : tie.After-book-moved = booked e in
+    let e : tie.After-finished-q = c.before.before.before in
+    let b : tie.After-book_moved = booked e in
     let s : tie.Start = start4 b in
-    let k = s.pre.0 in
+    let k = s.requires.0 in
     later-completed (rs s) (ps s) (qs s) k.ready.sound (g s).process (g s).id (g s).suffix (g s).giving (g s).taking (g s).series
-    s.args.step k.ready.later k.ready.figures (row_of_process s.args.p) k.ready.known.found k.ready.turn (r s) k.record-known.found k.passed s.pre.1
-    (ready (told-so b)).accepted (row_of_process e.finished.result) (is-finished e) _ _ _ (moved b).0 (moved b).1 c.before.replace-process.ensures.0
+    s.args.step k.ready.later k.ready.figures (row_of_process s.args.p) k.ready.known.found k.ready.turn (r s) k.record-known.found k.passed s.requires.1
+    (ready (told-so b)).accepted (row_of_process e.finished-q.result) (is-finished e) _ _ _ (moved b).0 (moved b).1 c.replace_process.ensures.0
 
-pub complete-spec : {M : Type 1} → statement M
-complete-spec =
+pub complete_spec : {M : Type 1} → statement M
+complete_spec =
     tie.close
     (tie.spec
     (λ c κs. search rules)

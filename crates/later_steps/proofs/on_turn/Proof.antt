@@ -39,109 +39,109 @@ module _ (s : tie.Start) where
 
 -- ---- test 5
 
-module _ (c : tie.After-look-up) where
-  abbrev told : tie.After-struct-told
+module _ (c : tie.After-look_up) where
+  abbrev told : tie.After-struct_told-1
   told = c.before.before
 
   abbrev start : tie.Start
-  start = told.before.before
+  start = told.before
 
   looked : c.look_up.result ≡ record_sought (rs start) (g start).id (g start).suffix
-  looked = simp (read_back (g start).id told.struct_told.given.1.0.1, read_back (g start).suffix told.struct_told.given.1.1.0.1) at c.look_up.ensures
+  looked = simp (read_back (g start).id told.struct_told-1.given.1.0.1, read_back (g start).suffix told.struct_told-1.given.1.1.0.1) at c.look_up.ensures
 
-returns : tie.Need-returns
+returns : tie.Need-returns-in_default
 returns c =
-    let l : tie.After-look-up = c.before.before in
+    let l : tie.After-look_up = c.before in
     let s : tie.Start = start l in
-    let k = s.pre in
-    let lacks : AbsentAt records_layout record_key (rs s) (key_of (g s).id (g s).suffix) c.enum_told.given.0.0 c.enum_told.given.0.1.0 =
-    table-lacks records_layout record_key records-first (rs s) (key_of (g s).id (g s).suffix) _ _ (sym (looked l) ∙ c.enum_told.given.1) in
+    let k = s.requires in
+    let lacks : AbsentAt records_layout record_key (rs s) (key_of (g s).id (g s).suffix) c.in_default.field-0 c.in_default.field-1 =
+    table-lacks records_layout record_key records-first (rs s) (key_of (g s).id (g s).suffix) _ _ (sym (looked l) ∙ c.in_default.is) in
     later-missing (rs s) (ps s) (qs s) k.sound (g s).process (g s).id (g s).suffix (g s).giving (g s).taking (g s).series
     s.args.step k.later k.figures (row_of_process s.args.p) k.known.found k.turn lacks.absent
 
 -- ---- tests 6 to 8
 
-record-named-requires : tie.Need-record-named-requires
+record-named-requires : tie.Need-record_named-named-requires
 record-named-requires c κs =
-    let k : tie.After-known-told = c.before.before.before in
-    let l : tie.After-look-up = k.before.before.before in
+    let k : tie.In-Present = c.before.before in
+    let l : tie.After-look_up = k.before in
     let s : tie.Start = start l in
     simp (
-      read_back (g s).id (told l).struct_told.given.1.0.1,
-      read_back (g s).suffix (told l).struct_told.given.1.1.0.1,
-      read_back k.before.row.given.0.1.0 k.known-told.given.1.0.1,
+      read_back (g s).id (told l).struct_told-1.given.1.0.1,
+      read_back (g s).suffix (told l).struct_told-1.given.1.1.0.1,
+      read_back k.in-Present.greatest k.in-Present.known_told-1-own.given.1.0.1,
     )
-    (record-rows-sound (rs s) s.pre.sound.records, sym (looked l) ∙ k.before.row.given.1)
+    (record-rows-sound (rs s) s.requires.sound.records, sym (looked l) ∙ k.in-Present.is)
 
-module _ (c : tie.After-record-named) where
-  abbrev found : tie.After-look-up
-  found = c.before.before.before.before.before.before.before
+module _ (c : tie.After-record_named-named) where
+  abbrev found : tie.After-look_up
+  found = c.before.before.before.before
 
   abbrev start2 : tie.Start
   start2 = start found
 
-  known : KnownRecord (rs start2) (g start2).id (g start2).suffix c.record-named.result
-  known = simp (read_back (g start2).id (told found).struct_told.given.1.0.1, read_back (g start2).suffix (told found).struct_told.given.1.1.0.1) at c.record-named.ensures
+  known : KnownRecord (rs start2) (g start2).id (g start2).suffix c.record_named-named.result
+  known = simp (read_back (g start2).id (told found).struct_told-1.given.1.0.1, read_back (g start2).suffix (told found).struct_told-1.given.1.1.0.1) at c.record_named-named.ensures
 
 module _ (c : tie.After-verdict) where
-  abbrev at_named : tie.After-record-named
-  at_named = c.before.before.before
+  abbrev at_named : tie.After-record_named-named
+  at_named = c.before.before.before.before
 
   abbrev start3 : tie.Start
   start3 = start2 at_named
 
-  judged : c.verdict.result ≡ verdict_of (first_refusal (later_tests at_named.record-named.result.record (g start3).giving (g start3).series))
+  judged : c.verdict.result ≡ verdict_of (first_refusal (later_tests at_named.record_named-named.result.record (g start3).giving (g start3).series))
   judged =
       simp (
-        read_back (g start3).giving (told (found at_named)).struct_told.given.1.1.1.0.1,
-        read_back (g start3).series (told (found at_named)).struct_told.given.1.1.1.1.1.0.1,
+        read_back (g start3).giving (told (found at_named)).struct_told-1.given.1.1.1.0.1,
+        read_back (g start3).series (told (found at_named)).struct_told-1.given.1.1.1.1.1.0.1,
       ) at c.verdict.ensures
 
-returns-2 : tie.Need-returns-2
+returns-2 : tie.Need-returns-in-Refused
 returns-2 c =
-    let v : tie.After-verdict = c.before.before.before in
+    let v : tie.After-verdict = c.before in
     let s : tie.Start = start3 v in
-    let k = s.pre in
-    let number : ℤ = c.before.number.given.0.0 in
-    let place : ℤ = c.before.number.given.0.1.0 in
-    simp (read_back number c.known-told2.given.0.1, read_back place c.known-told2.given.1.0.1)
+    let k = s.requires in
+    let number : ℤ = c.in-Refused.number in
+    let place : ℤ = c.in-Refused.place in
+    simp (read_back number c.in-Refused.known_told-in-Refused-1-own.given.0.1, read_back place c.in-Refused.known_told-in-Refused-1-own.given.1.0.1)
     (later-refused (rs s) (ps s) (qs s) k.sound (g s).process (g s).id (g s).suffix (g s).giving (g s).taking (g s).series
     s.args.step k.later k.figures (row_of_process s.args.p) k.known.found k.turn
-    (at_named v).record-named.result.record (known (at_named v)).found number place (sym (judged v) ∙ c.before.number.given.1))
+    (at_named v).record_named-named.result.record (known (at_named v)).found number place (sym (judged v) ∙ c.in-Refused.is))
 
 -- ---- the booking
 
-module _ (c : tie.After-is-complete) where
-  abbrev accepted : tie.After-enum-told2
+module _ (c : tie.After-is_complete) where
+  abbrev accepted : tie.In-Accepted
   accepted = c.before.before
 
   abbrev by-verdict : tie.After-verdict
-  by-verdict = accepted.before.before
+  by-verdict = accepted.before
 
   abbrev start4 : tie.Start
   start4 = start3 by-verdict
 
-  ready : RecordReady (rs start4) (ps start4) (qs start4) start4.args.step (g start4) start4.args.at start4.args.p (at_named by-verdict).record-named.result
-  ready = record { ready = start4.pre; record-known = known (at_named by-verdict); passed = sym (judged by-verdict) ∙ accepted.enum-told2.given.1 }
+  ready : RecordReady (rs start4) (ps start4) (qs start4) start4.args.step (g start4) start4.args.at start4.args.p (at_named by-verdict).record_named-named.result
+  ready = record { ready = start4.requires; record-known = known (at_named by-verdict); passed = sym (judged by-verdict) ∙ accepted.in-Accepted.is }
 
-  completed : c.is-complete.result ≡ is_complete (stepped start4.args.step (row_of_process start4.args.p))
-  completed = c.is-complete.ensures ∙ ap (λ (p : ProcessRow). is_complete p) c.before.stepped.ensures
+  completed : c.is_complete.result ≡ is_complete (stepped start4.args.step (row_of_process start4.args.p))
+  completed = c.is_complete.ensures ∙ ap (λ (p : ProcessRow). is_complete p) c.stepped.ensures
 
 complete-requires : tie.Need-complete-requires
 complete-requires c κs =
-    let i : tie.After-is-complete = c.before.before.before.before in
-    (ready i, sym (completed i) ∙ c.before.before.before.if1.true)
+    let i : tie.After-is_complete = c.before.before.before.before in
+    (ready i, sym (completed i) ∙ c.if-is_complete.true)
 
 advance-requires : tie.Need-advance-requires
 advance-requires c κs =
-    let i : tie.After-is-complete = c.before.before.before.before in
-    (ready i, sym (completed i) ∙ c.before.before.before.if1.false)
+    let i : tie.After-is_complete = c.before.before.before in
+    (ready i, sym (completed i) ∙ c.if-is_complete.false)
 
-pub on-turn-spec : {M : Type 1} → statement M
-on-turn-spec =
+pub on_turn_spec : {M : Type 1} → statement M
+on_turn_spec =
     tie.close
     (tie.spec
-    (λ c κs. let s : tie.Start = c.before.before.before in record-rows-sound (rs s) s.requires.sound.records)
+    (λ c κs. let s : tie.Start = c.before.before in record-rows-sound (rs s) s.requires.sound.records)
     (λ c. search rules)
     (λ c. search rules)
     (λ c. search rules)

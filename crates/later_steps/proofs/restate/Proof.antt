@@ -22,43 +22,43 @@ module _ (s : tie.Start) where
   abbrev r : Record
   r = row_at records_layout rs s.args.row
 
-returns : tie.Need-returns
+returns : tie.Need-returns-in-Open
 returns c =
-    let s : tie.Start = c.before.before in
-    clash (ap is_opening c.enum_told.given.1) s.requires.3
+    let s : tie.Start = c.before in
+    clash (ap is_opening c.in-Open.is) s.requires.3
 
-returns-2 : tie.Need-returns-2
+returns-2 : tie.Need-returns-in-Claim
 unfolding record_after
 returns-2 c =
-    let s : tie.Start = c.before.before in
-    record-left (rs s) s.args.step (r s) s.requires.0 (ap (λ (step : Step). record_after step (r s)) c.enum-told2.given.1)
+    let s : tie.Start = c.before in
+    record-left (rs s) s.args.step (r s) s.requires.0 (ap (λ (step : Step). record_after step (r s)) c.in-Claim.is)
 
-returns-3 : tie.Need-returns-3
+returns-3 : tie.Need-returns-in-Cancel
 unfolding record_after
 returns-3 c =
-    let s : tie.Start = c.before.before.before.before.before in
-    record-restated (rs s) s.args.step (r s) (with_status adjustable (r s)) (ap (λ (step : Step). record_after step (r s)) c.before.before.before.enum-told3.given.1) _ c.before.set-status.ensures.0
+    let s : tie.Start = c.before.before.before.before in
+    record-restated (rs s) s.args.step (r s) (with_status adjustable (r s)) (ap (λ (step : Step). record_after step (r s)) c.in-Cancel.is) _ c.set_status.ensures.0
 
-returns-4 : tie.Need-returns-4
+returns-4 : tie.Need-returns-in-Refuse
 unfolding record_after
 returns-4 c =
-    let s : tie.Start = c.before.before.before.before.before in
-    record-restated (rs s) s.args.step (r s) (with_status adjustable (r s)) (ap (λ (step : Step). record_after step (r s)) c.before.before.before.enum-told4.given.1) _ c.before.set-status2.ensures.0
+    let s : tie.Start = c.before.before.before.before in
+    record-restated (rs s) s.args.step (r s) (with_status adjustable (r s)) (ap (λ (step : Step). record_after step (r s)) c.in-Refuse.is) _ c.set_status-in-Refuse.ensures.0
 
-returns-5 : tie.Need-returns-5
+returns-5 : tie.Need-returns-in-ApproveGiver
 unfolding record_after
 returns-5 c =
-    let s : tie.Start = c.before.before in
-    record-left (rs s) s.args.step (r s) s.requires.0 (ap (λ (step : Step). record_after step (r s)) c.enum-told5.given.1)
+    let s : tie.Start = c.before in
+    record-left (rs s) s.args.step (r s) s.requires.0 (ap (λ (step : Step). record_after step (r s)) c.in-ApproveGiver.is)
 
-returns-6 : tie.Need-returns-6
+returns-6 : tie.Need-returns-in-ApproveTaker
 unfolding record_after
 returns-6 c =
-    let s : tie.Start = c.before.before in
-    record-left (rs s) s.args.step (r s) s.requires.0 (ap (λ (step : Step). record_after step (r s)) c.enum-told6.given.1)
+    let s : tie.Start = c.before in
+    record-left (rs s) s.args.step (r s) s.requires.0 (ap (λ (step : Step). record_after step (r s)) c.in-ApproveTaker.is)
 
-pub restate-spec : {M : Type 1} → statement M
-restate-spec =
+pub restate_spec : {M : Type 1} → statement M
+restate_spec =
     tie.close
     (tie.spec
     (λ c. search rules)
