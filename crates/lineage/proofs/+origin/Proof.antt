@@ -93,12 +93,12 @@ module _ (t : ℕ) where
   -- The row that the lookup answered.
   module _ (c : Told) where
     abbrev start : Start
-    start = c.before.before.before.before
+    start = c.before.before
 
     there : PresentAt records_layout record_key (cells start) (key_of (id start) (suffix start)) c.in-Present.row c.in-Present.greatest c.in-Present.next
     there =
         table-present records_layout record_key records-first (cells start) (key_of (id start) (suffix start)) _ _ _
-        (sym (looked c.before.before.before) ∙ c.in-Present.is)
+        (sym (looked c.before) ∙ c.in-Present.is)
 
   -- The record that was read.
   named : (c : Read) → records_of_id (cells (start c.before)) (id (start c.before)) (suffix (start c.before)) ≡ some c.read_record-r.result
@@ -127,7 +127,7 @@ module _ (t : ℕ) where
 
   module _ (c : Linked) where
     abbrev onward : Onward
-    onward = c.before.before.before.before
+    onward = c.before.before.before
 
     abbrev price : ℤ
     price = c.in-From.price
@@ -136,7 +136,7 @@ module _ (t : ℕ) where
     links = c.in-From.links
 
     origin-is : origin_found (cells (from onward)) (id (from onward)) (parent onward) ≡ From price links
-    origin-is = sym (followed c.before.before) ∙ c.in-From.is
+    origin-is = sym (followed c.before) ∙ c.in-From.is
 
     links-range : (pos 0 ≤ℤ links) × (links ≤ℤ greatest_of_suffixes)
     links-range = links-few (cells (from onward)) (sound (from onward)) (id (from onward)) (parent onward) price links (parent-is-valid onward) origin-is
@@ -152,9 +152,9 @@ origin-look-up-requires t c κs = sound t c
 
 origin-returns : (t : ℕ) → origin-lts.Need-returns-in_default (claims t) (origin-at t) origin.Post
 origin-returns t c =
-    let s : Start t = c.before.before.before in
+    let s : Start t = c.before.before in
     step-missing (cells t s) (id t s) (suffix t s)
-    (table-lacks records_layout record_key records-first (cells t s) (key_of (id t s) (suffix t s)) _ _ (sym (looked t c.before.before) ∙ c.in_default.is)).absent
+    (table-lacks records_layout record_key records-first (cells t s) (key_of (id t s) (suffix t s)) _ _ (sym (looked t c.before) ∙ c.in_default.is)).absent
 
 origin-read-record-requires : (t : ℕ) → origin-lts.Need-read_record-r-requires (claims t) (origin-at t) origin.Post
 origin-read-record-requires t c κs = (sound t (start t c), (there t c).row_within)
@@ -163,8 +163,8 @@ origin-returns-2 : (t : ℕ) → origin-lts.Need-returns-then-suffix-eq0 (claims
 origin-returns-2 t c =
     let r : Read t = c.before.before in
     let s : Start t = start t r.before in
-    ap (λ (z : ℤ). From z (pos 0)) (read_back r.read-record.result.price c.struct_told-1.given.1.1.1.1.1.1.1.1.1.0.1)
-    ∙ (step-first (cells t s) (id t s) (suffix t s) r.read-record.result (named t r) (is-literal 0 tt s.ranges.suffix c.if-suffix-eq0.true))
+    ap (λ (z : ℤ). From z (pos 0)) (read_back r.read_record-r.result.price c.struct_told-1.given.1.1.1.1.1.1.1.1.1.0.1)
+    ∙ (step-first (cells t s) (id t s) (suffix t s) r.read_record-r.result (named t r) (is-literal 0 tt s.ranges.suffix c.if-suffix-eq0.true))
 
 origin-origin-requires : (t : ℕ) → origin-lts.Need-origin-requires (claims t) (origin-at t) origin.Post
 origin-origin-requires t c κs =
@@ -172,28 +172,28 @@ origin-origin-requires t c κs =
     let s : Start t = from t o in
     simp (to_z-of_z (parent-fits t o)) (
       subst (λ (n : ℕ). nat_abs (parent t o) < n) s.requires.0
-          (parent-nearer (cells t s) (id t s) (suffix t s) o.read-record.result (named t o.before) (sound t s) (not-zero t o)),
+          (parent-nearer (cells t s) (id t s) (suffix t s) o.read_record-r.result (named t o.before) (sound t s) (not-zero t o)),
       (sound t s, parent-is-valid t o),
     )
 
 origin-add-t14 : (t : ℕ) → origin-lts.Need-overflow_add-result (claims t) (origin-at t) origin.Post
-origin-add-t14 t c = simp (to_z-of_z (links-fit t c.before)) (next_fits t c.before)
+origin-add-t14 t c = simp (to_z-of_z (links-fit t c)) (next_fits t c)
 
 origin-returns-3 : (t : ℕ) → origin-lts.Need-returns-in-From (claims t) (origin-at t) origin.Post
 origin-returns-3 t c =
-    let l : Linked t = c.before in
+    let l : Linked t = c in
     let o : Onward t = onward t l in
     let s : Start t = from t o in
     simp (read_back (price t l) c.in-From.known_told-in-From-1-own.given.0.1, to_z-of_z (links-fit t l))
     (simp (to_z-of_z (next_fits t l))
-    (step_from (cells t s) (id t s) (suffix t s) o.read-record.result (named t o.before) (sound t s) (not-zero t o) (price t l) (links t l) (origin-is t l)))
+    (step_from (cells t s) (id t s) (suffix t s) o.read_record-r.result (named t o.before) (sound t s) (not-zero t o) (price t l) (links t l) (origin-is t l)))
 
 origin-returns-4 : (t : ℕ) → origin-lts.Need-returns-in-Missing (claims t) (origin-at t) origin.Post
 origin-returns-4 t c =
-    let f : Followed t = c.before.before in
+    let f : Followed t = c.before in
     let o : Onward t = f.before.before in
     let s : Start t = from t o in
-    step-onward-missing (cells t s) (id t s) (suffix t s) o.read-record.result (named t o.before) (sound t s) (not-zero t o)
+    step-onward-missing (cells t s) (id t s) (suffix t s) o.read_record-r.result (named t o.before) (sound t s) (not-zero t o)
     (sym (followed t f) ∙ c.in-Missing.is)
 
 pub +origin_spec : {M : Type 1} → statement M
