@@ -14,38 +14,38 @@ module _ (s : tie.Start) (a : Answer) where
   abbrev Handled : Step → Type 0
   Handled step = HandledIn (all_tables s.args.records.now s.args.positions.now s.args.processes.now) (step_of step s.args.g) a
 
-returns : tie.Need-returns
+returns : tie.Need-returns-in-Open
 returns c =
-    let e : tie.After-enum-told = c.before.before.before.before.before.before in
-    subst (Handled e.before.before _) (sym e.enum_told.given.1) c.before.before.on-sound.ensures
+    let e : tie.In-Open = c.before.before.before.before.before in
+    subst (Handled e.before _) (sym e.in-Open.is) c.on_sound.ensures
 
-returns-2 : tie.Need-returns-2
+returns-2 : tie.Need-returns-in-Claim
 returns-2 c =
-    let e : tie.After-enum-told2 = c.before.before.before.before.before.before.before in
-    subst (Handled e.before.before _) (sym e.enum-told2.given.1) c.before.before.before.on-sound2.ensures
+    let e : tie.In-Claim = c.before.before.before.before.before.before.before in
+    subst (Handled e.before _) (sym e.in-Claim.is) c.on_sound-in-Claim.ensures
 
-returns-3 : tie.Need-returns-3
+returns-3 : tie.Need-returns-in-Cancel
 returns-3 c =
-    let e : tie.After-enum-told3 = c.before.before.before.before.before.before.before in
-    subst (Handled e.before.before _) (sym e.enum-told3.given.1) c.before.before.before.on-sound3.ensures
+    let e : tie.In-Cancel = c.before.before.before.before.before.before.before in
+    subst (Handled e.before _) (sym e.in-Cancel.is) c.on_sound-in-Cancel.ensures
 
-returns-4 : tie.Need-returns-4
+returns-4 : tie.Need-returns-in-Refuse
 returns-4 c =
-    let e : tie.After-enum-told4 = c.before.before.before.before.before.before.before in
-    subst (Handled e.before.before _) (sym e.enum-told4.given.1) c.before.before.before.on-sound4.ensures
+    let e : tie.In-Refuse = c.before.before.before.before.before.before.before in
+    subst (Handled e.before _) (sym e.in-Refuse.is) c.on_sound-in-Refuse.ensures
 
-returns-5 : tie.Need-returns-5
+returns-5 : tie.Need-returns-in-ApproveGiver
 returns-5 c =
-    let e : tie.After-enum-told5 = c.before.before.before.before.before.before.before in
-    subst (Handled e.before.before _) (sym e.enum-told5.given.1) c.before.before.before.on-sound5.ensures
+    let e : tie.In-ApproveGiver = c.before.before.before.before.before.before.before in
+    subst (Handled e.before _) (sym e.in-ApproveGiver.is) c.on_sound-in-ApproveGiver.ensures
 
-returns-6 : tie.Need-returns-6
+returns-6 : tie.Need-returns-in-ApproveTaker
 returns-6 c =
-    let e : tie.After-enum-told6 = c.before.before.before.before.before.before.before in
-    subst (Handled e.before.before _) (sym e.enum-told6.given.1) c.before.before.before.on-sound6.ensures
+    let e : tie.In-ApproveTaker = c.before.before.before.before.before.before.before in
+    subst (Handled e.before _) (sym e.in-ApproveTaker.is) c.on_sound-in-ApproveTaker.ensures
 
-pub on-sound-spec : {M : Type 1} → statement M
-on-sound-spec =
+pub on_sound_spec : {M : Type 1} → statement M
+on_sound_spec =
     tie.close
     (tie.spec
     (λ c. search rules)

@@ -79,9 +79,8 @@ returns-2 c =
     let l : tie.After-look_up = c.before in
     let s : tie.Start = start l in
     let g : Terms = g s in
-    let w = c.enum_told-1.given.0 in
-    opening-used (rs s) (ps s) (qs s) s.requires g.process g.id g.suffix g.giving g.taking g.series (figures l) w.1.0
-    (table-present processes_layout process_key processes-first (qs s) (key_of g.process g.id) w.0 w.1.0 w.1.1.0 (sym (process-is l) ∙ c.in_default.is)).greatest-is
+    opening-used (rs s) (ps s) (qs s) s.requires g.process g.id g.suffix g.giving g.taking g.series (figures l) c.in_default.field-1
+    (table-present processes_layout process_key processes-first (qs s) (key_of g.process g.id) c.in_default.field-0 c.in_default.field-1 c.in_default.field-2 (sym (process-is l) ∙ c.in_default.is)).greatest-is
 
 -- What was said of a process id that names no such transaction.
 module _ (c : tie.In-Absent) where

@@ -14,7 +14,7 @@ use Rattle.journal_reading.proofs.RequestsRead.{bad-line, invalid-line, valid-li
 use Rattle.journal_reading.proofs.request.read_request.Statement.{statement}
 use Rattle.journal_reading.proofs.request.read_request.Tie as tie
 
-module _ (c : tie.After-read-line) where
+module _ (c : tie.After-read_line) where
   abbrev s : tie.Start
   s = c.before.before.before
 
@@ -22,54 +22,54 @@ module _ (c : tie.After-read-line) where
   text = s.args.text.now
 
   abbrev figures : List ℤ
-  figures = c.read-line.new.1.1.0
+  figures = c.read_line.new.figures
 
   -- What was read, as an answer of this kind.
   abbrev As : LineRead → Type 0
   As r = LineReadAs text s.args.at figures r
 
-returns : tie.Need-returns
+returns : tie.Need-returns-in_default
 returns c =
-    let r : tie.After-read-line = c.before.before.before in
-    bad-line (text r) (s r).args.at (figures r) (subst (As r) c.enum_told.given.1 r.read-line.ensures)
+    let r : tie.After-read_line = c.before.before in
+    bad-line (text r) (s r).args.at (figures r) (subst (As r) c.in_default.is r.read_line.ensures)
 
 -- The line that was read.
-module _ (c : tie.After-known-told) where
-  abbrev at-line : tie.After-read-line
-  at-line = c.before.before.before.before
+module _ (c : tie.In-Read) where
+  abbrev at-line : tie.After-read_line
+  at-line = c.before.before
 
   abbrev heading : Heading
-  heading = c.before.heading.given.0.0
+  heading = c.in-Read.heading
 
   abbrev count : ℕ
-  count = c.before.heading.given.0.1.0
+  count = c.in-Read.count
 
   abbrev next : ℕ
-  next = c.before.heading.given.0.1.1.0
+  next = c.in-Read.next
 
   read : As at-line (Read heading count next)
-  read = subst (As at-line) c.before.heading.given.1 at-line.read-line.ensures
+  read = subst (As at-line) c.in-Read.is at-line.read_line.ensures
 
-slice-reshare-prefix-line-valid : tie.Need-slice-reshare-prefix-line-valid
+slice-reshare-prefix-line-valid : tie.Need-slice_bounds-line_valid-end
 slice-reshare-prefix-line-valid c = (read c).within.0
 
-slice-aggregate-line-valid : tie.Need-slice-aggregate-line-valid
-slice-aggregate-line-valid c = sym (length-take-le (count c.before) (figures (at-line c.before)) (read c.before).within.0)
+slice-aggregate-line-valid : tie.Need-slice_bounds-line_valid-end-2
+slice-aggregate-line-valid c = sym (length-take-le (count c) (figures (at-line c)) (read c).within.0)
 
-returns-2 : tie.Need-returns-2
+returns-2 : tie.Need-returns-then-not-line_valid
 returns-2 c =
-    let k : tie.After-known-told = c.before.before.before in
-    let r : tie.After-read-line = at-line k in
-    invalid-line (text r) (s r).args.at (figures r) (heading k) (count k) (next k) (read k) (sym c.before.line-valid.ensures ∙ not-true c.before.line-valid.result c.if1.true)
+    let k : tie.In-Read = c.before.before in
+    let r : tie.After-read_line = at-line k in
+    invalid-line (text r) (s r).args.at (figures r) (heading k) (count k) (next k) (read k) (sym c.line_valid.ensures ∙ not-true c.line_valid.result c.if-not-line_valid.true-raw)
 
-returns-3 : tie.Need-returns-3
+returns-3 : tie.Need-returns
 returns-3 c =
-    let k : tie.After-known-told = c.before.before.before in
-    let r : tie.After-read-line = at-line k in
-    valid-line (text r) (s r).args.at (figures r) (heading k) (count k) (next k) (read k) (sym c.before.line-valid.ensures ∙ not-false c.before.line-valid.result c.if1.false)
+    let k : tie.In-Read = c.before.before in
+    let r : tie.After-read_line = at-line k in
+    valid-line (text r) (s r).args.at (figures r) (heading k) (count k) (next k) (read k) (sym c.line_valid.ensures ∙ not-false c.line_valid.result c.if-not-line_valid.false-raw)
 
-pub read-request-spec : {M : Type 1} → statement M
-read-request-spec =
+pub read_request_spec : {M : Type 1} → statement M
+read_request_spec =
     tie.close
     (tie.spec
     (λ c κs. search rules)

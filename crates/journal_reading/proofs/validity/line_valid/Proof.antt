@@ -8,39 +8,39 @@ use Rattle.journal_reading.proofs.ValidLines.{any_step}
 use Rattle.journal_reading.proofs.validity.line_valid.Statement.{statement}
 use Rattle.journal_reading.proofs.validity.line_valid.Tie as tie
 
-returns : tie.Need-returns
+returns : tie.Need-returns-in-Trade
 returns c =
-    let s : tie.Start = c.before.before.before in
-    c.trade-valid.ensures ∙ ap (λ (h : Heading). is_valid_line h s.args.figures.now) (sym c.before.enum_told.given.1)
+    let s : tie.Start = c.before.before in
+    c.trade_valid.ensures ∙ ap (λ (h : Heading). is_valid_line h s.args.figures.now) (sym c.in-Trade.is)
 
-returns-2 : tie.Need-returns-2
+returns-2 : tie.Need-returns-in-Separation
 returns-2 c =
-    let s : tie.Start = c.before.before.before in
-    c.separation-valid.ensures ∙ ap (λ (h : Heading). is_valid_line h s.args.figures.now) (sym c.before.enum-told2.given.1)
+    let s : tie.Start = c.before.before in
+    c.separation_valid.ensures ∙ ap (λ (h : Heading). is_valid_line h s.args.figures.now) (sym c.in-Separation.is)
 
-returns-3 : tie.Need-returns-3
+returns-3 : tie.Need-returns-in-Transfer
 returns-3 c =
-    let s : tie.Start = c.before.before.before in
-    c.transfer-valid.ensures ∙ ap (λ (h : Heading). is_valid_line h s.args.figures.now) (sym c.before.enum-told3.given.1)
+    let s : tie.Start = c.before.before in
+    c.transfer_valid.ensures ∙ ap (λ (h : Heading). is_valid_line h s.args.figures.now) (sym c.in-Transfer.is)
 
-returns-4 : tie.Need-returns-4
+returns-4 : tie.Need-returns-in-Merge
 returns-4 c =
-    let s : tie.Start = c.before.before.before in
-    c.merge-valid.ensures ∙ ap (λ (h : Heading). is_valid_line h s.args.figures.now) (sym c.before.enum-told4.given.1)
+    let s : tie.Start = c.before.before in
+    c.merge_valid.ensures ∙ ap (λ (h : Heading). is_valid_line h s.args.figures.now) (sym c.in-Merge.is)
 
-returns-5 : tie.Need-returns-5
+returns-5 : tie.Need-returns-in-GiveUp
 returns-5 c =
-    let s : tie.Start = c.before.before.before.before in
-    let step : Step = c.before.before.heading.given.0.0 in
-    c.step-valid.ensures ∙ any_step step s.args.figures.now ∙ ap (λ (h : Heading). is_valid_line h s.args.figures.now) (sym c.before.before.heading.given.1)
+    let s : tie.Start = c.before.before in
+    let step : Step = c.in-GiveUp.step in
+    c.step_valid.ensures ∙ any_step step s.args.figures.now ∙ ap (λ (h : Heading). is_valid_line h s.args.figures.now) (sym c.in-GiveUp.is)
 
-returns-6 : tie.Need-returns-6
+returns-6 : tie.Need-returns-in-Day
 returns-6 c =
-    let s : tie.Start = c.before.before.before in
-    c.day-valid.ensures ∙ ap (λ (h : Heading). is_valid_line h s.args.figures.now) (sym c.before.enum-told5.given.1)
+    let s : tie.Start = c.before.before in
+    c.day_valid.ensures ∙ ap (λ (h : Heading). is_valid_line h s.args.figures.now) (sym c.in-Day.is)
 
-pub line-valid-spec : {M : Type 1} → statement M
-line-valid-spec =
+pub line_valid_spec : {M : Type 1} → statement M
+line_valid_spec =
     tie.close
     (tie.spec
     (λ c. search rules)

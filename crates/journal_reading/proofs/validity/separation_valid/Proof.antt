@@ -17,12 +17,12 @@ use Rattle.journal_reading.proofs.ValidLines.{miscounted, counted, figures-from}
 use Rattle.journal_reading.proofs.validity.separation_valid.Statement.{statement}
 use Rattle.journal_reading.proofs.validity.separation_valid.Tie as tie
 
-returns : tie.Need-returns
+returns : tie.Need-returns-then-figures-lt4
 unfolding has_its_figures
-returns c = miscounted Separation _ (lt-leb 4 _ c.if1.true)
+returns c = miscounted Separation _ (lt-leb 4 _ c.if-figures-lt4.true)
 
 -- Each figure that was read fits 64 bits.
-module _ (c : tie.After-figures-valid-arg4) where
+module _ (c : tie.After-figures_valid-arg-4-1) where
   abbrev s : tie.Start
   s = c.before.before.before.before.before
 
@@ -30,28 +30,28 @@ module _ (c : tie.After-figures-valid-arg4) where
   figure at = get_or s.args.figures.now at (pos 0)
 
   zero-fits : SFits w64 (figure 0)
-  zero-fits = sfits_of c.before.before.before.figures-valid-arg.given
+  zero-fits = sfits_of c.figures_valid-arg-1.given
 
   one-fits : SFits w64 (figure 1)
-  one-fits = sfits_of c.before.before.figures-valid-arg2.given
+  one-fits = sfits_of c.figures_valid-arg-2-1.given
 
   two_fits : SFits w64 (figure 2)
-  two_fits = sfits_of c.before.figures-valid-arg3.given
+  two_fits = sfits_of c.figures_valid-arg-3-1.given
 
   three-fits : SFits w64 (figure 3)
-  three-fits = sfits_of c.figures-valid-arg4.given
+  three-fits = sfits_of c.figures_valid-arg-4-1.given
 
-returns-2 : tie.Need-returns-2
+returns-2 : tie.Need-returns
 unfolding has_its_figures passes_test3 request_named
 returns-2 c =
-    let r : tie.After-figures-valid-arg4 = c.before.before in
-    let read : c.figures-valid.result ≡ separation_figures (figure r 0) (figure r 1) (figure r 2) (figure r 3) (take (length (s r).args.figures.now - 4) (drop 4 (s r).args.figures.now)) =
-    simp (to_z-of_z (zero-fits r), to_z-of_z (one-fits r), to_z-of_z (two_fits r), to_z-of_z (three-fits r)) at c.figures-valid.ensures in
+    let r : tie.After-figures_valid-arg-4-1 = c.before.before in
+    let read : c.figures_valid.result ≡ separation_figures (figure r 0) (figure r 1) (figure r 2) (figure r 3) (take (length (s r).args.figures.now - 4) (drop 4 (s r).args.figures.now)) =
+    simp (to_z-of_z (zero-fits r), to_z-of_z (one-fits r), to_z-of_z (two_fits r), to_z-of_z (three-fits r)) at c.figures_valid.ensures in
     read ∙ ap (λ (rest : List ℤ). separation_figures (figure r 0) (figure r 1) (figure r 2) (figure r 3) rest) (figures-from 4 (s r).args.figures.now)
-    ∙ counted Separation _ (le-leb 4 _ c.before.before.before.before.before.before.if1.false)
+    ∙ counted Separation _ (le-leb 4 _ c.if-figures-lt4.false)
 
-pub separation-valid-spec : {M : Type 1} → statement M
-separation-valid-spec =
+pub separation_valid_spec : {M : Type 1} → statement M
+separation_valid_spec =
     tie.close
     (tie.spec
     returns

@@ -15,12 +15,12 @@ use Rattle.journal_reading.proofs.ValidLines.{miscounted, counted}
 use Rattle.journal_reading.proofs.validity.transfer_valid.Statement.{statement}
 use Rattle.journal_reading.proofs.validity.transfer_valid.Tie as tie
 
-returns : tie.Need-returns
+returns : tie.Need-returns-then-figures-ne5
 unfolding has_its_figures
-returns c = miscounted Transfer _ (ne_eqb _ 5 c.if1.true)
+returns c = miscounted Transfer _ (ne_eqb _ 5 c.if-figures-ne5.true)
 
 -- Each figure that was read fits 64 bits.
-module _ (c : tie.After-figures-valid-arg5) where
+module _ (c : tie.After-figures_valid-arg-5-1) where
   abbrev s : tie.Start
   s = c.before.before.before.before.before.before
 
@@ -28,29 +28,29 @@ module _ (c : tie.After-figures-valid-arg5) where
   figure at = get_or s.args.figures.now at (pos 0)
 
   zero-fits : SFits w64 (figure 0)
-  zero-fits = sfits_of c.before.before.before.before.figures-valid-arg.given
+  zero-fits = sfits_of c.figures_valid-arg-1.given
 
   one-fits : SFits w64 (figure 1)
-  one-fits = sfits_of c.before.before.before.figures-valid-arg2.given
+  one-fits = sfits_of c.figures_valid-arg-2-1.given
 
   two_fits : SFits w64 (figure 2)
-  two_fits = sfits_of c.before.before.figures-valid-arg3.given
+  two_fits = sfits_of c.figures_valid-arg-3-1.given
 
   three-fits : SFits w64 (figure 3)
-  three-fits = sfits_of c.before.figures-valid-arg4.given
+  three-fits = sfits_of c.figures_valid-arg-4-1.given
 
   four-fits : SFits w64 (figure 4)
-  four-fits = sfits_of c.figures-valid-arg5.given
+  four-fits = sfits_of c.figures_valid-arg-5-1.given
 
-returns-2 : tie.Need-returns-2
+returns-2 : tie.Need-returns
 unfolding has_its_figures passes_test3 request_named
 returns-2 c =
-    let r : tie.After-figures-valid-arg5 = c.before in
-    simp (to_z-of_z (zero-fits r), to_z-of_z (one-fits r), to_z-of_z (two_fits r), to_z-of_z (three-fits r), to_z-of_z (four-fits r)) at c.figures-valid.ensures
-    ∙ counted Transfer _ (eq-eqb _ 5 c.before.before.before.before.before.before.if1.false)
+    let r : tie.After-figures_valid-arg-5-1 = c.before in
+    simp (to_z-of_z (zero-fits r), to_z-of_z (one-fits r), to_z-of_z (two_fits r), to_z-of_z (three-fits r), to_z-of_z (four-fits r)) at c.figures_valid.ensures
+    ∙ counted Transfer _ (eq-eqb _ 5 c.if-figures-ne5.false)
 
-pub transfer-valid-spec : {M : Type 1} → statement M
-transfer-valid-spec =
+pub transfer_valid_spec : {M : Type 1} → statement M
+transfer_valid_spec =
     tie.close
     (tie.spec
     returns

@@ -11,9 +11,9 @@ use Rattle.journal_writing.proofs.line.write_figures.Tie as tie
 
 returns : tie.Need-returns
 returns c =
-    let w : tie.After-write-valid = c.before.before in
-    let s : tie.Start = w.before.before.before.before in
-    w.write-valid.ensures ∙ ap (λ (figures : List ℤ). writing true (line_text s.args.heading figures) s.args.text.now) (append-nil s.args.figures.now)
+    let w : tie.After-write_valid = c.before.before in
+    let s : tie.Start = w.before.before.before in
+    w.write_valid.ensures ∙ ap (λ (figures : List ℤ). writing true (line_text s.args.heading figures) s.args.text.now) (append-nil s.args.figures.now)
 
-pub write-figures-spec : {M : Type 1} → statement M
-write-figures-spec = tie.close (tie.spec (λ c. search rules) (λ c κs. search rules) (λ c. search rules) returns)
+pub write_figures_spec : {M : Type 1} → statement M
+write_figures_spec = tie.close (tie.spec (λ c. search rules) (λ c κs. search rules) (λ c. search rules) returns)

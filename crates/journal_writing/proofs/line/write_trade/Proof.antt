@@ -14,29 +14,29 @@ use Rattle.journal_writing.proofs.line.write_trade.Tie as tie
 abbrev named : tie.Start → Request
 named s = trade s.args.id s.args.account s.args.series s.args.side s.args.quantity s.args.price
 
-tested : (c : tie.After-figures-valid) → c.figures-valid.result ≡ passes_test3 (named c.before.before)
+tested : (c : tie.After-figures_valid) → c.figures_valid.result ≡ passes_test3 (named c.before.before)
 unfolding passes_test3
 tested c =
     let s : tie.Start = c.before.before in
-    simp (to_z-of_z s.ranges.id, to_z-of_z s.ranges.account, to_z-of_z s.ranges.series, to_z-of_z s.ranges.side, to_z-of_z s.ranges.quantity, to_z-of_z s.ranges.price) at c.figures-valid.ensures
+    simp (to_z-of_z s.ranges.id, to_z-of_z s.ranges.account, to_z-of_z s.ranges.series, to_z-of_z s.ranges.side, to_z-of_z s.ranges.quantity, to_z-of_z s.ranges.price) at c.figures_valid.ensures
 
-line-written : (c : tie.After-write-figures) → text_left c.write-figures.result c.write-figures.new.0 ≡ writing true (line_of (named c.before.before.before.before.before.before)) c.before.before.before.before.before.before.args.text.now
+line-written : (c : tie.After-write_figures) → text_left c.write_figures.result c.write_figures.new.text ≡ writing true (line_of (named c.before.before.before.before.before.before)) c.args.text.now
 unfolding line_of
 line-written c =
     let s : tie.Start = c.before.before.before.before.before.before in
-    simp (to_z-of_z s.ranges.id, to_z-of_z s.ranges.account, to_z-of_z s.ranges.series, to_z-of_z s.ranges.side, to_z-of_z s.ranges.quantity, to_z-of_z s.ranges.price) at c.write-figures.ensures
+    simp (to_z-of_z s.ranges.id, to_z-of_z s.ranges.account, to_z-of_z s.ranges.series, to_z-of_z s.ranges.side, to_z-of_z s.ranges.quantity, to_z-of_z s.ranges.price) at c.write_figures.ensures
 
-returns : tie.Need-returns
+returns : tie.Need-returns-then-not-figures_valid
 returns c =
     let s : tie.Start = c.before.before.before in
-    request-refused (named s) s.args.text.now (sym (tested c.before) ∙ not-true c.before.figures-valid.result c.if1.true)
+    request-refused (named s) s.args.text.now (sym (tested c.before) ∙ not-true c.figures_valid.result c.if-not-figures_valid.true-raw)
 
-returns-2 : tie.Need-returns-2
+returns-2 : tie.Need-returns
 returns-2 c =
-    let w : tie.After-write-figures = c.before.before in
-    let e : tie.Else1 = w.before.before.before in
+    let w : tie.After-write_figures = c.before.before in
+    let e : tie.Else-not-figures_valid = w.before.before.before in
     let s : tie.Start = e.before.before.before in
-    line-written w ∙ request-passes (named s) s.args.text.now (sym (tested e.before) ∙ not-false e.before.figures-valid.result e.if1.false)
+    line-written w ∙ request-passes (named s) s.args.text.now (sym (tested e.before) ∙ not-false e.figures_valid.result e.if-not-figures_valid.false-raw)
 
-pub write-trade-spec : {M : Type 1} → statement M
-write-trade-spec = tie.close (tie.spec (λ c κs. search rules) returns (λ c. search rules) (λ c κs. search rules) (λ c. search rules) returns-2)
+pub write_trade_spec : {M : Type 1} → statement M
+write_trade_spec = tie.close (tie.spec (λ c κs. search rules) returns (λ c. search rules) (λ c κs. search rules) (λ c. search rules) returns-2)

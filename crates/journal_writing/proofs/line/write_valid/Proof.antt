@@ -18,20 +18,20 @@ use Rattle.journal_writing.proofs.line.write_valid.Tie as tie
 abbrev line : tie.Start → List ℕ
 line s = line_text s.args.heading (s.args.figures.now ++ s.args.more.now)
 
-returns : tie.Need-returns
+returns : tie.Need-returns-then-text-width
 returns c =
     let s : tie.Start = c.before.before.before in
-    refused-14 (line s) s.args.text.now (omega (arith, c.if1.true, c.before.line-width.ensures.0))
+    refused-14 (line s) s.args.text.now (omega (arith, c.if-text-width.true, c.line_width-width.ensures.0))
 
-returns-2 : tie.Need-returns-2
+returns-2 : tie.Need-returns
 returns-2 c =
-    let w : tie.After-write-line = c.before.before in
-    let e : tie.Else1 = w.before.before in
+    let w : tie.After-write_line-end = c.before.before in
+    let e : tie.Else-text-width = w.before.before in
     let s : tie.Start = e.before.before.before in
-    let room : length (line s) ≤ length s.args.text.now = omega (arith, e.if1.false, e.before.line-width.ensures.0) in
-    let small : w.write-line.result < 2 ^ 63 = omega (arith, w.write-line.ensures.0, e.before.line-width.ensures, s.requires) in
-    ap (λ (bytes : ℤ). text_left (Written bytes) w.write-line.new.0) (to_z_pos w64 small)
-    ∙ written-at-front (line s) s.args.text.now _ _ room w.write-line.ensures
+    let room : length (line s) ≤ length s.args.text.now = omega (arith, e.if-text-width.false, e.line_width-width.ensures.0) in
+    let small : w.write_line-end.result < 2 ^ 63 = omega (arith, w.write_line-end.ensures.0, e.line_width-width.ensures, s.requires) in
+    ap (λ (bytes : ℤ). text_left (Written bytes) w.write_line-end.new.text) (to_z_pos w64 small)
+    ∙ written-at-front (line s) s.args.text.now _ _ room w.write_line-end.ensures
 
-pub write-valid-spec : {M : Type 1} → statement M
-write-valid-spec = tie.close (tie.spec (λ c κs. search rules) returns (λ c κs. search rules) (λ c. search rules) (λ c. search rules) returns-2)
+pub write_valid_spec : {M : Type 1} → statement M
+write_valid_spec = tie.close (tie.spec (λ c κs. search rules) returns (λ c κs. search rules) (λ c. search rules) (λ c. search rules) returns-2)

@@ -10,7 +10,7 @@ use Rattle.rules.specs.Line.{passes_test3}
 use Rattle.journal_writing.proofs.trades.trade_valid.Statement.{statement}
 use Rattle.journal_writing.proofs.trades.trade_valid.Tie as tie
 
-module _ (c : tie.After-price) where
+module _ (c : tie.After-price-1) where
   abbrev s : tie.Start
   s = c.before.before.before.before.before.before
 
@@ -18,31 +18,31 @@ module _ (c : tie.After-price) where
   figure at = get_or s.args.trades.now at (pos 0)
 
   id-fits : SFits w64 (figure s.args.at)
-  id-fits = sfits_of c.before.before.before.before.before.id.given
+  id-fits = sfits_of c.id-1.given
 
   account-fits : SFits w64 (figure (s.args.at + 1))
-  account-fits = sfits_of c.before.before.before.before.account.given
+  account-fits = sfits_of c.account-1.given
 
   series-fits : SFits w64 (figure (s.args.at + 2))
-  series-fits = sfits_of c.before.before.before.series.given
+  series-fits = sfits_of c.series-1.given
 
   side-fits : SFits w64 (figure (s.args.at + 3))
-  side-fits = sfits_of c.before.before.side.given
+  side-fits = sfits_of c.side-1.given
 
   quantity-fits : SFits w64 (figure (s.args.at + 4))
-  quantity-fits = sfits_of c.before.quantity.given
+  quantity-fits = sfits_of c.quantity-1.given
 
   price-fits : SFits w64 (figure (s.args.at + 5))
-  price-fits = sfits_of c.price.given
+  price-fits = sfits_of c.price-1.given
 
 returns : tie.Need-returns
 unfolding passes_test3
 returns c =
-    let p : tie.After-price = c.before in
-    simp (to_z-of_z (id-fits p), to_z-of_z (account-fits p), to_z-of_z (series-fits p), to_z-of_z (side-fits p), to_z-of_z (quantity-fits p), to_z-of_z (price-fits p)) at c.figures-valid.ensures
+    let p : tie.After-price-1 = c.before in
+    simp (to_z-of_z (id-fits p), to_z-of_z (account-fits p), to_z-of_z (series-fits p), to_z-of_z (side-fits p), to_z-of_z (quantity-fits p), to_z-of_z (price-fits p)) at c.figures_valid.ensures
 
-pub trade-valid-spec : {M : Type 1} → statement M
-trade-valid-spec =
+pub trade_valid_spec : {M : Type 1} → statement M
+trade_valid_spec =
     tie.close
     (tie.spec
     (λ c. search rules)

@@ -30,57 +30,57 @@ lines s = lines_of (trades_of (list s))
 
 -- ---- past the tests
 
-listed : (c : tie.Else1) → batch_figures (list c.before.before.before) (trade_count (list c.before.before.before)) ≡ true
-listed c = sym c.before.figures-valid.ensures ∙ not-false c.before.figures-valid.result c.if1.false
+listed : (c : tie.Else-not-figures_valid) → batch_figures (list c.before.before.before) (trade_count (list c.before.before.before)) ≡ true
+listed c = sym c.figures_valid.ensures ∙ not-false c.figures_valid.result c.if-not-figures_valid.false-raw
 
-few : (c : tie.Else1) → trade_count (list c.before.before.before) ≤ 1000
+few : (c : tie.Else-not-figures_valid) → trade_count (list c.before.before.before) ≤ 1000
 few c = (trades-fit (list c.before.before.before) (trade_count (list c.before.before.before)) (listed c)).0
 
-each : (c : tie.Else2) → all_pass (trades_of (list c.before.before.before.before.before)) ≡ true
-each c = sym c.before.each-valid.ensures ∙ not-false c.before.each-valid.result c.if2.false
+each : (c : tie.Else-not-each_valid) → all_pass (trades_of (list c.before.before.before.before.before)) ≡ true
+each c = sym c.each_valid.ensures ∙ not-false c.each_valid.result c.if-not-each_valid.false-raw
 
 -- ---- the answers
 
-returns : tie.Need-returns
+returns : tie.Need-returns-then-not-figures_valid
 returns c =
     let s : tie.Start = c.before.before.before in
-    list-refused (list s) (text s) (sym c.before.figures-valid.ensures ∙ not-true c.before.figures-valid.result c.if1.true)
+    list-refused (list s) (text s) (sym c.figures_valid.ensures ∙ not-true c.figures_valid.result c.if-not-figures_valid.true-raw)
 
-returns-2 : tie.Need-returns-2
+returns-2 : tie.Need-returns-then-not-each_valid
 returns-2 c =
-    let e : tie.Else1 = c.before.before in
+    let e : tie.Else-not-figures_valid = c.before.before in
     let s : tie.Start = e.before.before.before in
-    trade-refused (list s) (text s) (listed e) (sym c.before.each-valid.ensures ∙ not-true c.before.each-valid.result c.if2.true)
+    trade-refused (list s) (text s) (listed e) (sym c.each_valid.ensures ∙ not-true c.each_valid.result c.if-not-each_valid.true-raw)
 
-trades-width-requires : tie.Need-trades-width-requires
+trades-width-requires : tie.Need-trades_width-width-requires
 trades-width-requires c κs = few c.before.before
 
-returns-3 : tie.Need-returns-3
+returns-3 : tie.Need-returns-then-text-width
 returns-3 c =
-    let e : tie.Else2 = c.before.before in
+    let e : tie.Else-not-each_valid = c.before.before in
     let s : tie.Start = e.before.before.before.before.before in
-    refused-14 (lines s) (text s) (omega (arith, c.if3.true, c.before.trades-width.ensures.0)) ∙ trades-pass (list s) (text s) (listed e.before.before) (each e)
+    refused-14 (lines s) (text s) (omega (arith, c.if-text-width.true, c.trades_width-width.ensures.0)) ∙ trades-pass (list s) (text s) (listed e.before.before) (each e)
 
-room : (c : tie.Else3) → length (lines c.before.before.before.before.before.before.before) ≤ length (text c.before.before.before.before.before.before.before)
-room c = omega (arith, c.if3.false, c.before.trades-width.ensures.0)
+room : (c : tie.Else-text-width) → length (lines c.before.before.before.before.before.before.before) ≤ length (text c.before.before.before.before.before.before.before)
+room c = omega (arith, c.if-text-width.false, c.trades_width-width.ensures.0)
 
-write-each-requires : tie.Need-write-each-requires
+write-each-requires : tie.Need-write_each-end-requires
 write-each-requires c κs = (few c.before.before.before.before.before, room c.before)
 
-returns-4 : tie.Need-returns-4
+returns-4 : tie.Need-returns
 returns-4 c =
-    let w : tie.After-write-each = c.before.before in
-    let k : tie.Else3 = w.before.before in
-    let e : tie.Else2 = k.before.before in
+    let w : tie.After-write_each-end = c.before.before in
+    let k : tie.Else-text-width = w.before.before in
+    let e : tie.Else-not-each_valid = k.before.before in
     let s : tie.Start = e.before.before.before.before.before in
-    let width : length (lines s) ≤ 136000 = omega (arith, k.before.trades-width.ensures, few e.before.before) in
-    let small : w.write-each.result < 2 ^ 63 = omega (arith, w.write-each.ensures.0) in
-    ap (λ (bytes : ℤ). text_left (Written bytes) w.write-each.new.0) (to_z_pos w64 small)
-    ∙ written-at-front (lines s) (text s) _ _ (room k) (omega (arith, w.write-each.ensures.0), w.write-each.ensures.1)
+    let width : length (lines s) ≤ 136000 = omega (arith, k.trades_width-width.ensures, few e.before.before) in
+    let small : w.write_each-end.result < 2 ^ 63 = omega (arith, w.write_each-end.ensures.0) in
+    ap (λ (bytes : ℤ). text_left (Written bytes) w.write_each-end.new.text) (to_z_pos w64 small)
+    ∙ written-at-front (lines s) (text s) _ _ (room k) (omega (arith, w.write_each-end.ensures.0), w.write_each-end.ensures.1)
     ∙ trades-pass (list s) (text s) (listed e.before.before) (each e)
 
-pub write-trades-spec : {M : Type 1} → statement M
-write-trades-spec =
+pub write_trades_spec : {M : Type 1} → statement M
+write_trades_spec =
     tie.close
     (tie.spec
     (λ c κs. search rules)
