@@ -13,10 +13,10 @@ use Rattle.journal_booking.proofs.book_day.Tie as tie
 returns : tie.Need-returns
 unfolding request_named
 returns c =
-    let a : tie.After-on-sound = c.before.before in
-    let d : tie.After-day = a.before.before in
-    let fits : SFits w64 (get_or d.before.args.figures.now 0 (pos 0)) = sfits_of d.day.given in
-    day-booked (simp (to_z-of_z fits) at a.on-sound.ensures) c.verdict-of.ensures
+    let a : tie.After-on_sound = c.before.before in
+    let d : tie.After-day-1 = a.before.before in
+    let fits : SFits w64 (get_or d.args.figures.now 0 (pos 0)) = sfits_of d.day-1.given in
+    day-booked (simp (to_z-of_z fits) at a.on_sound.ensures) c.verdict_of.ensures
 
-pub book-day-spec : {M : Type 1} → statement M
-book-day-spec = tie.close (tie.spec (λ c. search rules) (λ c κs. search rules) (λ c κs. search rules) (λ c. search rules) returns)
+pub book_day_spec : {M : Type 1} → statement M
+book_day_spec = tie.close (tie.spec (λ c. search rules) (λ c κs. search rules) (λ c κs. search rules) (λ c. search rules) returns)

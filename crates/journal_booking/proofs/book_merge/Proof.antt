@@ -18,7 +18,7 @@ use Rattle.journal_booking.proofs.book_merge.Statement.{statement}
 use Rattle.journal_booking.proofs.book_merge.Tie as tie
 
 -- Each figure that was read fits 64 bits.
-module _ (c : tie.After-series) where
+module _ (c : tie.After-series-1) where
   abbrev s : tie.Start
   s = c.before.before.before
 
@@ -29,35 +29,35 @@ module _ (c : tie.After-series) where
   figure at = get_or figures at (pos 0)
 
   id-fits : SFits w64 (figure 0)
-  id-fits = sfits_of c.before.before.id.given
+  id-fits = sfits_of c.id-1.given
 
   account-fits : SFits w64 (figure 1)
-  account-fits = sfits_of c.before.account.given
+  account-fits = sfits_of c.account-1.given
 
   series-fits : SFits w64 (figure 2)
-  series-fits = sfits_of c.series.given
+  series-fits = sfits_of c.series-1.given
 
-module _ (c : tie.After-on-sound) where
-  abbrev p : tie.After-series
+module _ (c : tie.After-on_sound) where
+  abbrev p : tie.After-series-1
   p = c.before.before.before.before
 
   -- What the request's own call promises, of this list.
   abbrev Handled : List ℤ → Type 0
   Handled rest =
-      HandledSoundly (s p).args.records.now (s p).args.positions.now (merge (figure p 0) (figure p 1) (figure p 2) rest) (answered c.on-sound.result c.on-sound.new.0 c.on-sound.new.1.0)
+      HandledSoundly (s p).args.records.now (s p).args.positions.now (merge (figure p 0) (figure p 1) (figure p 2) rest) (answered c.on_sound.result c.on_sound.new.records c.on_sound.new.positions)
 
   lent : Handled (take (length (figures p) - 3) (drop 3 (figures p)))
-  lent = simp (to_z-of_z (id-fits p), to_z-of_z (account-fits p), to_z-of_z (series-fits p)) at c.on-sound.ensures
+  lent = simp (to_z-of_z (id-fits p), to_z-of_z (account-fits p), to_z-of_z (series-fits p)) at c.on_sound.ensures
 
   handled : Handled (drop 3 (figures p))
   handled = subst Handled (figures-from 3 (figures p)) lent
 
 returns : tie.Need-returns
 unfolding request_named
-returns c = let a : tie.After-on-sound = c.before.before.before in two-booked (s (p a)).pre.1 (handled a) c.verdict-of.ensures
+returns c = let a : tie.After-on_sound = c.before.before.before in two-booked (s (p a)).requires.1 (handled a) c.verdict_of.ensures
 
-pub book-merge-spec : {M : Type 1} → statement M
-book-merge-spec =
+pub book_merge_spec : {M : Type 1} → statement M
+book_merge_spec =
     tie.close
     (tie.spec
     (λ c. search rules)
