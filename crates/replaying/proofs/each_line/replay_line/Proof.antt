@@ -20,7 +20,7 @@ use Rattle.replaying.proofs.LinesReplayed.{bad-replayed, booked-replayed, refuse
 use Rattle.replaying.proofs.each_line.replay_line.Statement.{statement}
 use Rattle.replaying.proofs.each_line.replay_line.Tie as tie
 
-module _ (c : tie.After-read-request) where
+module _ (c : tie.After-read_request) where
   abbrev s : tie.Start
   s = c.before.before.before
 
@@ -31,83 +31,83 @@ module _ (c : tie.After-read-request) where
   text = s.args.text.now
 
   abbrev figures : List ℤ
-  figures = c.read-request.new.1.1.0
+  figures = c.read_request.new.figures
 
   -- What was read, as an answer of this kind.
   abbrev As : LineRead → Type 0
   As r = RequestReadAs text s.args.at figures r
 
-returns : tie.Need-returns
+returns : tie.Need-returns-in_default
 returns c =
-    let r : tie.After-read-request = c.before.before.before in
-    let w : As r Bad = subst (As r) c.enum_told.given.1 r.read-request.ensures in
+    let r : tie.After-read_request = c.before.before in
+    let w : As r Bad = subst (As r) c.in_default.is r.read_request.ensures in
     (bad-replayed (start r) (text r) (s r).args.at (figures r) (s r).requires.0 w, w.cells)
 
 -- The line that was read.
-module _ (c : tie.After-known-told) where
-  abbrev at-line : tie.After-read-request
-  at-line = c.before.before.before.before
+module _ (c : tie.In-Read) where
+  abbrev at-line : tie.After-read_request
+  at-line = c.before.before
 
   abbrev heading : Heading
-  heading = c.before.heading.given.0.0
+  heading = c.in-Read.heading
 
   abbrev count : ℕ
-  count = c.before.heading.given.0.1.0
+  count = c.in-Read.count
 
   abbrev next : ℕ
-  next = c.before.heading.given.0.1.1.0
+  next = c.in-Read.next
 
   read : As at-line (Read heading count next)
-  read = subst (As at-line) c.before.heading.given.1 at-line.read-request.ensures
+  read = subst (As at-line) c.in-Read.is at-line.read_request.ensures
 
-slice-reshare-prefix-book-line : tie.Need-slice-reshare-prefix-book-line
+slice-reshare-prefix-book-line : tie.Need-slice_bounds-book_line-end
 slice-reshare-prefix-book-line c = (read c.before.before.before).within.1
 
-slice-aggregate-book-line : tie.Need-slice-aggregate-book-line
+slice-aggregate-book-line : tie.Need-slice_bounds-book_line-end-2
 slice-aggregate-book-line c =
-    let k : tie.After-known-told = c.before.before.before.before in
+    let k : tie.In-Read = c.before.before.before in
     sym (length-take-le (count k) (figures (at-line k)) (read k).within.1)
 
-book-line-requires : tie.Need-book-line-requires
+book-line-requires : tie.Need-book_line-requires
 book-line-requires c κs =
-    let k : tie.After-known-told = c.before.before.before.before in
+    let k : tie.In-Read = c.before.before.before in
     let s₀ : tie.Start = s (at-line k) in
-    (s₀.pre.0, s₀.pre.1, s₀.pre.2, valid-counted (heading k) (take (count k) (figures (at-line k))) (read k).within.0)
+    (s₀.requires.0, s₀.requires.1, s₀.requires.2, valid-counted (heading k) (take (count k) (figures (at-line k))) (read k).within.0)
 
 -- What booking the request came to.
-module _ (c : tie.After-book-line) where
-  abbrev k : tie.After-known-told
-  k = c.before.before.before.before.before
+module _ (c : tie.After-book_line) where
+  abbrev k : tie.In-Read
+  k = c.before.before.before.before
 
   abbrev after : Tables
-  after = all_tables c.book-line.new.0 c.book-line.new.1.0 c.book-line.new.1.1.0
+  after = all_tables c.book_line.new.records c.book_line.new.positions c.book_line.new.processes
 
   abbrev By : Verdict → Type 0
   By v = RequestBooked (start (at-line k)) (request_named (heading k) (take (count k) (figures (at-line k)))) v after
 
-returns-2 : tie.Need-returns-2
+returns-2 : tie.Need-returns-in-Accepted
 returns-2 c =
-    let b : tie.After-book-line = c.before.before.before.before.before in
-    let r : tie.After-read-request = at-line (k b) in (
+    let b : tie.After-book_line = c.before.before.before.before in
+    let r : tie.After-read_request = at-line (k b) in (
       booked-replayed (start r) (text r) (s r).args.at (figures r) (heading (k b)) (count (k b)) (next (k b)) (read (k b)) (after b)
-          (subst (By b) c.enum-told2.given.1 b.book-line.ensures),
+          (subst (By b) c.in-Accepted.is b.book_line.ensures),
       (read (k b)).cells,
     )
 
-returns-3 : tie.Need-returns-3
+returns-3 : tie.Need-returns-in-Refused
 returns-3 c =
-    let b : tie.After-book-line = c.before.before.before.before.before.before in
-    let r : tie.After-read-request = at-line (k b) in
-    let number : ℤ = c.before.number.given.0.0 in
-    let place : ℤ = c.before.number.given.0.1.0 in
-    simp (read_back number c.known-told2.given.0.1, read_back place c.known-told2.given.1.0.1) (
+    let b : tie.After-book_line = c.before.before.before.before in
+    let r : tie.After-read_request = at-line (k b) in
+    let number : ℤ = c.in-Refused.number in
+    let place : ℤ = c.in-Refused.place in
+    simp (read_back number c.in-Refused.known_told-in-Refused-1-own.given.0.1, read_back place c.in-Refused.known_told-in-Refused-1-own.given.1.0.1) (
       refused-replayed (start r) (text r) (s r).args.at (figures r) (heading (k b)) (count (k b)) (next (k b)) (read (k b)) (after b) number place
-          (subst (By b) c.before.number.given.1 b.book-line.ensures),
+          (subst (By b) c.in-Refused.is b.book_line.ensures),
       (read (k b)).cells,
     )
 
-pub replay-line-spec : {M : Type 1} → statement M
-replay-line-spec =
+pub replay_line_spec : {M : Type 1} → statement M
+replay_line_spec =
     tie.close
     (tie.spec
     (λ c κs. search rules)
