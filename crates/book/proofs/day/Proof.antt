@@ -5,7 +5,7 @@ use Rattle.book.proofs.day.Statement.{statement}
 use Rattle.book.proofs.day.Tie as tie
 
 returns : tie.Need-returns
-returns c = simp (to_z-of_z c.before.before.before.ranges.day) at c.before.day.ensures
+returns c = simp (to_z-of_z c.ranges.day) at c.day.ensures
 
-pub day-spec : {M : Type 1} → statement M
-day-spec = tie.close (tie.spec (λ c κs. search rules) (λ c. search rules) returns)
+pub day_spec : {M : Type 1} → statement M
+day_spec = tie.close (tie.spec (λ c κs. search rules) (λ c. search rules) returns)

@@ -7,32 +7,32 @@ use Rattle.give_up_steps.proofs.OnAllTables.{unsound-refused, all_sound}
 use Rattle.book.proofs.give_up.Statement.{statement}
 use Rattle.book.proofs.give_up.Tie as tie
 
-abbrev start : tie.After-verdict-on-all-tables → tie.Start
-start c = c.before.before.before.before
+abbrev start : tie.After-verdict_on_all_tables → tie.Start
+start c = c.before
 
-on-sound-requires : tie.Need-on-sound-requires
+on-sound-requires : tie.Need-on_sound-requires
 on-sound-requires c κs =
-    let told : tie.After-enum-told = c.before.before.before in
-    all_sound _ _ _ told.before.before.verdict-on-all-tables.ensures told.enum_told.given.1
+    let told : tie.In-Accepted = c.before.before.before in
+    all_sound _ _ _ told.verdict_on_all_tables.ensures told.in-Accepted.is
 
-returns : tie.Need-returns
+returns : tie.Need-returns-in-Refused
 returns c =
-    let v : tie.After-verdict-on-all-tables = c.before.before.before in
+    let v : tie.After-verdict_on_all_tables = c.before in
     let s : tie.Start = start v in
-    let number : ℤ = c.before.number.given.0.0 in
-    let place : ℤ = c.before.number.given.0.1.0 in
-    simp (read_back number c.known-told.given.0.1, read_back place c.known-told.given.1.0.1)
-    (unsound-refused _ _ _ v.verdict-on-all-tables.ensures s.args.step s.args.process s.args.id s.args.suffix s.args.giving s.args.taking s.args.series
-    number place c.before.number.given.1)
+    let number : ℤ = c.in-Refused.number in
+    let place : ℤ = c.in-Refused.place in
+    simp (read_back number c.in-Refused.known_told-1-own.given.0.1, read_back place c.in-Refused.known_told-1-own.given.1.0.1)
+    (unsound-refused _ _ _ v.verdict_on_all_tables.ensures s.args.step s.args.process s.args.id s.args.suffix s.args.giving s.args.taking s.args.series
+    number place c.in-Refused.is)
 
-returns-2 : tie.Need-returns-2
+returns-2 : tie.Need-returns-in-Accepted
 returns-2 c =
-    let s : tie.Start = start c.before.before.before.before.before.before.before.before.before in
-    simp (to_z-of_z s.fits.process, to_z-of_z s.fits.id, to_z-of_z s.fits.suffix, to_z-of_z s.fits.giving, to_z-of_z s.fits.taking, to_z-of_z s.fits.series)
-    at c.before.before.before.on-sound.ensures.handled
+    let s : tie.Start = start c.before.before.before.before.before.before.before.before in
+    simp (to_z-of_z s.ranges.process, to_z-of_z s.ranges.id, to_z-of_z s.ranges.suffix, to_z-of_z s.ranges.giving, to_z-of_z s.ranges.taking, to_z-of_z s.ranges.series)
+    at c.on_sound.ensures.handled
 
-pub give-up-spec : {M : Type 1} → statement M
-give-up-spec =
+pub give_up_spec : {M : Type 1} → statement M
+give_up_spec =
     tie.close
     (tie.spec
     (λ c κs. search rules)

@@ -8,7 +8,7 @@ lineage-requires : tie.Need-lineage-requires
 lineage-requires c κs = search rules
 
 returns : tie.Need-returns
-returns c = simp (to_z-of_z c.before.ranges.id, to_z-of_z c.before.ranges.suffix) at c.lineage.ensures
+returns c = simp (to_z-of_z c.ranges.id, to_z-of_z c.ranges.suffix) at c.lineage.ensures
 
-pub lineage-spec : {M : Type 1} → statement M
-lineage-spec = tie.close (tie.spec lineage-requires returns)
+pub lineage_spec : {M : Type 1} → statement M
+lineage_spec = tie.close (tie.spec lineage-requires returns)

@@ -8,25 +8,25 @@ use Rattle.verdict.proofs.Handled.{unsound-refused, sound-accepted}
 use Rattle.book.proofs.separate.Statement.{statement}
 use Rattle.book.proofs.separate.Tie as tie
 
-on-sound-requires : tie.Need-on-sound-requires
+on-sound-requires : tie.Need-on_sound-requires
 on-sound-requires c κs =
-    let told : tie.After-enum-told = c.before.before in
-    sound-accepted _ _ told.before.before.verdict-on-tables.ensures told.enum_told.given.1
+    let told : tie.In-Accepted = c.before.before in
+    sound-accepted _ _ told.verdict_on_tables.ensures told.in-Accepted.is
 
-returns : tie.Need-returns
+returns : tie.Need-returns-in-Refused
 returns c =
-    let number : ℤ = c.before.number.given.0.0 in
-    let place : ℤ = c.before.number.given.0.1.0 in
-    simp (read_back number c.known-told.given.0.1, read_back place c.known-told.given.1.0.1)
-    (unsound-refused _ _ c.before.before.before.verdict-on-tables.ensures _ refl number place c.before.number.given.1)
+    let number : ℤ = c.in-Refused.number in
+    let place : ℤ = c.in-Refused.place in
+    simp (read_back number c.in-Refused.known_told-1-own.given.0.1, read_back place c.in-Refused.known_told-1-own.given.1.0.1)
+    (unsound-refused _ _ c.verdict_on_tables.ensures _ refl number place c.in-Refused.is)
 
-returns-2 : tie.Need-returns-2
+returns-2 : tie.Need-returns-in-Accepted
 returns-2 c =
-    let s : tie.Start = c.before.before.before.before.before.before.before.before.before.before in
-    simp (to_z-of_z s.ranges.id, to_z-of_z s.ranges.suffix, to_z-of_z s.ranges.account, to_z-of_z s.ranges.series) at c.before.before.on-sound.ensures.handled
+    let s : tie.Start = c.before.before.before.before.before.before.before in
+    simp (to_z-of_z s.ranges.id, to_z-of_z s.ranges.suffix, to_z-of_z s.ranges.account, to_z-of_z s.ranges.series) at c.on_sound.ensures.handled
 
-pub separate-spec : {M : Type 1} → statement M
-separate-spec =
+pub separate_spec : {M : Type 1} → statement M
+separate_spec =
     tie.close
     (tie.spec
     (λ c κs. search rules)

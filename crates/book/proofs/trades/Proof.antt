@@ -8,24 +8,24 @@ use Rattle.batch.proofs.Handled.{unsound-left}
 use Rattle.book.proofs.trades.Statement.{statement}
 use Rattle.book.proofs.trades.Tie as tie
 
-on-sound-requires : tie.Need-on-sound-requires
+on-sound-requires : tie.Need-on_sound-requires
 on-sound-requires c κs =
-    let told : tie.After-enum-told = c.before.before.before in
-    sound-accepted _ _ told.before.before.verdict-on-tables.ensures told.enum_told.given.1
+    let told : tie.In-Accepted = c.before.before.before in
+    sound-accepted _ _ told.verdict_on_tables.ensures told.in-Accepted.is
 
-returns : tie.Need-returns
+returns : tie.Need-returns-in-Refused
 returns c =
-    let number : ℤ = c.before.number.given.0.0 in
-    let place : ℤ = c.before.number.given.0.1.0 in
-    simp (read_back number c.known-told.given.0.1, read_back place c.known-told.given.1.0.1)
-    (unsound-left _ _ _ _ _ c.before.before.before.verdict-on-tables.ensures number place c.before.number.given.1)
+    let number : ℤ = c.in-Refused.number in
+    let place : ℤ = c.in-Refused.place in
+    simp (read_back number c.in-Refused.known_told-1-own.given.0.1, read_back place c.in-Refused.known_told-1-own.given.1.0.1)
+    (unsound-left _ _ _ _ _ c.verdict_on_tables.ensures number place c.in-Refused.is)
 
-returns-2 : tie.Need-returns-2
+returns-2 : tie.Need-returns-in-Accepted
 unfolding handle_call
-returns-2 c = c.before.before.before.on-sound.ensures
+returns-2 c = c.on_sound.ensures
 
-pub trades-spec : {M : Type 1} → statement M
-trades-spec =
+pub trades_spec : {M : Type 1} → statement M
+trades_spec =
     tie.close
     (tie.spec
     (λ c κs. search rules)

@@ -9,22 +9,22 @@ use Rattle.give_up_steps.proofs.OnAllTables.{two-refuse, third-refuses, third-ac
 use Rattle.book.proofs.verdict_on_all_tables.Statement.{statement}
 use Rattle.book.proofs.verdict_on_all_tables.Tie as tie
 
-returns : tie.Need-returns
+returns : tie.Need-returns-in-Refused
 returns c =
-    let number : ℤ = c.before.number.given.0.0 in
-    let place : ℤ = c.before.number.given.0.1.0 in
-    simp (read_back number c.known-told.given.0.1, read_back place c.known-told.given.1.0.1)
-    (sym (two-refuse _ _ _ number place (sym c.before.before.before.verdict-on-tables.ensures ∙ c.before.number.given.1)))
+    let number : ℤ = c.in-Refused.number in
+    let place : ℤ = c.in-Refused.place in
+    simp (read_back number c.in-Refused.known_told-1-own.given.0.1, read_back place c.in-Refused.known_told-1-own.given.1.0.1)
+    (sym (two-refuse _ _ _ number place (sym c.verdict_on_tables.ensures ∙ c.in-Refused.is)))
 
-module _ (c : tie.After-processes-sound) where
-  two-accept : verdict_on_tables c.before.before.before.before.args.records.now c.before.before.before.before.args.positions.now ≡ Accepted
-  two-accept = sym c.before.before.before.verdict-on-tables.ensures ∙ c.before.enum_told.given.1
+module _ (c : tie.After-processes_sound) where
+  two-accept : verdict_on_tables c.args.records.now c.args.positions.now ≡ Accepted
+  two-accept = sym c.verdict_on_tables.ensures ∙ c.in-Accepted.is
 
-returns-2 : tie.Need-returns-2
-returns-2 c = sym (third-accepts _ _ _ (two-accept c.before) (sym c.before.processes-sound.ensures ∙ c.if1.true))
+returns-2 : tie.Need-returns-then-processes_sound
+returns-2 c = sym (third-accepts _ _ _ (two-accept c.before) (sym c.processes_sound.ensures ∙ c.if-processes_sound.true))
 
-returns-3 : tie.Need-returns-3
-returns-3 c = sym (third-refuses _ _ _ (two-accept c.before) (sym c.before.processes-sound.ensures ∙ c.if1.false))
+returns-3 : tie.Need-returns-else-processes_sound
+returns-3 c = sym (third-refuses _ _ _ (two-accept c.before) (sym c.processes_sound.ensures ∙ c.if-processes_sound.false))
 
-pub verdict-on-all-tables-spec : {M : Type 1} → statement M
-verdict-on-all-tables-spec = tie.close (tie.spec (λ c κs. search rules) (λ c. search rules) (λ c. search rules) (λ c κs. search rules) returns returns-2 returns-3)
+pub verdict_on_all_tables_spec : {M : Type 1} → statement M
+verdict_on_all_tables_spec = tie.close (tie.spec (λ c κs. search rules) (λ c. search rules) (λ c. search rules) (λ c κs. search rules) returns returns-2 returns-3)
