@@ -9,9 +9,9 @@ use Rattle.velichundam.proofs.velichundam_give_up_cancel.Tie as tie
 returns : tie.Need-returns
 returns c =
     let s : tie.Start = c.before.before.before.before.before.before.before.before in
-    handed-all c.code_of_lem.ensures
+    handed-all c.code_of.ensures
     (simp (to_z-of_z s.ranges.process, to_z-of_z s.ranges.id, to_z-of_z s.ranges.suffix, to_z-of_z s.ranges.giving, to_z-of_z s.ranges.taking, to_z-of_z s.ranges.series)
-    at c.before.before.before.before.give-up.ensures)
+    at c.give_up.ensures)
 
-pub velichundam-give-up-cancel-spec : {M : Type 1} → statement M
-velichundam-give-up-cancel-spec = tie.close (tie.spec (λ c κs. search rules) (λ c κs. search rules) (λ c. search rules) (λ c. search rules) (λ c. search rules) returns)
+pub velichundam_give_up_cancel_spec : {M : Type 1} → statement M
+velichundam_give_up_cancel_spec = tie.close (tie.spec (λ c κs. search rules) (λ c κs. search rules) (λ c. search rules) (λ c. search rules) (λ c. search rules) returns)

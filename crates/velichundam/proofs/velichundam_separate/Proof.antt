@@ -9,19 +9,19 @@ use Rattle.velichundam.proofs.velichundam_separate.Tie as tie
 separate-requires : tie.Need-separate-requires
 separate-requires c κs = search rules
 
-code-of-requires : tie.Need-code-of-requires
+code-of-requires : tie.Need-code_of-requires
 code-of-requires c κs = search rules
 
-same_length : tie.Need-same-length
+same_length : tie.Need-shape_of-records
 same_length c = search rules
 
-same-length-2 : tie.Need-same-length-2
+same-length-2 : tie.Need-shape_of-positions
 same-length-2 c = search rules
 
 returns : tie.Need-returns
 returns c =
     let s : tie.Start = c.before.before.before.before.before.before in
-    handed c.code_of_lem.ensures (simp (to_z-of_z s.ranges.id, to_z-of_z s.ranges.suffix, to_z-of_z s.ranges.account, to_z-of_z s.ranges.series) at c.before.before.before.separate.ensures)
+    handed c.code_of.ensures (simp (to_z-of_z s.ranges.id, to_z-of_z s.ranges.suffix, to_z-of_z s.ranges.account, to_z-of_z s.ranges.series) at c.separate.ensures)
 
-pub velichundam-separate-spec : {M : Type 1} → statement M
-velichundam-separate-spec = tie.close (tie.spec separate-requires code-of-requires same_length same-length-2 returns)
+pub velichundam_separate_spec : {M : Type 1} → statement M
+velichundam_separate_spec = tie.close (tie.spec separate-requires code-of-requires same_length same-length-2 returns)

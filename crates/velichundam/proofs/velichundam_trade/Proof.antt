@@ -9,19 +9,19 @@ use Rattle.velichundam.proofs.velichundam_trade.Tie as tie
 trade-requires : tie.Need-trade-requires
 trade-requires c κs = search rules
 
-code-of-requires : tie.Need-code-of-requires
+code-of-requires : tie.Need-code_of-requires
 code-of-requires c κs = search rules
 
-same_length : tie.Need-same-length
+same_length : tie.Need-shape_of-records
 same_length c = search rules
 
-same-length-2 : tie.Need-same-length-2
+same-length-2 : tie.Need-shape_of-positions
 same-length-2 c = search rules
 
 returns : tie.Need-returns
 returns c =
     let s : tie.Start = c.before.before.before.before.before.before in
-    handed c.code_of_lem.ensures (simp (to_z-of_z s.ranges.id, to_z-of_z s.ranges.account, to_z-of_z s.ranges.series, to_z-of_z s.ranges.side, to_z-of_z s.ranges.quantity, to_z-of_z s.ranges.price) at c.before.before.before.trade.ensures)
+    handed c.code_of.ensures (simp (to_z-of_z s.ranges.id, to_z-of_z s.ranges.account, to_z-of_z s.ranges.series, to_z-of_z s.ranges.side, to_z-of_z s.ranges.quantity, to_z-of_z s.ranges.price) at c.trade.ensures)
 
-pub velichundam-trade-spec : {M : Type 1} → statement M
-velichundam-trade-spec = tie.close (tie.spec trade-requires code-of-requires same_length same-length-2 returns)
+pub velichundam_trade_spec : {M : Type 1} → statement M
+velichundam_trade_spec = tie.close (tie.spec trade-requires code-of-requires same_length same-length-2 returns)

@@ -6,8 +6,8 @@ use Rattle.velichundam.proofs.velichundam_trades.Statement.{statement}
 use Rattle.velichundam.proofs.velichundam_trades.Tie as tie
 
 returns : tie.Need-returns
-returns c = handed-with c.code_of_lem.ensures c.before.before.before.before.trades.ensures
+returns c = handed-with c.code_of.ensures c.trades.ensures
 
-pub velichundam-trades-spec : {M : Type 1} → statement M
-velichundam-trades-spec =
+pub velichundam_trades_spec : {M : Type 1} → statement M
+velichundam_trades_spec =
     tie.close (tie.spec (λ c κs. search rules) (λ c κs. search rules) (λ c. search rules) (λ c. search rules) (λ c. search rules) returns)
