@@ -1,49 +1,64 @@
-// Numbers and cells on standard output, for the programs that show what the book does.
-use libc::STDOUT_FILENO;
+// Numbers and cells on a writer, for the programs that show what the book does. Where the writer's bytes are known, each call that succeeds appends just its text.
+#![tactic(auto)]
 
-pub fn text(bytes: &[u8]) {
-    io::write_all(STDOUT_FILENO, bytes);
+ghost use Rattle.std.specs.Prelude.{OnOk};
+ghost use Rattle.std.specs.Io.KnownBytes.{Appends};
+ghost use Rattle.std.specs.Fmt.{signed_decimal};
+ghost use Rattle.printing.specs.Printed.{line_text, value_text, cell_text, barred_text, cells_text};
+
+use std::io;
+use std::io::Write;
+
+pub fn text<W: Write>(to: &mut W, bytes: &[u8]) -> io::Result<()>
+    ensures { OnOk result (Appends (W.contents to.old) (W.contents to.new) bytes.now) }
+{
+    to.write_all(bytes)
 }
 
-pub fn line(bytes: &[u8]) {
-    text(bytes);
-    text(b"\n");
+pub fn line<W: Write>(to: &mut W, bytes: &[u8]) -> io::Result<()>
+    ensures { OnOk result (Appends (W.contents to.old) (W.contents to.new) (line_text bytes.now)) }
+{
+    text(to, bytes)?;
+    text(to, b"\n")
 }
 
-pub fn number(z: i64) {
-    if z < 0 {
-        text(b"-");
-        let above = -(z + 1);
-        io::print_decimal(STDOUT_FILENO, above as u64 + 1);
-    } else {
-        io::print_decimal(STDOUT_FILENO, z as u64);
-    }
+pub fn number<W: Write>(to: &mut W, z: i64) -> io::Result<()>
+    ensures { OnOk result (Appends (W.contents to.old) (W.contents to.new) (signed_decimal z)) }
+{
+    write!(to, "{z}")
 }
 
 // A name, a number, and the end of the line.
-pub fn value(name: &[u8], z: i64) {
-    text(name);
-    number(z);
-    text(b"\n");
+pub fn value<W: Write>(to: &mut W, name: &[u8], z: i64) -> io::Result<()>
+    ensures { OnOk result (Appends (W.contents to.old) (W.contents to.new) (value_text name.now z)) }
+{
+    text(to, name)?;
+    number(to, z)?;
+    text(to, b"\n")
 }
 
-fn cell(z: i64) {
-    text(b"| ");
-    number(z);
-    text(b" ");
+fn cell<W: Write>(to: &mut W, z: i64) -> io::Result<()>
+    ensures { OnOk result (Appends (W.contents to.old) (W.contents to.new) (cell_text z)) }
+{
+    text(to, b"| ")?;
+    number(to, z)?;
+    text(to, b" ")
 }
 
 // Cells with a bar between two.
-fn barred(all: &[i64]) {
-    let mut i = 0;
-    while i < all.len() {
-        cell(all[i]);
-        i += 1;
+fn barred<W: Write>(to: &mut W, all: &[i64]) -> io::Result<()>
+    ensures { OnOk result (Appends (W.contents to.old) (W.contents to.new) (barred_text all.now)) }
+{
+    for i in 0..all.len() {
+        cell(to, all[i])?;
     }
+    Ok(())
 }
 
 // The same, with the end of the line.
-pub fn cells(all: &[i64]) {
-    barred(all);
-    text(b"|\n");
+pub fn cells<W: Write>(to: &mut W, all: &[i64]) -> io::Result<()>
+    ensures { OnOk result (Appends (W.contents to.old) (W.contents to.new) (cells_text all.now)) }
+{
+    barred(to, all)?;
+    text(to, b"|\n")
 }

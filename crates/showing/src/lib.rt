@@ -1,145 +1,160 @@
-// Prints requests, answers and tables, for the programs that run worked figures through the calls. No promise: the kit's io says nothing of what was written.
-ghost use Rattle.std.specs.Prelude.{◌≡◌, ℕ, ◌<◌, ◌≤◌, pos, length, get_or};
+// Writes requests, answers and tables, for the programs that run worked figures through the calls. What `printing` promises of a text is not carried further here.
+#![tactic(auto)]
 
-use libc::STDOUT_FILENO;
+ghost use Rattle.std.specs.Prelude.{◌≡◌, ℕ, ◌<◌, ◌≤◌, pos, length, get_or, IfOk};
+
 use rules::Reply;
 use rules::layout::{
     POSITION_WIDTH, POSITIONS_HEADER, PROCESS_WIDTH, PROCESSES_HEADER, RECORD_WIDTH, RECORDS_HEADER,
 };
+use std::io;
+use std::io::Write;
 
 // What the figures of a request and the cells of a row are.
-pub fn legend() {
-    printing::line(b"trade: id, account, series, side code, quantity, price");
-    printing::line(b"batch: the figures of its trades");
-    printing::line(b"separation: id, suffix, account, series; parts");
-    printing::line(b"transfer: id, suffix, from, to, series");
-    printing::line(b"merge: id, account, series; pairs of id and suffix");
-    printing::line(b"lineage: id, suffix");
-    tables_legend();
-}
-
-pub fn tables_legend() {
-    printing::text(
-        b"records: count, current day | id | suffix | parent | type | status | account | series",
-    );
-    printing::line(b" | side code | quantity | price | long booked | short booked | into | day |");
+pub fn legend<W: Write>(to: &mut W) -> io::Result<()> {
     printing::line(
-        b"positions: count | account | series | long | short | cash | quantity | value |",
-    );
+        to,
+        b"trade: id, account, series, side code, quantity, price",
+    )?;
+    printing::line(to, b"batch: the figures of its trades")?;
+    printing::line(to, b"separation: id, suffix, account, series; parts")?;
+    printing::line(to, b"transfer: id, suffix, from, to, series")?;
+    printing::line(to, b"merge: id, account, series; pairs of id and suffix")?;
+    printing::line(to, b"lineage: id, suffix")?;
+    tables_legend(to)
 }
 
-pub fn processes_legend() {
+pub fn tables_legend<W: Write>(to: &mut W) -> io::Result<()> {
     printing::text(
+        to,
+        b"records: count, current day | id | suffix | parent | type | status | account | series",
+    )?;
+    printing::line(
+        to,
+        b" | side code | quantity | price | long booked | short booked | into | day |",
+    )?;
+    printing::line(
+        to,
+        b"positions: count | account | series | long | short | cash | quantity | value |",
+    )
+}
+
+pub fn processes_legend<W: Write>(to: &mut W) -> io::Result<()> {
+    printing::text(
+        to,
         b"processes: count | process id | id | suffix | giving account | taking account",
-    );
-    printing::line(b" | series | giver's approval | taker's approval | stage |");
+    )?;
+    printing::line(
+        to,
+        b" | series | giver's approval | taker's approval | stage |",
+    )
 }
 
 // The name of an example, and its tables at the start.
-pub fn start(name: &[u8], records: &[i64], positions: &[i64]) {
-    printing::text(b"\n");
-    printing::line(name);
-    tables(records, positions);
+pub fn start<W: Write>(
+    to: &mut W,
+    name: &[u8],
+    records: &[i64],
+    positions: &[i64],
+) -> io::Result<()> {
+    printing::text(to, b"\n")?;
+    printing::line(to, name)?;
+    tables(to, records, positions)
 }
 
 // Each figure with a blank before it.
-fn figures(all: &[i64]) {
-    let mut i = 0;
-    while i < all.len() {
-        printing::text(b" ");
-        printing::number(all[i]);
-        i += 1;
+fn figures<W: Write>(to: &mut W, all: &[i64]) -> io::Result<()> {
+    for z in all {
+        printing::text(to, b" ")?;
+        printing::number(to, *z)?;
     }
+    Ok(())
 }
 
 // A request: its name, its figures, and its list if it has one.
-pub fn request(name: &[u8], all: &[i64], list: &[i64]) {
-    printing::text(b"> ");
-    printing::text(name);
-    figures(all);
+pub fn request<W: Write>(to: &mut W, name: &[u8], all: &[i64], list: &[i64]) -> io::Result<()> {
+    printing::text(to, b"> ")?;
+    printing::text(to, name)?;
+    figures(to, all)?;
     if 0 < list.len() {
-        printing::text(b";");
-        figures(list);
+        printing::text(to, b";")?;
+        figures(to, list)?;
     }
-    printing::text(b"\n");
+    printing::text(to, b"\n")
 }
 
-fn two(first: i64, second: i64) {
-    printing::text(b" ");
-    printing::number(first);
-    printing::value(b" ", second);
+fn two<W: Write>(to: &mut W, first: i64, second: i64) -> io::Result<()> {
+    printing::text(to, b" ")?;
+    printing::number(to, first)?;
+    printing::value(to, b" ", second)
 }
 
-pub fn reply(r: Reply) {
+pub fn reply<W: Write>(to: &mut W, r: Reply) -> io::Result<()> {
     match r {
         Reply::Booked { rows, residual } => {
-            printing::text(b"booked: rows, residual");
-            two(rows, residual);
+            printing::text(to, b"booked: rows, residual")?;
+            two(to, rows, residual)
         }
         Reply::ClosingError { excess } => {
-            printing::value(b"booked with a closing error: excess ", excess);
+            printing::value(to, b"booked with a closing error: excess ", excess)
         }
         Reply::Lineage { price, links } => {
-            printing::text(b"lineage: price, links");
-            two(price, links);
+            printing::text(to, b"lineage: price, links")?;
+            two(to, price, links)
         }
         Reply::Refused(number, place) => {
-            printing::text(b"refused: number, place");
-            two(number, place);
+            printing::text(to, b"refused: number, place")?;
+            two(to, number, place)
         }
         Reply::Stopped {
             booked,
             number,
             place,
         } => {
-            printing::text(b"stopped: booked, number, place ");
-            printing::number(booked);
-            two(number, place);
+            printing::text(to, b"stopped: booked, number, place ")?;
+            printing::number(to, booked)?;
+            two(to, number, place)
         }
-        Reply::Written(bytes) => {
-            printing::value(b"written: bytes ", bytes);
-        }
-        Reply::Replayed(lines) => {
-            printing::value(b"replayed: lines ", lines);
-        }
-        Reply::BadLine(line) => {
-            printing::value(b"bad line: line ", line);
-        }
+        Reply::Written(bytes) => printing::value(to, b"written: bytes ", bytes),
+        Reply::Replayed(lines) => printing::value(to, b"replayed: lines ", lines),
+        Reply::BadLine(line) => printing::value(to, b"bad line: line ", line),
         Reply::LineRefused(line, number, place) => {
-            printing::text(b"line refused: line, number, place ");
-            printing::number(line);
-            two(number, place);
+            printing::text(to, b"line refused: line, number, place ")?;
+            printing::number(to, line)?;
+            two(to, number, place)
         }
-        Reply::Listed(records) => {
-            printing::value(b"listed: records ", records);
-        }
+        Reply::Listed(records) => printing::value(to, b"listed: records ", records),
     }
 }
 
 // Every cell lent for the excesses of a batch.
-pub fn excesses(cells: &[i64]) {
-    printing::text(b"excess:");
-    figures(cells);
-    printing::text(b"\n");
+pub fn excesses<W: Write>(to: &mut W, cells: &[i64]) -> io::Result<()> {
+    printing::text(to, b"excess:")?;
+    figures(to, cells)?;
+    printing::text(to, b"\n")
 }
 
 // So many rows of a width, after a header, as far as there are cells; answers the first cell past them.
-fn rows(cells: &[i64], count: usize, header: usize, width: usize) -> usize
+fn rows<W: Write>(
+    to: &mut W,
+    cells: &[i64],
+    count: usize,
+    header: usize,
+    width: usize,
+) -> io::Result<usize>
     requires { header ≤ length cells.now }
-    ensures { result ≤ length cells.now }
+    ensures { IfOk result (λ at. at ≤ length cells.now) }
 {
-    let mut row = 0;
     let mut at = header;
-    while row < count {
+    for _ in 0..count {
         if cells.len() - at < width {
-            return at;
+            return Ok(at);
         }
         let end = at + width;
-        printing::cells(&cells[at..end]);
+        printing::cells(to, &cells[at..end])?;
         at = end;
-        row += 1;
     }
-    at
+    Ok(at)
 }
 
 // The first cell after `at` that differs from it, or the length.
@@ -149,76 +164,72 @@ fn run_end(cells: &[i64], at: usize) -> usize
     ensures equal { (k : ℕ) → k < result → at ≤ k → get_or cells.now k (pos 0) ≡ get_or cells.now at (pos 0) }
     ensures ended { result < length cells.now → get_or cells.now result (pos 0) ≡ get_or cells.now at (pos 0) → ⊥ }
 {
-    let mut end = at + 1;
-    while end < cells.len() {
+    for end in at + 1..cells.len() {
         if cells[end] != cells[at] {
             return end;
         }
-        end += 1;
     }
-    end
+    cells.len()
 }
 
 // The cells from `from` on, which hold no row: how many in turn have which value.
-fn past(cells: &[i64], from: usize) {
-    printing::text(b"past the last row:");
+fn past<W: Write>(to: &mut W, cells: &[i64], from: usize) -> io::Result<()> {
+    printing::text(to, b"past the last row:")?;
     if cells.len() <= from {
-        printing::text(b" no cell");
+        printing::text(to, b" no cell")?;
     }
     let mut at = from;
     while at < cells.len() {
         let end = run_end(cells, at);
         if from < at {
-            printing::text(b",");
+            printing::text(to, b",")?;
         }
-        printing::text(b" ");
-        io::print_decimal(STDOUT_FILENO, (end - at) as u64);
-        printing::text(b" times ");
-        printing::number(cells[at]);
+        write!(to, " {} times ", end - at)?;
+        printing::number(to, cells[at])?;
         at = end;
     }
-    printing::text(b"\n");
+    printing::text(to, b"\n")
 }
 
 // The current day, which the records' header has after the count.
-fn day(cells: &[i64], header: usize) {
+fn day<W: Write>(to: &mut W, cells: &[i64], header: usize) -> io::Result<()> {
     if header < 2 {
-        return;
+        return Ok(());
     }
     if 1 < cells.len() {
-        printing::text(b", day ");
-        printing::number(cells[1]);
+        printing::text(to, b", day ")?;
+        printing::number(to, cells[1])?;
     }
+    Ok(())
 }
 
 // The count, for the records the current day, the rows, and the cells past them.
-fn table(cells: &[i64], header: usize, width: usize) {
+fn table<W: Write>(to: &mut W, cells: &[i64], header: usize, width: usize) -> io::Result<()> {
     if cells.len() == 0 {
-        printing::line(b"an empty slice");
-        return;
+        return printing::line(to, b"an empty slice");
     }
     let count = cells[0];
-    printing::number(count);
-    day(cells, header);
-    printing::text(b"\n");
+    printing::number(to, count)?;
+    day(to, cells, header)?;
+    printing::text(to, b"\n")?;
     if cells.len() < header {
-        return;
+        return Ok(());
     }
     if count < 0 {
-        return;
+        return Ok(());
     }
-    let end = rows(cells, count as usize, header, width);
-    past(cells, end);
+    let end = rows(to, cells, count as usize, header, width)?;
+    past(to, cells, end)
 }
 
-pub fn tables(records: &[i64], positions: &[i64]) {
-    printing::text(b"records: ");
-    table(records, RECORDS_HEADER, RECORD_WIDTH);
-    printing::text(b"positions: ");
-    table(positions, POSITIONS_HEADER, POSITION_WIDTH);
+pub fn tables<W: Write>(to: &mut W, records: &[i64], positions: &[i64]) -> io::Result<()> {
+    printing::text(to, b"records: ")?;
+    table(to, records, RECORDS_HEADER, RECORD_WIDTH)?;
+    printing::text(to, b"positions: ")?;
+    table(to, positions, POSITIONS_HEADER, POSITION_WIDTH)
 }
 
-pub fn processes(cells: &[i64]) {
-    printing::text(b"processes: ");
-    table(cells, PROCESSES_HEADER, PROCESS_WIDTH);
+pub fn processes<W: Write>(to: &mut W, cells: &[i64]) -> io::Result<()> {
+    printing::text(to, b"processes: ")?;
+    table(to, cells, PROCESSES_HEADER, PROCESS_WIDTH)
 }

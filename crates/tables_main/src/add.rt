@@ -5,14 +5,16 @@ use lookup::{Found, Sought};
 use rules::codes::ADJUSTED;
 use rules::{Position, Record};
 use scan::soundness as scanned;
+use std::io;
+use std::io::Write;
 use tables::{positions, records};
 
 // Says whether a row was added or changed.
-pub fn tell(yes: bool) {
+pub fn tell<W: Write>(to: &mut W, yes: bool) -> io::Result<()> {
     if yes {
-        printing::line(b"done");
+        printing::line(to, b"done")
     } else {
-        printing::line(b"refused");
+        printing::line(to, b"refused")
     }
 }
 

@@ -1,123 +1,133 @@
 // The table code, run: tables with no row, one, many and a full room, an id whose suffixes have gaps, and damaged tables. It prints what each call answers, and the cells where they are few.
+#![tactic(auto)]
+
 mod add;
 mod damage;
 
 use lookup::{Greatest, Sought};
+use std::io;
+use std::io::Write;
 use tables::records;
 
-fn tell_greatest(greatest: Greatest) {
+fn tell_greatest<W: Write>(to: &mut W, greatest: Greatest) -> io::Result<()> {
     match greatest {
-        Greatest::Suffix(s) => printing::value(b"greatest suffix ", s),
-        Greatest::Nothing => printing::line(b"no record of that id"),
+        Greatest::Suffix(s) => printing::value(to, b"greatest suffix ", s),
+        Greatest::Nothing => printing::line(to, b"no record of that id"),
     }
 }
 
 // What the lookup says of a key in a sound records table.
-fn ask(cells: &[i64], id: i64, suffix: i64) {
+fn ask<W: Write>(to: &mut W, cells: &[i64], id: i64, suffix: i64) -> io::Result<()> {
     if !scan::soundness::records_sound(cells) {
-        printing::line(b"not sound");
-        return;
+        return printing::line(to, b"not sound");
     }
     match records::look_up(cells, id, suffix) {
         Sought::Present(row, greatest, next) => {
-            printing::value(b"row ", row as i64);
-            printing::value(b"greatest suffix ", greatest);
-            printing::value(b"the next suffix belongs at row ", next as i64);
+            printing::value(to, b"row ", row as i64)?;
+            printing::value(to, b"greatest suffix ", greatest)?;
+            printing::value(to, b"the next suffix belongs at row ", next as i64)
         }
         Sought::Absent(place, greatest) => {
-            printing::value(b"absent, belongs at row ", place as i64);
-            tell_greatest(greatest);
+            printing::value(to, b"absent, belongs at row ", place as i64)?;
+            tell_greatest(to, greatest)
         }
     }
 }
 
 // No row, then one, then three, added in an order that is not the keys'; a key that is there, and a full room, are refused.
-fn few_rows() {
-    printing::line(b"few records, room for three");
+fn few_rows<W: Write>(to: &mut W) -> io::Result<()> {
+    printing::line(to, b"few records, room for three")?;
     let mut cells = [-1; 49];
     cells[0] = 0;
     cells[1] = 0;
-    ask(&cells, 5, 0);
-    add::tell(add::record(&mut cells, 5, 0, 10));
-    ask(&cells, 5, 0);
-    add::tell(add::record(&mut cells, 5, 1, 11));
-    add::tell(add::record(&mut cells, 5, 1, 12));
-    add::tell(add::record(&mut cells, 4, 7, 13));
-    add::tell(add::record(&mut cells, 6, 0, 14));
-    ask(&cells, 5, 1);
-    ask(&cells, 5, 2);
-    printing::cells(&cells);
-    add::tell(add::adjust(&mut cells, 5, 0));
-    add::tell(add::adjust(&mut cells, 5, 0));
-    printing::cells(&cells);
+    ask(to, &cells, 5, 0)?;
+    add::tell(to, add::record(&mut cells, 5, 0, 10))?;
+    ask(to, &cells, 5, 0)?;
+    add::tell(to, add::record(&mut cells, 5, 1, 11))?;
+    add::tell(to, add::record(&mut cells, 5, 1, 12))?;
+    add::tell(to, add::record(&mut cells, 4, 7, 13))?;
+    add::tell(to, add::record(&mut cells, 6, 0, 14))?;
+    ask(to, &cells, 5, 1)?;
+    ask(to, &cells, 5, 2)?;
+    printing::cells(to, &cells)?;
+    add::tell(to, add::adjust(&mut cells, 5, 0))?;
+    add::tell(to, add::adjust(&mut cells, 5, 0))?;
+    printing::cells(to, &cells)
 }
 
 // An id whose suffixes are 2, 3 and 9, between two others: each of its keys, those before, between and after them, and an id that lies between and has none.
-fn gaps() {
-    printing::line(b"suffixes 2, 3 and 9 of id 7");
+fn gaps<W: Write>(to: &mut W) -> io::Result<()> {
+    printing::line(to, b"suffixes 2, 3 and 9 of id 7")?;
     let mut cells = [-1; 72];
     cells[0] = 0;
     cells[1] = 0;
-    add::tell(add::record(&mut cells, 7, 9, 10));
-    add::tell(add::record(&mut cells, 5, 0, 11));
-    add::tell(add::record(&mut cells, 7, 2, 12));
-    add::tell(add::record(&mut cells, 8, 0, 13));
-    add::tell(add::record(&mut cells, 7, 3, 14));
-    ask(&cells, 7, 2);
-    ask(&cells, 7, 3);
-    ask(&cells, 7, 9);
-    ask(&cells, 7, 0);
-    ask(&cells, 7, 5);
-    ask(&cells, 7, 10);
-    ask(&cells, 6, 0);
+    add::tell(to, add::record(&mut cells, 7, 9, 10))?;
+    add::tell(to, add::record(&mut cells, 5, 0, 11))?;
+    add::tell(to, add::record(&mut cells, 7, 2, 12))?;
+    add::tell(to, add::record(&mut cells, 8, 0, 13))?;
+    add::tell(to, add::record(&mut cells, 7, 3, 14))?;
+    ask(to, &cells, 7, 2)?;
+    ask(to, &cells, 7, 3)?;
+    ask(to, &cells, 7, 9)?;
+    ask(to, &cells, 7, 0)?;
+    ask(to, &cells, 7, 5)?;
+    ask(to, &cells, 7, 10)?;
+    ask(to, &cells, 6, 0)
 }
 
 // A room of 4,096 rows, filled from the greatest id down, in a slice with space for more.
-fn full_room() {
-    printing::line(b"4,096 records, added from the greatest id down");
+fn full_room<W: Write>(to: &mut W) -> io::Result<()> {
+    printing::line(to, b"4,096 records, added from the greatest id down")?;
     let mut cells = [-1; 57_400];
     cells[0] = 0;
     cells[1] = 0;
     let n = add::down(&mut cells, 4_097);
-    printing::value(b"added ", n as i64);
-    ask(&cells, 1, 0);
-    ask(&cells, 2, 0);
-    ask(&cells, 4_097, 0);
-    ask(&cells, 4_098, 0);
-    printing::value(b"past the room: ", cells[57_346]);
+    printing::value(to, b"added ", n as i64)?;
+    ask(to, &cells, 1, 0)?;
+    ask(to, &cells, 2, 0)?;
+    ask(to, &cells, 4_097, 0)?;
+    ask(to, &cells, 4_098, 0)?;
+    printing::value(to, b"past the room: ", cells[57_346])
 }
 
 // Positions: made where absent, written anew where present; a total out of range is refused.
-fn few_positions() {
-    printing::line(b"positions, room for two");
+fn few_positions<W: Write>(to: &mut W) -> io::Result<()> {
+    printing::line(to, b"positions, room for two")?;
     let mut cells = [-1; 17];
     cells[0] = 0;
-    add::tell(add::position(&mut cells, 2, 1, 100, 0, 0, 100, 500));
-    add::tell(add::position(&mut cells, 1, 1, 0, 7, -3, -7, 4_000_000_000_000_000_000));
-    add::tell(add::position(&mut cells, 2, 1, 90, 5, 2, 4_000_000_000_000_000_001, 0));
-    add::tell(add::position(&mut cells, 2, 1, 90, 5, 2, 85, -600));
-    add::tell(add::position(&mut cells, 3, 1, 0, 0, 0, 0, 0));
-    printing::cells(&cells);
+    add::tell(to, add::position(&mut cells, 2, 1, 100, 0, 0, 100, 500))?;
+    add::tell(
+        to,
+        add::position(&mut cells, 1, 1, 0, 7, -3, -7, 4_000_000_000_000_000_000),
+    )?;
+    add::tell(
+        to,
+        add::position(&mut cells, 2, 1, 90, 5, 2, 4_000_000_000_000_000_001, 0),
+    )?;
+    add::tell(to, add::position(&mut cells, 2, 1, 90, 5, 2, 85, -600))?;
+    add::tell(to, add::position(&mut cells, 3, 1, 0, 0, 0, 0, 0))?;
+    printing::cells(to, &cells)
 }
 
 // Tables that fail test 1, one damage each.
-fn damaged() {
-    printing::line(b"damaged records");
+fn damaged<W: Write>(to: &mut W) -> io::Result<()> {
+    printing::line(to, b"damaged records")?;
     let mut cells = [-1; 44];
     cells[0] = 0;
     cells[1] = 0;
-    add::tell(add::record(&mut cells, 5, 0, 10));
-    add::tell(add::record(&mut cells, 5, 1, 11));
-    damage::each(&mut cells);
-    ask(&cells, 5, 1);
-    ask(&cells[0..0], 5, 1);
-    ask(&cells[0..28], 5, 1);
+    add::tell(to, add::record(&mut cells, 5, 0, 10))?;
+    add::tell(to, add::record(&mut cells, 5, 1, 11))?;
+    damage::each(to, &mut cells)?;
+    ask(to, &cells, 5, 1)?;
+    ask(to, &cells[0..0], 5, 1)?;
+    ask(to, &cells[0..28], 5, 1)
 }
 
-fn main() {
-    few_rows();
-    gaps();
-    full_room();
-    few_positions();
-    damaged();
+fn main(rt: HostRuntime) -> io::Result<()> {
+    let mut out = io::writer(&rt);
+    few_rows(&mut out)?;
+    gaps(&mut out)?;
+    full_room(&mut out)?;
+    few_positions(&mut out)?;
+    damaged(&mut out)
 }

@@ -1,0 +1,3 @@
+mod Looked
+mod Mended
+mod Fits
