@@ -5,8 +5,9 @@
 
 BUILD = build
 products = $(BUILD)/velichundam $(BUILD)/libvelichundam.a $(BUILD)/libvelichundam.so
-archive = target/staticlib/libvelichundam.a
-lib = $(or $(VELICHUNDAM_LIB_DIR),target/staticlib)
+crate = crates/velichundam
+archive = $(crate)/out/libvelichundam.a
+lib = $(or $(VELICHUNDAM_LIB_DIR),$(crate)/out)
 replace = cmp -s $@.new $@ && rm $@.new || mv -f $@.new $@
 
 .PHONY: all check test bench clean always
@@ -15,13 +16,15 @@ replace = cmp -s $@.new $@ && rm $@.new || mv -f $@.new $@
 # The three of them.
 all: $(products)
 
-# The proofs. rt itself sees which crates have changed, and writes this file anew only then.
-target/rlib/velichundam.rlib: always
-	rt check velichundam
+# The kit and the checksum of every source that a proof reads, written anew only where one has changed.
+target/sources: always
+	@mkdir -p $(@D)
+	@rt version >$@.new && find crates.txt crates/*/src crates/*/specs crates/*/proofs -type f -exec sha256sum {} + >>$@.new
+	@$(replace)
 
-# The archive, where rt builds it.
-$(archive): target/rlib/velichundam.rlib
-	rt staticlib velichundam
+# The archive, where rt builds it: proves the crate and those below it. rt itself sees which have changed.
+$(archive): target/sources
+	cd $(crate) && rt lib
 
 # The archive: that one, or the one in VELICHUNDAM_LIB_DIR.
 $(BUILD)/libvelichundam.a: $(if $(VELICHUNDAM_LIB_DIR),,$(archive)) always
@@ -41,7 +44,7 @@ $(BUILD)/velichundam: $(BUILD)/libvelichundam.a always
 	@cp target/cargo/release/velichundam $@.new
 	@$(replace)
 
-# The gate: the layout, every proof from nothing, every test.
+# The gate: the layout, every proof, every edit that must be refused, every test.
 check:
 	.ci/run
 

@@ -1,4 +1,4 @@
-//! Links the archive. Its folder is VELICHUNDAM_LIB_DIR; or ../build, where `make` leaves it; or ../target/staticlib, where `rt staticlib velichundam` does.
+//! Links the archive. Its folder is VELICHUNDAM_LIB_DIR; or ../build, where `make` leaves it; or ../crates/velichundam/out, where `rt lib` does.
 
 use std::path::PathBuf;
 
@@ -10,7 +10,7 @@ fn main() {
     let here = PathBuf::from(std::env::var_os("CARGO_MANIFEST_DIR").expect("cargo sets it"));
     let folders = match std::env::var_os("VELICHUNDAM_LIB_DIR") {
         Some(folder) => vec![here.join(folder)],
-        None => vec![here.join("../build"), here.join("../target/staticlib")],
+        None => vec![here.join("../build"), here.join("../crates/velichundam/out")],
     };
     for folder in &folders {
         println!("cargo:rerun-if-changed={}", folder.join("libvelichundam.a").display());

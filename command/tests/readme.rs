@@ -37,7 +37,7 @@ fn printed(program: &mut Command) -> String {
 /// The archive that the command was linked with.
 fn archive() -> PathBuf {
     let named = std::env::var_os("VELICHUNDAM_LIB_DIR").map(|folder| root().join("rust").join(folder));
-    let folders = named.map_or_else(|| vec![root().join("build"), root().join("target/staticlib")], |folder| vec![folder]);
+    let folders = named.map_or_else(|| vec![root().join("build"), root().join("crates/velichundam/out")], |folder| vec![folder]);
     folders.iter().map(|folder| folder.join("libvelichundam.a")).find(|archive| archive.is_file()).expect("an archive")
 }
 
