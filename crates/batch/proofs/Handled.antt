@@ -4,16 +4,16 @@ use mathlib.Core.Path.{◌≡◌, refl, sym, ◌∙◌, ap}
 use mathlib.Core.Bool.{true, false, not}
 use mathlib.Core.List.{List, [], ◌∷◌}
 use lib.IntN.{ℤ, pos}
-use Rattle.rules.specs.Refusal.{Test, test, first_refusal}
+use Rattle.rules.specs.Refusal.{test, first_refusal}
 use Rattle.rules.specs.Reply.{refused_by}
-use Rattle.rules.specs.Tables.{Tables, tables_of, sound_records, sound_positions}
+use Rattle.rules.specs.Tables.{tables_of, sound_records, sound_positions}
 use Rattle.rules.specs.Handle.{Answer, answer, answered}
 use Rattle.rules.specs.Left.{Left, left, left_by, written_to}
 use Rattle.rules.specs.Sequence.{until_refused}
 use Rattle.rules.specs.Batch.{trades_of, batch_figures, batch_tests, batch_answer, handle_batch}
 use Rattle.rules.specs.Call.{trades, handle_call}
 use Rattle.rules.specs.declared.Reply.TheVariants as Reply
-use Rattle.verdict.specs.Verdict.{verdict_of, verdict_on_tables}
+use Rattle.verdict.specs.Verdict.{verdict_on_tables}
 use Rattle.verdict.specs.declared.Verdict.{Verdict}
 use Rattle.verdict.specs.declared.Verdict.TheVariants as Verdict
 use Rattle.verdict.proofs.Handled.{refused-before, refused_as}

@@ -1,4 +1,6 @@
 // A batch of trades on sound tables (document 02, K1): its test 3, and its trades booked one by one up to the first that is refused.
+#![tactic(auto)]
+
 ghost use Rattle.std.specs.Prelude.{◌≡◌, true, length, ◌+◌, ◌≤◌};
 ghost use Rattle.rules.specs.Tables.{tables_of, sound_records, sound_positions};
 ghost use Rattle.rules.specs.Left.{left, left_by};

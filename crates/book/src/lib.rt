@@ -1,6 +1,8 @@
 // The transaction book: the four requests and the one question of document 01, a batch of trades, the steps of a give-up, the replay of a text, a new day and the reporting list, each on lent tables of any length and content and
 // with any figures. Each promise is one equation: the answer and the cells of the lent tables at the end are those of `handle` on the cells at entry and this request, of a batch, a replay and the list those of `handle_call`. A
 // batch and the list also write to a lent output; their promises give every cell of it. The process table is lent to the steps of a give-up and to a replay alone.
+#![tactic(auto)]
+
 ghost use Rattle.std.specs.Prelude.{◌≡◌, [], length};
 ghost use Rattle.rules.specs.Request as Request;
 ghost use Rattle.rules.specs.Call as Call;

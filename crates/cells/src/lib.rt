@@ -1,1 +1,2 @@
 // Laws of how rows lie in a lent table, over any width: no code.
+#![tactic(auto)]

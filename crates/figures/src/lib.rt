@@ -1,4 +1,6 @@
 // The ranges of document 01, "Figures and their ranges", and of the rows' cells, those of a process among them.
+#![tactic(auto)]
+
 ghost use Rattle.std.specs.Prelude.{◌≡◌, true};
 ghost use Rattle.integers.specs.Order.{in_range};
 ghost use Rattle.rules.specs.Figures as Figures;

@@ -1,4 +1,6 @@
 // A step of a give-up on sound tables (document 02, K3): its opening, or a later one.
+#![tactic(auto)]
+
 ghost use Rattle.std.specs.Prelude.{◌≡◌};
 ghost use Rattle.rules.specs.Tables.{all_tables};
 ghost use Rattle.rules.specs.Handle.{answered_by};

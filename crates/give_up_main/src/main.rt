@@ -1,5 +1,7 @@
 // Document 02's give-ups, run through the proved calls: the examples of `worked` (specs/GiveUps), which proves them of the rules, with the same cells at the start and the same
 // requests in the same order. Printed are the tables at the start, and after each request its answer and all three tables, the cells past the last row too.
+#![tactic(auto)]
+
 use rules::{Reply, Step};
 
 // Trade 456789 of P11, given up from account 1 to account 2 by process 77.

@@ -1,6 +1,6 @@
 -- What an accepted step answers and leaves, as cells: a step that does not complete writes the record's status, where it changes, and the row of its process; one that completes leaves
 -- what a transfer leaves, with its own types, and the row of its process. By the definitions. Assumes nothing.
-use mathlib.Core.Path.{◌≡◌, refl, sym, ◌∙◌, ap}
+use mathlib.Core.Path.{◌≡◌, refl, ◌∙◌, ap}
 use mathlib.Core.Bool.{Bool, true, false, cond}
 use mathlib.Core.List.{List, [], ◌∷◌, ◌++◌}
 use mathlib.Core.Option.{Option, some}
@@ -11,13 +11,12 @@ use Rattle.rules.specs.Rows.{record_key, position_key}
 use Rattle.rules.specs.ProcessRows.{process_key}
 use Rattle.rules.specs.NamedRecord.{the_record}
 use Rattle.rules.specs.Books.{view_of}
-use Rattle.rules.specs.Plan.{Effects, with_process_row, put_process, booked, plan_reply}
+use Rattle.rules.specs.Plan.{Effects, put_process, booked, plan_reply}
 use Rattle.rules.specs.GiveUp.{is_complete, record_after, step_effects, finished, give_up_effects, give_up_plan}
 use Rattle.rules.specs.Layout.{rows_of, write}
-use Rattle.rules.specs.Tables.{Tables, all_tables, books_of, write_books, records_layout, positions_layout, processes_layout, sound_positions}
+use Rattle.rules.specs.Tables.{all_tables, books_of, write_books, records_layout, positions_layout, processes_layout, sound_positions}
 use Rattle.rules.specs.Handle.{Answer, answered_by, plan_of, written_by, plan_tables}
 use Rattle.rules.specs.declared.Record.{Record}
-use Rattle.rules.specs.declared.Position.{Position}
 use Rattle.rules.specs.declared.ProcessRow.{ProcessRow}
 use Rattle.rules.specs.declared.Step.{Step}
 use Rattle.rules.specs.declared.Step.TheVariants.{Open, Claim, Cancel, Refuse, ApproveGiver, ApproveTaker}

@@ -1,4 +1,6 @@
 // The steps of a give-up (document 02, K3), apart from the tables' code: what every step names, with its test 3; and the laws of a step's tests and of what it leaves.
+#![tactic(auto)]
+
 ghost use Rattle.std.specs.Prelude.{◌≡◌};
 ghost use Rattle.give_up_steps.specs.Terms.{terms_valid};
 

@@ -1,6 +1,6 @@
 -- Requests handed in up to the first refusal (`until_refused`): what was done is a replay from the first tables to the last; without a stop it is the whole list; and a replay
 -- handed in so is done whole. Assumes nothing.
-use mathlib.Core.Path.{◌≡◌, refl, sym, ◌∙◌, ap, ap₂}
+use mathlib.Core.Path.{◌≡◌, refl, ◌∙◌, ap}
 use mathlib.Core.Bool.{true, false}
 use mathlib.Core.List.{List, [], ◌∷◌, map}
 use mathlib.Core.Option.{Option, none, some}

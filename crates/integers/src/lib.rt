@@ -1,4 +1,6 @@
 // Laws of the integers, and the average price of a merge with its residual.
+#![tactic(auto)]
+
 ghost use Rattle.std.specs.Prelude.{◌≡◌};
 ghost use Rattle.integers.specs.Average.{average_of, residual_of};
 ghost use Rattle.integers.specs.Averageable.{Averageable};

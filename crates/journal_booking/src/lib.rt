@@ -1,5 +1,7 @@
 // The request that a line of a journal names, booked on sound records (document 02, K5). Whether the positions and the process table are sound is told: beside positions that are not every request is
 // refused 2 but a new day (K8), and a step of a give-up beside processes that are not is refused 19.
+#![tactic(auto)]
+
 ghost use Rattle.std.specs.Prelude.{◌≤◌, ◌≡◌, true, length};
 ghost use Rattle.rules.specs.Reader.{has_its_figures, request_named};
 ghost use Rattle.rules.specs.Tables.{all_tables, tables_of, sound_records, sound_positions, sound_processes};

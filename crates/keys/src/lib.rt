@@ -1,1 +1,2 @@
 // Laws of keyed tables, over any row: no code.
+#![tactic(auto)]

@@ -1,4 +1,6 @@
 // A step on a give-up that is open (document 02, K3), on sound tables: claim, cancel, refuse, and the two approvals. The one that completes claim and both approvals books what a transfer books.
+#![tactic(auto)]
+
 ghost use Rattle.std.specs.Prelude.{◌≡◌, true, false, ◌&&◌, ◌<◌, length};
 ghost use Rattle.rules.specs.Figures.{adjustable};
 ghost use Rattle.rules.specs.Keyed.{upsert_all};

@@ -1,4 +1,6 @@
 // Lineage: tests 1, 3 and 5, and the way from parent to parent. It reads the records table alone, and never writes.
+#![tactic(auto)]
+
 ghost use Rattle.std.specs.Prelude.{◌≡◌, true, []};
 ghost use Rattle.rules.specs.Figures.{valid_suffix};
 ghost use Rattle.rules.specs.Request as Request;

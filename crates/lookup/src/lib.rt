@@ -1,5 +1,7 @@
 // Lookup in a lent table whose keys rise, by halving, each search in at most 13 steps: every table has a row's key in its first two cells, so one search serves all. `header` is
 // the number of cells before the first row, `width` that of a row.
+#![tactic(auto)]
+
 ghost use Rattle.std.specs.Prelude.{◌≡◌, ◌+◌, ◌<◌, length};
 ghost use Rattle.rules.specs.Rows.{key_of};
 ghost use Rattle.rules.specs.Keyed.{below, same};

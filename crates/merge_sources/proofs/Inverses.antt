@@ -9,7 +9,6 @@ use lib.IntN.{ℤ, pos, ◌+ℤ◌}
 use lib.ListN.{length, get_or, length-map}
 use lib.Signed.{lt_z}
 use Rattle.rules.specs.Figures.{greatest_of_suffixes, merge_kind}
-use Rattle.rules.specs.Keyed.{greatest}
 use Rattle.rules.specs.Rows.{inverse_record, new_record}
 use Rattle.rules.specs.NamedRecord.{no_record, the_record, next_suffix}
 use Rattle.rules.specs.Refusal.{any_of}

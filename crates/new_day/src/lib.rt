@@ -1,4 +1,6 @@
 // A new day (document 02, K8): tests 1 and 3, and the cell of the header that has the current day. Test 1 reads the rows; no row is changed, and no other table is lent.
+#![tactic(auto)]
+
 ghost use Rattle.std.specs.Prelude.{◌≡◌, true, []};
 ghost use Rattle.rules.specs.Handle.{handle, answered};
 ghost use Rattle.rules.specs.Request as Request;

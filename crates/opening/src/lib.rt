@@ -1,4 +1,6 @@
 // Opening a give-up (document 02, K3), on sound tables: the process id must be unused, the record adjustable and to open; then the record has status 3 and the process table one row more, pending.
+#![tactic(auto)]
+
 ghost use Rattle.std.specs.Prelude.{◌≡◌, true};
 ghost use Rattle.rules.specs.Figures.{under_give_up};
 ghost use Rattle.rules.specs.Keyed.{upsert};

@@ -1,4 +1,6 @@
 // The process table of give-ups (document 02, K3), once it passes test 19: its rows, its lookup, and its changes. A process is handed on by value, its stage told apart.
+#![tactic(auto)]
+
 ghost use Rattle.std.specs.Prelude.{◌≡◌, true, ◌<◌, length};
 ghost use Rattle.rules.specs.Keyed.{upsert};
 ghost use Rattle.rules.specs.Rows.{key_of};

@@ -1,5 +1,7 @@
 // Lines of a journal read from a text of bytes (document 02, K5): numbers, fields, and a line's heading, figures and newline. What is read stands in `text` (Scan) and `rules` (Reader); each promise is an
 // equation with it. No byte is read more than three times: the one after a figure is looked at as a further digit, as a tab and as the newline.
+#![tactic(auto)]
+
 use rules::Heading;
 
 pub mod fields; // numbers and fields

@@ -1,6 +1,8 @@
 // Reruns a day (document 02, K5): replays the journal that its argument names into empty tables with room for 400 records, 100 positions and 100 processes, and prints all rows, records, positions and
 // processes in that order, cells parted by tabs. Where a line is bad or refused it prints that line's number alone, and says on the error output which it is. The replay is `book::replay`, proved; nothing can be
 // said of what is read and printed.
+#![tactic(auto)]
+
 ghost use Rattle.std.specs.Prelude.{◌≡◌, length};
 ghost use Rattle.replay.specs.WithinText.{WithinText};
 

@@ -1,5 +1,7 @@
 // The end-of-day reporting list (document 02, K8): tests 1, 5 and 14, and the pairs. It reads the records table alone and changes no cell of it. The first pass over the rows finds an inverse without its
 // parent and counts the pairs, so that nothing is written where the call is refused; the second writes them. A parent is found at the first look in tables that the book has made.
+#![tactic(auto)]
+
 ghost use Rattle.std.specs.Prelude.{◌+◌, ◌≤◌, ◌<◌, ◌≡◌, true, false, [], ◌∷◌, map, length};
 ghost use Rattle.text.specs.Written.{written};
 ghost use Rattle.rules.specs.Call as Call;

@@ -1,4 +1,6 @@
 // What several requests share: what was looked up of a record and of a position, the room tests, a position's change, a new row, and the rows that come out of a record.
+#![tactic(auto)]
+
 ghost use Rattle.std.specs.Prelude.{◌≡◌, true, ◌∷◌, ◌+◌, ◌≤◌, ltb, pos, length};
 ghost use Rattle.rules.specs.Figures.{magnitude_at_most, valid_price};
 ghost use Rattle.rules.specs.NamedRecord.{is_elsewhere, status_refusal};

@@ -1,4 +1,6 @@
 // The rows of the lent tables, the steps and stages of a give-up, and the answer to a request. What documents 01 and 02 say of them stands in specs/; this crate books nothing.
+#![tactic(auto)]
+
 pub mod codes; // status, type, limits
 pub mod layout; // header, width and room of the tables
 

@@ -1,4 +1,6 @@
 // Separation on sound tables: tests 3, 5 to 7, 11, 13 and 14, the booking, and the call that joins them. The record is looked up once. The position does not move.
+#![tactic(auto)]
+
 ghost use Rattle.std.specs.Prelude.{◌≡◌, true, map, ◌≤◌, length};
 ghost use Rattle.rules.specs.Figures.{valid_quantity};
 ghost use Rattle.rules.specs.Refusal.{all_of};

@@ -1,5 +1,7 @@
 // The shifter: the part of a lent table from the insertion row on is lent to it, and it moves the rows there up and writes the new one. One for every table; the row's
 // length is its width. Where a request adds several rows, its own shifter moves them all up at once by `move_up` and writes each by `replace_row`.
+#![tactic(auto)]
+
 ghost use Rattle.std.specs.Prelude.{◌≡◌, ◌++◌, suc, ◌+◌, ◌-◌, ◌*◌, ◌≤◌, ◌<◌, length, take, drop};
 ghost use Rattle.shifter.specs.Insertion.{inserted, replaced, raised};
 

@@ -1,4 +1,6 @@
 // The process of a give-up by value: whose turn it is, what a step makes of it, and when it is complete. Each step matches the stage and writes the process anew.
+#![tactic(auto)]
+
 ghost use Rattle.std.specs.Prelude.{◌≡◌, ◌||◌};
 ghost use Rattle.rules.specs.ProcessRows.{pending, claimed, row_of_process, with_progress, with_stage, opened_process, stage_number};
 ghost use Rattle.rules.specs.declared.Step.TheVariants.{ApproveGiver, ApproveTaker};

@@ -1,4 +1,6 @@
 // Trade on sound tables: tests 3, 4 and 14 to 16, the booking, and the call that joins them. Its id and its position are looked up once, for the tests and for the booking.
+#![tactic(auto)]
+
 ghost use Rattle.std.specs.Prelude.{◌≡◌, true, pos};
 ghost use Rattle.std.proofs.Math.Option.{none};
 ghost use Rattle.rules.specs.Figures.{valid_quantity, valid_price};

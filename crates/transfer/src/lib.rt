@@ -1,4 +1,6 @@
 // Account transfer on sound tables: tests 3, 5 to 8 and 12 to 16, the booking, and the call that joins them. The record and both positions are looked up once.
+#![tactic(auto)]
+
 ghost use Rattle.std.specs.Prelude.{◌≡◌, true, pos, neg_ℤ};
 ghost use Rattle.rules.specs.Figures.{magnitude_at_most, valid_price};
 ghost use Rattle.rules.specs.Rows.{sound_position, moved, inverse_record, adjustable_record};

@@ -1,6 +1,8 @@
 // The C interface of the transaction book, and nothing else: include/velichundam.h says it to a host.
 // A slice is passed as a pointer and a length. Each promise is the promise of the call behind it: the four numbers that are returned, and the cells
 // of the lent tables at the end, are those of `handle` on the cells at entry and this request, its answer coded by `code_of`.
+#![tactic(auto)]
+
 ghost use Rattle.std.specs.Prelude.{◌≡◌, [], length};
 ghost use Rattle.rules.specs.Reply.{code_of};
 ghost use Rattle.rules.specs.Request as Request;

@@ -1,4 +1,5 @@
 // The verdict on a request, and laws of what the rules answer, in the shape in which code meets them.
+#![tactic(auto)]
 
 // Whether a request is accepted, or the first refusal that applies: its number, then its place.
 #[derive(Clone, Copy)]

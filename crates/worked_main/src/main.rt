@@ -1,6 +1,8 @@
 // Document 01's "Figures to check by hand" and its clerk's slips, and document 02's batches and halves away from zero, run through the proved calls: the examples of the crate `worked`, which proves them
 // of the rules, with the same cells at the start and the same requests in the same order. Printed are the tables at the start, and after each request
 // its answer and both tables, the cells past the last row too. A cell that holds no row is -1 at the start.
+#![tactic(auto)]
+
 mod calls;
 
 // P1 to P3: a trade to close.

@@ -7,9 +7,8 @@ use mathlib.Core.List.{List}
 use borrow.Author.Rules.{rules}
 use lib.IntN.{ℤ, pos}
 use lib.ListN.{length}
-use mir.Facts.{to_z-of_z, to_z_pos}
+use mir.Facts.{to_z_pos}
 use mir.Syntax.{w64}
-use mir.Val.{to_z}
 use Rattle.rules.specs.Tables.{Tables, tables_of}
 use Rattle.rules.specs.Left.{left}
 use Rattle.rules.specs.Batch.{trade_at, trade_count}
@@ -17,7 +16,6 @@ use Rattle.rules.specs.declared.Reply.TheVariants as Reply
 use Rattle.scan.proofs.ReadBack.{read_back}
 use Rattle.batch.specs.BookedSoundly.{BookedSoundly}
 use Rattle.batch.specs.declared.Outcome.{Outcome}
-use Rattle.batch.specs.declared.Outcome.TheVariants.{Booked, Refused}
 use Rattle.batch.proofs.BookedSoFar.{BookedSoFar, trades-fit, none-booked, one_more, stopped, all-booked}
 use Rattle.batch.proofs.book_each.Statement.{statement}
 use Rattle.batch.proofs.book_each.Tie as tie

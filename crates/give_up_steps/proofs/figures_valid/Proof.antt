@@ -2,7 +2,6 @@
 use mathlib.Core.Path.{◌≡◌, sym, ◌∙◌, ap}
 use mathlib.Core.Bool.{true, false}
 use borrow.Author.Rules.{rules}
-use borrow.Author.Tests.{not-true, not-false}
 use Rattle.rules.specs.Figures.{valid_id}
 use Rattle.rules.specs.GiveUp.{give_up_figures}
 use Rattle.scan.proofs.ReadBack.{read_back}

@@ -2,7 +2,6 @@
 use mathlib.Core.Path.{◌≡◌, sym, ◌∙◌}
 use mathlib.Core.Bool.{true, false}
 use borrow.Author.Rules.{rules}
-use borrow.Author.Tests.{not-true, not-false}
 use Rattle.rules.specs.ProcessRows.{row_of_process}
 use Rattle.rules.specs.GiveUp.{has_figures}
 use Rattle.scan.proofs.ReadBack.{read_back}

@@ -5,11 +5,9 @@ use mathlib.Core.List.{List}
 use mathlib.Core.Option.{some}
 use lib.IntN.{ℤ}
 use borrow.Author.Rules.{rules}
-use borrow.Author.Tests.{not-true, not-false}
 use Rattle.rules.specs.Rows.{key_of}
 use Rattle.rules.specs.ProcessRows.{process_key, row_of_process}
 use Rattle.rules.specs.Tables.{processes_layout}
-use Rattle.rules.specs.declared.Process.{Process}
 use Rattle.lookup.specs.Lookup.{sought_in}
 use Rattle.lookup.specs.SoughtRows.{PresentAt, AbsentAt}
 use Rattle.lookup.proofs.TableSought.{table-present, table-lacks}

@@ -1,5 +1,5 @@
 -- `later_steps::restate` meets its contract, step by step. Assumes nothing.
-use mathlib.Core.Path.{◌≡◌, sym, ◌∙◌, ap}
+use mathlib.Core.Path.{◌≡◌, ◌∙◌, ap}
 use mathlib.Core.List.{List}
 use lib.IntN.{ℤ}
 use borrow.Author.Rules.{rules}

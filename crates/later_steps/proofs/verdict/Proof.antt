@@ -1,6 +1,6 @@
 -- `later_steps::verdict` meets its contract: past each test the verdict is that of the tests which remain. Assumes nothing.
 use mathlib.Core.Path.{◌≡◌, refl, sym, ◌∙◌, ap}
-use mathlib.Core.Bool.{Bool, true, false, not}
+use mathlib.Core.Bool.{not}
 use mathlib.Core.List.{List, [], ◌∷◌}
 use lib.IntN.{ℤ}
 use mir.Facts.{to_z-of_z}

@@ -1,5 +1,5 @@
 -- `trade::closed_by` meets its contract: the smaller of the quantity and what is open against it, and nothing for a trade to open. Assumes nothing.
-use mathlib.Core.Path.{◌≡◌, sym, ◌∙◌, ap}
+use mathlib.Core.Path.{◌≡◌, sym, ◌∙◌}
 use mathlib.Core.Bool.{true}
 use mathlib.Core.Logic.{⊎_elim}
 use borrow.Author.Rules.{rules}
@@ -35,8 +35,9 @@ module _ (c : tie.Joined-is_buy) where
   against : to_z w64 c.if-is_buy.open-bits ≡ open_against s.args.side s.args.p
   against =
       elim c.if-is_buy.branch [
-        then-is_buy w ↦ w.open-is ∙ read_back s.args.p.short w.struct_told-then-is_buy-1.given.1.1.1.0.1 ∙ against-buy s.args.side s.args.p (sym buys ∙ w.if-is_buy.true)
-      | else-is_buy w ↦ w.open-is ∙ read_back s.args.p.long told.struct_told-1.given.1.1.0.1 ∙ against-sell s.args.side s.args.p (sym buys ∙ w.if-is_buy.false) ]
+        | then-is_buy w ↦ w.open-is ∙ read_back s.args.p.short w.struct_told-then-is_buy-1.given.1.1.1.0.1 ∙ against-buy s.args.side s.args.p (sym buys ∙ w.if-is_buy.true)
+        | else-is_buy w ↦ w.open-is ∙ read_back s.args.p.long told.struct_told-1.given.1.1.0.1 ∙ against-sell s.args.side s.args.p (sym buys ∙ w.if-is_buy.false)
+      ]
 
 is-to-close-requires : tie.Need-is_to_close-requires
 is-to-close-requires c κs = search rules

@@ -4,7 +4,6 @@ use native.Mathlib.Omega.{arith}
 use mathlib.Core.Path.{◌≡◌, sym, ◌∙◌}
 use mathlib.Core.Bool.{true}
 use borrow.Author.Rules.{rules}
-use borrow.Author.Tests.{not-true, not-false}
 use Rattle.text.specs.Scan.{is_digit}
 use Rattle.reader.proofs.Places.{before-end}
 use Rattle.reader.proofs.MoreDigits.{DigitsSoFar, digit-range, no-digits, value-widens, digit-read, digits-end, digits-full}
