@@ -8,7 +8,7 @@ use lib.Signed.{◌≤ℤ◌, ◌<ℤ◌}
 use mir.Syntax.{w64}
 use mir.Val.{SFits}
 use Rattle.integers.proofs.Parts.{pos_part, neg_part, le_parts, lt-parts}
-use Rattle.integers.proofs.Linear.{zarith, neg-lin, +-lin, *-lin, abs-sum, abs-lin}
+use Rattle.integers.proofs.Linear.{zarith, neg-lin, +-lin, minus-lin, *-lin, abs-sum, abs-lin}
 
 -- ---- order
 
