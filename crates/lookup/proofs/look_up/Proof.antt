@@ -40,10 +40,11 @@ read : (c : tie.Joined-end-count) → end_of c.before.before < c.args.count
     → SFits w64 (get_or c.args.cells.now (c.args.header + end_of c.before.before * c.args.width + 1) (pos 0))
 read c h =
     elim c.if-end-count.branch [
-      then-end-count w ↦
-      (let f : SFits w64 (get_or c.args.cells.now (c.args.header + c.place_of-end.result * c.args.width + 1) (pos 0)) = sfits_of w.second-1.given in
-      subst (λ (p : ℕ). SFits w64 (get_or c.args.cells.now (c.args.header + p * c.args.width + 1) (pos 0))) (placed c.before) f)
-    | else-end-count w ↦ absurd (omega (arith, placed c.before, w.if-end-count.false)) ]
+      | then-end-count w ↦
+          (let f : SFits w64 (get_or c.args.cells.now (c.args.header + c.place_of-end.result * c.args.width + 1) (pos 0)) = sfits_of w.second-1.given in
+          subst (λ (p : ℕ). SFits w64 (get_or c.args.cells.now (c.args.header + p * c.args.width + 1) (pos 0))) (placed c.before) f)
+      | else-end-count w ↦ absurd (omega (arith, placed c.before, w.if-end-count.false))
+    ]
 
 returns : tie.Need-returns-then-end-eq0
 returns c =

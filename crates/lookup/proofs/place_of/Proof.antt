@@ -72,8 +72,9 @@ loop-again c =
     let i : tie.In-loop-left invariant-loop decreases-loop = b.before in
     let s : tie.Start invariant-loop decreases-loop = i.before.before in
     elim c.if-not-before_row.branch [
-      then-not-before_row w ↦ omega (arith, past_row s b.before_row.ensures (omega arith) w.if-not-before_row.true, w.low-is, i.loop-left.invariant, enough i)
-    | else-not-before_row w ↦ omega (arith, to_row s b.before_row.ensures (omega arith) w.if-not-before_row.false, w.low-is, i.loop-left.invariant, enough i) ]
+      | then-not-before_row w ↦ omega (arith, past_row s b.before_row.ensures (omega arith) w.if-not-before_row.true, w.low-is, i.loop-left.invariant, enough i)
+      | else-not-before_row w ↦ omega (arith, to_row s b.before_row.ensures (omega arith) w.if-not-before_row.false, w.low-is, i.loop-left.invariant, enough i)
+    ]
 
 -- Nothing is left.
 module _ (c : tie.After-loop-left invariant-loop decreases-loop) where

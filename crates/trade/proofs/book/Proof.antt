@@ -129,8 +129,9 @@ module _ (c : tie.After-new_record-row) where
   unfolding trade_kind
   kind =
       elim c.if-b.branch [
-        then-b w ↦ w.kind-is ∙ sym (ap trade_kind w.if-b.true)
-      | else-b w ↦ w.kind-is ∙ sym (ap trade_kind w.if-b.false) ]
+        | then-b w ↦ w.kind-is ∙ sym (ap trade_kind w.if-b.true)
+        | else-b w ↦ w.kind-is ∙ sym (ap trade_kind w.if-b.false)
+      ]
 
   row : c.new_record-row.result ≡ row_of (s b)
   row =

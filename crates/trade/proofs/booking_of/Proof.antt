@@ -49,8 +49,9 @@ module _ (c : tie.Joined-is_to_close) where
   error : c.if-is_to_close.error ≡ is_closing_error t.args.side t.args.quantity (closed_by t.args.side t.args.quantity t.args.p)
   error =
       elim c.if-is_to_close.branch [
-        then-is_to_close w ↦ w.error-is ∙ simp (closed after, quantity after) (error-close t.args.side t.args.quantity t.args.p (sym to-close ∙ w.if-is_to_close.true))
-      | else-is_to_close w ↦ w.error-is ∙ error-open t.args.side t.args.quantity t.args.p (sym to-close ∙ w.if-is_to_close.false) ]
+        | then-is_to_close w ↦ w.error-is ∙ simp (closed after, quantity after) (error-close t.args.side t.args.quantity t.args.p (sym to-close ∙ w.if-is_to_close.true))
+        | else-is_to_close w ↦ w.error-is ∙ error-open t.args.side t.args.quantity t.args.p (sym to-close ∙ w.if-is_to_close.false)
+      ]
 
 buys : (c : tie.After-is_buy) → c.is_buy.result ≡ is_buy (t c.before).args.side
 buys c = simp (to_z-of_z (t c.before).ranges.side) at c.is_buy.ensures

@@ -35,8 +35,9 @@ module _ (c : tie.Joined-is_buy) where
   against : to_z w64 c.if-is_buy.open-bits ≡ open_against s.args.side s.args.p
   against =
       elim c.if-is_buy.branch [
-        then-is_buy w ↦ w.open-is ∙ read_back s.args.p.short w.struct_told-then-is_buy-1.given.1.1.1.0.1 ∙ against-buy s.args.side s.args.p (sym buys ∙ w.if-is_buy.true)
-      | else-is_buy w ↦ w.open-is ∙ read_back s.args.p.long told.struct_told-1.given.1.1.0.1 ∙ against-sell s.args.side s.args.p (sym buys ∙ w.if-is_buy.false) ]
+        | then-is_buy w ↦ w.open-is ∙ read_back s.args.p.short w.struct_told-then-is_buy-1.given.1.1.1.0.1 ∙ against-buy s.args.side s.args.p (sym buys ∙ w.if-is_buy.true)
+        | else-is_buy w ↦ w.open-is ∙ read_back s.args.p.long told.struct_told-1.given.1.1.0.1 ∙ against-sell s.args.side s.args.p (sym buys ∙ w.if-is_buy.false)
+      ]
 
 is-to-close-requires : tie.Need-is_to_close-requires
 is-to-close-requires c κs = search rules

@@ -40,10 +40,11 @@ loop-again c =
     let a : tie.At-loop-left invariant-loop decreases-loop = i.before in
     let sound : sound_process (process_at a.args.cells.now a.loop-left.at) ≡ true = passed (row-answer c.before.before) c.if-not-sound_process.false-raw in
     elim c.if-left-gt1.branch [
-      then-left-gt1+else-not-key_below w ↦
-      row-passes a.loop-left.invariant i.loop-left-test.true sound
-      (passed (first-neighbours a.args.cells.now a.loop-left.at processes_layout.width w.key_below-arg-1.given w.key_below-arg-then-left-gt1-1.given w.key_below.ensures) w.if-not-key_below.false-raw)
-    | else-left-gt1 w ↦ last-passes a.loop-left.invariant i.loop-left-test.true sound w.if-left-gt1.false ]
+      | then-left-gt1+else-not-key_below w ↦
+          row-passes a.loop-left.invariant i.loop-left-test.true sound
+          (passed (first-neighbours a.args.cells.now a.loop-left.at processes_layout.width w.key_below-arg-1.given w.key_below-arg-then-left-gt1-1.given w.key_below.ensures) w.if-not-key_below.false-raw)
+      | else-left-gt1 w ↦ last-passes a.loop-left.invariant i.loop-left-test.true sound w.if-left-gt1.false
+    ]
 
 pub process_rows_sound_spec : {M : Type 1} → statement M
 process_rows_sound_spec =
