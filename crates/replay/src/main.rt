@@ -141,8 +141,18 @@ fn replay<W: Write, E: Write>(out: &mut W, err: &mut E, text: &[u8]) -> io::Resu
     match book::replay(&mut records, &mut positions, &mut processes, text) {
         Reply::Replayed(_) => {
             print_rows(out, &records, layout::RECORDS_HEADER, layout::RECORD_WIDTH)?;
-            print_rows(out, &positions, layout::POSITIONS_HEADER, layout::POSITION_WIDTH)?;
-            print_rows(out, &processes, layout::PROCESSES_HEADER, layout::PROCESS_WIDTH)
+            print_rows(
+                out,
+                &positions,
+                layout::POSITIONS_HEADER,
+                layout::POSITION_WIDTH,
+            )?;
+            print_rows(
+                out,
+                &processes,
+                layout::PROCESSES_HEADER,
+                layout::PROCESS_WIDTH,
+            )
         }
         Reply::BadLine(line) => {
             print_line(out, line)?;
