@@ -1,13 +1,17 @@
 // Reruns a day (document 02, K5): replays the journal that its argument names into empty tables with room for 400 records, 100 positions and 100 processes, and prints all rows, records, positions and
-// processes in that order, cells parted by tabs. Where a line is bad or refused it prints that line's number alone, and says on the error output which it is. The replay is `book::replay`, proved; nothing can be
-// said of what is read and printed.
+// processes in that order, cells parted by tabs. Where a line is bad or refused it prints that line's number alone, and says on the error output which it is. The replay is `book::replay`, proved; of what
+// is read and printed the contracts say what they can name, the bytes of a reader and a writer.
 #![tactic(auto)]
 
-ghost use Rattle.std.specs.Prelude.{◌≡◌, length};
-ghost use Rattle.replay.specs.WithinText.{WithinText};
+ghost use Rattle.std.specs.Prelude.{◌≡◌, length, IfOk, OnOk};
+ghost use Rattle.std.specs.Io.KnownBytes.{ReadConsumes, Appends};
+ghost use Rattle.replay.specs.WithinText.{WithinText, ReadsStart};
 
-use libc::STDERR_FILENO;
 use rules::{Reply, layout};
+use std::env::FillError;
+use std::io::{Read, Write};
+use std::rt::Env;
+use std::{fs, io};
 
 // Cells of the tables.
 const RECORDS: usize = layout::RECORDS_HEADER + 400 * layout::RECORD_WIDTH;
@@ -24,12 +28,8 @@ const PROCESSES: usize = layout::PROCESSES_HEADER + 100 * layout::PROCESS_WIDTH;
 // is bad it stays bad, since a line is read without a look at what follows it. Either way the line that is named is that of the whole file.
 const TEXT: usize = 1_048_576;
 
-// How many bytes were read, or that reading failed.
-#[derive(Drop)]
-enum FileRead {
-    Bytes(usize),
-    Failed,
-}
+// Bytes of a path, as many as the system takes.
+const PATH: usize = 4096;
 
 // Zeros, for the bytes of a file. It promises their number, so that nothing else has to count them.
 fn buffer() -> [u8; TEXT]
@@ -39,31 +39,27 @@ fn buffer() -> [u8; TEXT]
 }
 
 // Reads once. What is read is within the text.
-fn read_part(fd: i32, text: &mut [u8]) -> FileRead
-    ensures { WithinText result text.new }
+fn read_part<R: Read>(from: &mut R, text: &mut [u8]) -> io::Result<usize>
+    ensures within { WithinText result text.new }
+    ensures bytes { ReadConsumes (R.remaining from.old) (R.remaining from.new) result text.new }
 {
-    let got = libc::read(fd, text);
-    if got < 0 {
-        return FileRead::Failed;
-    }
-    FileRead::Bytes(io::count(got, text))
+    from.read(text)
 }
 
 // Reads until the file ends or the text is full.
-fn read_file(fd: i32, text: &mut [u8]) -> FileRead
-    ensures { WithinText result text.new }
+fn read_file<R: Read>(from: &mut R, text: &mut [u8]) -> io::Result<usize>
+    ensures within { WithinText result text.new }
+    ensures start { ReadsStart (R.remaining from.old) result text.new }
 {
     let mut at = 0;
     while at < text.len() {
-        let FileRead::Bytes(more) = read_part(fd, &mut text[at..]) else {
-            return FileRead::Failed;
-        };
+        let more = read_part(from, &mut text[at..])?;
         if more == 0 {
-            return FileRead::Bytes(at);
+            return Ok(at);
         }
         at += more;
     }
-    FileRead::Bytes(at)
+    Ok(at)
 }
 
 // A number that is not negative, as it is; 0 for one that is.
@@ -74,126 +70,143 @@ fn natural(z: i64) -> usize {
     z as usize
 }
 
-fn say(bytes: &[u8]) {
-    io::write_all(STDERR_FILENO, bytes);
-}
-
-fn say_number(z: i64) {
-    io::print_decimal(STDERR_FILENO, natural(z) as u64);
-}
-
 // The cell at a place of its row: a tab before each but the first.
-fn print_cell(place: usize, z: i64) {
+fn print_cell<W: Write>(to: &mut W, place: usize, z: i64) -> io::Result<()> {
     if 0 < place {
-        printing::text(b"\t");
+        printing::text(to, b"\t")?;
     }
-    printing::number(z);
+    printing::number(to, z)
 }
 
-fn print_cells(cells: &[i64]) {
-    let mut i = 0;
-    while i < cells.len() {
-        print_cell(i, cells[i]);
-        i += 1;
+fn print_cells<W: Write>(to: &mut W, cells: &[i64]) -> io::Result<()> {
+    for i in 0..cells.len() {
+        print_cell(to, i, cells[i])?;
     }
+    Ok(())
 }
 
-fn print_row(cells: &[i64]) {
-    print_cells(cells);
-    printing::text(b"\n");
+fn print_row<W: Write>(to: &mut W, cells: &[i64]) -> io::Result<()> {
+    print_cells(to, cells)?;
+    printing::text(to, b"\n")
 }
 
 // The rows that the count in cell 0 names, as far as there are cells.
-fn print_rows(table: &[i64], header: usize, width: usize) {
+fn print_rows<W: Write>(to: &mut W, table: &[i64], header: usize, width: usize) -> io::Result<()> {
     if table.len() <= header {
-        return;
+        return Ok(());
     }
     let count = natural(table[0]);
-    let mut row = 0;
     let mut at = header;
-    while row < count {
+    for _ in 0..count {
         if table.len() - at < width {
-            return;
+            return Ok(());
         }
         let end = at + width;
-        print_row(&table[at..end]);
+        print_row(to, &table[at..end])?;
         at = end;
-        row += 1;
     }
+    Ok(())
 }
 
 // The number of a line, alone.
-fn print_line(line: i64) {
-    printing::number(line);
-    printing::text(b"\n");
+fn print_line<W: Write>(to: &mut W, line: i64) -> io::Result<()> {
+    printing::number(to, line)?;
+    printing::text(to, b"\n")
 }
 
-fn say_bad(line: i64) {
-    say(b"replay: line ");
-    say_number(line);
-    say(b" is bad: it is no line of a request\n");
+fn say_number<W: Write>(to: &mut W, z: i64) -> io::Result<()> {
+    write!(to, "{}", natural(z))
 }
 
-fn say_refused(line: i64, number: i64, place: i64) {
-    say(b"replay: line ");
-    say_number(line);
-    say(b" is refused: number ");
-    say_number(number);
-    say(b", place ");
-    say_number(place);
-    say(b"\n");
+fn say_bad<W: Write>(to: &mut W, line: i64) -> io::Result<()> {
+    printing::text(to, b"replay: line ")?;
+    say_number(to, line)?;
+    printing::text(to, b" is bad: it is no line of a request\n")
 }
 
-fn replay(text: &[u8]) {
+fn say_refused<W: Write>(to: &mut W, line: i64, number: i64, place: i64) -> io::Result<()> {
+    printing::text(to, b"replay: line ")?;
+    say_number(to, line)?;
+    printing::text(to, b" is refused: number ")?;
+    say_number(to, number)?;
+    printing::text(to, b", place ")?;
+    say_number(to, place)?;
+    printing::text(to, b"\n")
+}
+
+fn replay<W: Write, E: Write>(out: &mut W, err: &mut E, text: &[u8]) -> io::Result<()> {
     let mut records = [0i64; RECORDS];
     let mut positions = [0i64; POSITIONS];
     let mut processes = [0i64; PROCESSES];
     match book::replay(&mut records, &mut positions, &mut processes, text) {
         Reply::Replayed(_) => {
-            print_rows(&records, layout::RECORDS_HEADER, layout::RECORD_WIDTH);
-            print_rows(&positions, layout::POSITIONS_HEADER, layout::POSITION_WIDTH);
-            print_rows(&processes, layout::PROCESSES_HEADER, layout::PROCESS_WIDTH);
+            print_rows(out, &records, layout::RECORDS_HEADER, layout::RECORD_WIDTH)?;
+            print_rows(
+                out,
+                &positions,
+                layout::POSITIONS_HEADER,
+                layout::POSITION_WIDTH,
+            )?;
+            print_rows(
+                out,
+                &processes,
+                layout::PROCESSES_HEADER,
+                layout::PROCESS_WIDTH,
+            )
         }
         Reply::BadLine(line) => {
-            print_line(line);
-            say_bad(line);
+            print_line(out, line)?;
+            say_bad(err, line)
         }
         Reply::LineRefused(line, number, place) => {
-            print_line(line);
-            say_refused(line, number, place);
+            print_line(out, line)?;
+            say_refused(err, line, number, place)
         }
-        _ => say(b"replay: no answer of a replay\n"),
+        _ => printing::text(err, b"replay: no answer of a replay\n"),
     }
 }
 
 // The text is a local: the program takes some 1,200,000 bytes of stack.
-fn replay_file(fd: i32, path: &[u8]) {
+fn replay_file<R: Read, W: Write, E: Write>(
+    from: &mut R,
+    path: &str,
+    out: &mut W,
+    err: &mut E,
+) -> io::Result<()> {
     let mut text = buffer();
-    let FileRead::Bytes(n) = read_file(fd, &mut text) else {
-        say(b"replay: can't read ");
-        os::fail(path);
-        return;
-    };
-    replay(&text[..n]);
+    match read_file(from, &mut text) {
+        Ok(n) => replay(out, err, &text[..n]),
+        Err(e) => writeln!(err, "replay: can't read {path}: {e}"),
+    }
 }
 
-fn main() {
-    if os::arg_count() != 2 {
-        say(b"usage: replay JOURNAL\n");
-        return;
+// Whether there is an argument of this number; the program's name is number 0.
+fn has_argument(env: &impl Env, i: usize) -> bool {
+    let mut start = [0u8; 1];
+    !matches!(env.arg(i, &mut start), Err(FillError::NotPresent))
+}
+
+fn main(rt: HostRuntime) -> io::Result<()> {
+    let mut out = io::writer(&rt);
+    let mut err = rt.stderr();
+    if !has_argument(&rt, 1) || has_argument(&rt, 2) {
+        return printing::text(&mut err, b"usage: replay JOURNAL\n");
     }
-    let mut path = io::buffer();
-    let length = os::arg(1, &mut path);
-    if os::errno() != 0 {
-        os::fail(b"replay: can't take the journal's name");
-        return;
+    let mut name = [0u8; PATH];
+    let Ok(n) = rt.arg(1, &mut name) else {
+        return printing::text(
+            &mut err,
+            b"replay: can't take the journal's name: File name too long\n",
+        );
+    };
+    let Ok(path) = str::from_utf8(&name[..n]) else {
+        return printing::text(
+            &mut err,
+            b"replay: can't take the journal's name: it is no UTF-8\n",
+        );
+    };
+    match fs::open(&rt, path) {
+        Ok(mut file) => replay_file(&mut file, path, &mut out, &mut err),
+        Err(e) => writeln!(err, "replay: can't open {path}: {e}"),
     }
-    let fd = os::open_read(&path[..length]);
-    if fd < 0 {
-        say(b"replay: can't open ");
-        os::fail(&path[..length]);
-        return;
-    }
-    replay_file(fd, &path[..length]);
-    libc::close(fd);
 }
