@@ -1,6 +1,10 @@
 // The calls, each printed: its figures and its list, the answer, and both tables as it leaves them.
 
-pub fn trade(
+use std::io;
+use std::io::Write;
+
+pub fn trade<W: Write>(
+    out: &mut W,
     records: &mut [i64],
     positions: &mut [i64],
     id: i64,
@@ -9,8 +13,13 @@ pub fn trade(
     side: i64,
     quantity: i64,
     price: i64,
-) {
-    showing::request(b"trade", &[id, account, series, side, quantity, price], &[]);
+) -> io::Result<()> {
+    showing::request(
+        out,
+        b"trade",
+        &[id, account, series, side, quantity, price],
+        &[],
+    )?;
     let r = book::trade(
         &mut *records,
         &mut *positions,
@@ -21,19 +30,26 @@ pub fn trade(
         quantity,
         price,
     );
-    showing::reply(r);
-    showing::tables(records, positions);
+    showing::reply(out, r)?;
+    showing::tables(out, records, positions)
 }
 
-pub fn trades(records: &mut [i64], positions: &mut [i64], figures: &[i64], excess: &mut [i64]) {
-    showing::request(b"batch", &[], figures);
+pub fn trades<W: Write>(
+    out: &mut W,
+    records: &mut [i64],
+    positions: &mut [i64],
+    figures: &[i64],
+    excess: &mut [i64],
+) -> io::Result<()> {
+    showing::request(out, b"batch", &[], figures)?;
     let r = book::trades(&mut *records, &mut *positions, figures, &mut *excess);
-    showing::reply(r);
-    showing::excesses(excess);
-    showing::tables(records, positions);
+    showing::reply(out, r)?;
+    showing::excesses(out, excess)?;
+    showing::tables(out, records, positions)
 }
 
-pub fn separate(
+pub fn separate<W: Write>(
+    out: &mut W,
     records: &mut [i64],
     positions: &mut [i64],
     id: i64,
@@ -41,8 +57,8 @@ pub fn separate(
     account: i64,
     series: i64,
     parts: &[i64],
-) {
-    showing::request(b"separation", &[id, suffix, account, series], parts);
+) -> io::Result<()> {
+    showing::request(out, b"separation", &[id, suffix, account, series], parts)?;
     let r = book::separate(
         &mut *records,
         &mut *positions,
@@ -52,11 +68,12 @@ pub fn separate(
         series,
         parts,
     );
-    showing::reply(r);
-    showing::tables(records, positions);
+    showing::reply(out, r)?;
+    showing::tables(out, records, positions)
 }
 
-pub fn transfer(
+pub fn transfer<W: Write>(
+    out: &mut W,
     records: &mut [i64],
     positions: &mut [i64],
     id: i64,
@@ -64,30 +81,37 @@ pub fn transfer(
     from: i64,
     to: i64,
     series: i64,
-) {
-    showing::request(b"transfer", &[id, suffix, from, to, series], &[]);
+) -> io::Result<()> {
+    showing::request(out, b"transfer", &[id, suffix, from, to, series], &[])?;
     let r = book::transfer(&mut *records, &mut *positions, id, suffix, from, to, series);
-    showing::reply(r);
-    showing::tables(records, positions);
+    showing::reply(out, r)?;
+    showing::tables(out, records, positions)
 }
 
-pub fn merge(
+pub fn merge<W: Write>(
+    out: &mut W,
     records: &mut [i64],
     positions: &mut [i64],
     id: i64,
     account: i64,
     series: i64,
     pairs: &[i64],
-) {
-    showing::request(b"merge", &[id, account, series], pairs);
+) -> io::Result<()> {
+    showing::request(out, b"merge", &[id, account, series], pairs)?;
     let r = book::merge(&mut *records, &mut *positions, id, account, series, pairs);
-    showing::reply(r);
-    showing::tables(records, positions);
+    showing::reply(out, r)?;
+    showing::tables(out, records, positions)
 }
 
 // It is lent no positions; they are shown as they stand.
-pub fn lineage(records: &[i64], positions: &[i64], id: i64, suffix: i64) {
-    showing::request(b"lineage", &[id, suffix], &[]);
-    showing::reply(book::lineage(records, id, suffix));
-    showing::tables(records, positions);
+pub fn lineage<W: Write>(
+    out: &mut W,
+    records: &[i64],
+    positions: &[i64],
+    id: i64,
+    suffix: i64,
+) -> io::Result<()> {
+    showing::request(out, b"lineage", &[id, suffix], &[])?;
+    showing::reply(out, book::lineage(records, id, suffix))?;
+    showing::tables(out, records, positions)
 }
