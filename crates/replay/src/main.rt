@@ -3,8 +3,8 @@
 // is read and printed the contracts say what they can name, the bytes of a reader and a writer.
 #![tactic(auto)]
 
-ghost use Rattle.std.specs.Prelude.{◌≡◌, length, IfOk, OnOk};
-ghost use Rattle.std.specs.Io.KnownBytes.{ReadConsumes, Appends};
+ghost use Rattle.std.specs.Prelude.{◌≡◌, length};
+ghost use Rattle.std.specs.Io.KnownBytes.{ReadConsumes};
 ghost use Rattle.replay.specs.WithinText.{WithinText, ReadsStart};
 
 use rules::{Reply, layout};
@@ -154,13 +154,16 @@ fn replay<W: Write, E: Write>(out: &mut W, err: &mut E, text: &[u8]) -> io::Resu
                 layout::PROCESS_WIDTH,
             )
         }
+        // The reason is said even where the line could not be printed.
         Reply::BadLine(line) => {
-            print_line(out, line)?;
-            say_bad(err, line)
+            let printed = print_line(out, line);
+            say_bad(err, line)?;
+            printed
         }
         Reply::LineRefused(line, number, place) => {
-            print_line(out, line)?;
-            say_refused(err, line, number, place)
+            let printed = print_line(out, line);
+            say_refused(err, line, number, place)?;
+            printed
         }
         _ => printing::text(err, b"replay: no answer of a replay\n"),
     }
