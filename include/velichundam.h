@@ -204,7 +204,7 @@
  * the greatest suffix of its id, in two arrays of 1,000 numbers of 16 bits; a replay keeps the figures of a line, 2,003 numbers. In bytes, from the
  * host's call down, rounded up:
  *
- *     lineage                                600,000 at the longest chain: 144 for each link, and 400
+ *     lineage                                330,000 at the longest chain: 80 for each link, and 300
  *     merge                                    5,000
  *     trade, trades, separation                1,000
  *     transfer, the steps of a give-up         2,000
