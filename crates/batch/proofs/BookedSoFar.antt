@@ -28,7 +28,7 @@ use Rattle.history.proofs.Accepted.{accepted-none, refused-tables}
 use Rattle.history.proofs.Answers.{refusal-exactly, refused-not-accepted}
 use Rattle.batch.specs.Outcome.{outcome_of}
 use Rattle.batch.specs.BookedSoundly.{BookedSoundly}
-use Rattle.batch.specs.declared.Outcome.TheVariants.{Booked, Refused}
+use Rattle.batch.specs.Outcome.{Booked, Refused}
 
 -- Test 3 passed: so many trades at most, and a cell for each.
 pub trades-fit : (trades : List ℤ) (cells : ℕ) → batch_figures trades cells ≡ true → (trade_count trades ≤ 1000) × (trade_count trades ≤ cells)

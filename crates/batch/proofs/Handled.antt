@@ -14,8 +14,8 @@ use Rattle.rules.specs.Batch.{trades_of, batch_figures, batch_tests, batch_answe
 use Rattle.rules.specs.Call.{trades, handle_call}
 use Rattle.rules.specs.declared.Reply.TheVariants as Reply
 use Rattle.verdict.specs.Verdict.{verdict_on_tables}
-use Rattle.verdict.specs.declared.Verdict.{Verdict}
-use Rattle.verdict.specs.declared.Verdict.TheVariants as Verdict
+use Rattle.verdict.specs.Verdict.{Verdict}
+use Rattle.verdict.specs.Verdict as Verdict
 use Rattle.verdict.proofs.Handled.{refused-before, refused_as}
 
 -- `cells` are those lent for the excesses.

@@ -3,7 +3,7 @@ use Rattle.std.specs.Prelude.{◌≡◌, true}
 use Rattle.rules.specs.Request.{Request}
 use Rattle.rules.specs.Tables.{Tables, sound_records, sound_positions}
 use Rattle.rules.specs.Handle.{handle}
-use Rattle.batch.specs.declared.Outcome.{Outcome}
+use Rattle.batch.specs.Outcome.{Outcome}
 use Rattle.batch.specs.Outcome.{outcome_of}
 
 pub record BookedSoundly (t : Tables) (r : Request) (became : Outcome) (after : Tables) : Type 0 where

@@ -10,24 +10,24 @@ ghost use Rattle.rules.specs.Call.{handle_call};
 ghost use Rattle.rules.specs.Handle.{handle, answered, answered_by};
 ghost use Rattle.rules.specs.Left.{left, left_by};
 ghost use Rattle.rules.specs.Tables.{tables_of, all_tables};
-ghost use Rattle.verdict.specs.Verdict.{verdict_on_tables};
+ghost use Rattle.verdict.specs.Verdict.{judged, verdict_on_tables};
 ghost use Rattle.give_up_steps.specs.OnAllTables.{verdict_on_all_tables};
 
 use give_up_steps::Terms;
+use rules::refusals::{Reason, answer};
 use rules::{Reply, Step};
-use verdict::Verdict;
 
 // Tests 1 and 2: accepted where both tables are sound.
-fn verdict_on_tables(records: &[i64], positions: &[i64]) -> Verdict
-    ensures { result ≡ verdict_on_tables records.now positions.now }
+fn verdict_on_tables(records: &[i64], positions: &[i64]) -> Result<(), Reason>
+    ensures { judged result ≡ verdict_on_tables records.now positions.now }
 {
     if !scan::soundness::records_sound(records) {
-        return Verdict::Refused(1, 0);
+        return Err(Reason::RecordsUnsound);
     }
     if !scan::soundness::positions_sound(positions) {
-        return Verdict::Refused(2, 0);
+        return Err(Reason::PositionsUnsound);
     }
-    Verdict::Accepted
+    Ok(())
 }
 
 pub fn trade(
@@ -43,10 +43,10 @@ pub fn trade(
     ensures { answered result records.new positions.new ≡ handle (tables_of records.old positions.old) (Request.trade id account series side quantity price) }
 {
     match verdict_on_tables(records, positions) {
-        Verdict::Refused(number, place) => Reply::Refused(number, place),
-        Verdict::Accepted => trade::on_sound(
+        Err(reason) => Reply::from(reason),
+        Ok(()) => answer(trade::on_sound(
             records, positions, id, account, series, side, quantity, price,
-        ),
+        )),
     }
 }
 
@@ -60,8 +60,8 @@ pub fn trades(
     ensures { left result excess.new records.new positions.new ≡ left_by excess.old (handle_call (tables_of records.old positions.old) (Call.trades trades.now (length excess.old))) }
 {
     match verdict_on_tables(records, positions) {
-        Verdict::Refused(number, place) => Reply::Refused(number, place),
-        Verdict::Accepted => batch::on_sound(records, positions, trades, excess),
+        Err(reason) => Reply::from(reason),
+        Ok(()) => batch::on_sound(records, positions, trades, excess),
     }
 }
 
@@ -77,10 +77,10 @@ pub fn separate(
     ensures { answered result records.new positions.new ≡ handle (tables_of records.old positions.old) (Request.separate id suffix account series parts.now) }
 {
     match verdict_on_tables(records, positions) {
-        Verdict::Refused(number, place) => Reply::Refused(number, place),
-        Verdict::Accepted => separation::on_sound(
+        Err(reason) => Reply::from(reason),
+        Ok(()) => answer(separation::on_sound(
             records, positions, id, suffix, account, series, parts,
-        ),
+        )),
     }
 }
 
@@ -96,8 +96,8 @@ pub fn transfer(
     ensures { answered result records.new positions.new ≡ handle (tables_of records.old positions.old) (Request.transfer id suffix from to series) }
 {
     match verdict_on_tables(records, positions) {
-        Verdict::Refused(number, place) => Reply::Refused(number, place),
-        Verdict::Accepted => transfer::on_sound(records, positions, id, suffix, from, to, series),
+        Err(reason) => Reply::from(reason),
+        Ok(()) => answer(transfer::on_sound(records, positions, id, suffix, from, to, series)),
     }
 }
 
@@ -112,8 +112,8 @@ pub fn merge(
     ensures { answered result records.new positions.new ≡ handle (tables_of records.old positions.old) (Request.merge id account series pairs.now) }
 {
     match verdict_on_tables(records, positions) {
-        Verdict::Refused(number, place) => Reply::Refused(number, place),
-        Verdict::Accepted => merge::call::on_sound(records, positions, id, account, series, pairs),
+        Err(reason) => Reply::from(reason),
+        Ok(()) => answer(merge::call::on_sound(records, positions, id, account, series, pairs)),
     }
 }
 
@@ -138,18 +138,18 @@ pub fn reportable(records: &[i64], pairs: &mut [i64]) -> Reply
 }
 
 // Tests 1, 2 and 19: accepted where all three tables are sound.
-fn verdict_on_all_tables(records: &[i64], positions: &[i64], processes: &[i64]) -> Verdict
-    ensures { result ≡ verdict_on_all_tables records.now positions.now processes.now }
+fn verdict_on_all_tables(
+    records: &[i64],
+    positions: &[i64],
+    processes: &[i64],
+) -> Result<(), Reason>
+    ensures { judged result ≡ verdict_on_all_tables records.now positions.now processes.now }
 {
-    match verdict_on_tables(records, positions) {
-        Verdict::Refused(number, place) => Verdict::Refused(number, place),
-        Verdict::Accepted => {
-            if scan::soundness::processes_sound(processes) {
-                Verdict::Accepted
-            } else {
-                Verdict::Refused(19, 0)
-            }
-        }
+    verdict_on_tables(records, positions)?;
+    if scan::soundness::processes_sound(processes) {
+        Ok(())
+    } else {
+        Err(Reason::ProcessesUnsound)
     }
 }
 
@@ -169,8 +169,8 @@ pub fn give_up(
     ensures { answered_by result (all_tables records.new positions.new processes.new) ≡ handle (all_tables records.old positions.old processes.old) (Request.give_up step process id suffix giving taking series) }
 {
     match verdict_on_all_tables(records, positions, processes) {
-        Verdict::Refused(number, place) => Reply::Refused(number, place),
-        Verdict::Accepted => {
+        Err(reason) => Reply::from(reason),
+        Ok(()) => {
             let g = Terms {
                 process,
                 id,
@@ -179,7 +179,7 @@ pub fn give_up(
                 taking,
                 series,
             };
-            give_up::on_sound(records, positions, processes, step, g)
+            answer(give_up::on_sound(records, positions, processes, step, g))
         }
     }
 }

@@ -1,5 +1,5 @@
 -- What a sound table is known to be: its header, its rows within its room and cells, rising, and each sound.
-use Rattle.std.specs.Prelude.{◌+◌, ◌*◌, ◌≤◌, ◌≡◌, Bool, true, List, map, ℤ, pos, length}
+use Rattle.std.specs.Prelude.{◌≤◌, ◌≡◌, Bool, true, List, map, ℤ, pos, length}
 use Rattle.rules.specs.Keyed.{Key, rising}
 use Rattle.rules.specs.Refusal.{all_of}
 use Rattle.rules.specs.Rows.{record_key, position_key, sound_record, sound_position}

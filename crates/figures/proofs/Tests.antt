@@ -1,4 +1,4 @@
--- What the code's tests on signed numbers say of the integers: `==` and `!=` against a literal compare bits, a range test is two comparisons.
+-- What the code's tests on signed numbers say of the integers: `==` and `!=` against a literal compare bits.
 -- Assumes nothing.
 use mathlib.Core.Path.{◌≡◌, sym, ◌∙◌}
 use mathlib.Core.Bool.{Bool, true, false, not}
@@ -6,12 +6,10 @@ use borrow.Author.Tests.{not-true, not-false}
 use Prim.Native.Nat.{ℕ, ◌^◌}
 use lib.Dec.{T, eqb, ltb}
 use lib.IntN.{ℤ, pos}
-use lib.Signed.{lt_z, le_z}
 use mir.Facts.{sfits_lit}
 use mir.Syntax.{w64}
 use mir.Val.{SFits, of_z}
-use Rattle.integers.specs.Order.{eq_z, in_range}
-use Rattle.integers.proofs.Linear.{zarith}
+use Rattle.integers.specs.Order.{eq_z}
 use Rattle.integers.proofs.Parts.{true-eq_z, false-eq_z}
 use Rattle.integers.proofs.Bits.{of_z-inj, eqb-of_z}
 
@@ -33,17 +31,3 @@ failed {r} e h = sym e ∙ not-true r h
 
 pub passed : {r t : Bool} → r ≡ t → not r ≡ false → t ≡ true
 passed {r} e h = sym e ∙ not-false r h
-
--- ---- a range
-
-pub below-range : (low high z : ℤ) → lt_z z low ≡ true → false ≡ in_range low high z
-unfolding in_range
-below-range low high z e =
-    let l : le_z low z ≡ false = omega zarith in
-    rw l
-
-pub not-below-range : (low high z : ℤ) → lt_z z low ≡ false → le_z z high ≡ in_range low high z
-unfolding in_range
-not-below-range low high z e =
-    let l : le_z low z ≡ true = omega zarith in
-    rw l

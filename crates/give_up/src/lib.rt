@@ -2,6 +2,7 @@
 #![tactic(auto)]
 
 ghost use Rattle.std.specs.Prelude.{◌≡◌};
+ghost use Rattle.rules.specs.Reasons.{answer_of};
 ghost use Rattle.rules.specs.Tables.{all_tables};
 ghost use Rattle.rules.specs.Handle.{answered_by};
 ghost use Rattle.soundness.specs.SoundTables.{SoundTables};
@@ -9,7 +10,8 @@ ghost use Rattle.give_up_steps.specs.HandledIn.{HandledIn};
 ghost use Rattle.give_up_steps.specs.Terms.{step_of};
 
 use give_up_steps::Terms;
-use rules::{Reply, Step};
+use rules::Step;
+use rules::refusals::{Confirmation, Refusal};
 
 pub fn on_sound(
     records: &mut [i64],
@@ -17,28 +19,12 @@ pub fn on_sound(
     processes: &mut [i64],
     step: Step,
     g: Terms,
-) -> Reply
+) -> Result<Confirmation, Refusal>
     requires { SoundTables (all_tables records.old positions.old processes.old) }
-    ensures { HandledIn (all_tables records.old positions.old processes.old) (step_of step g) (answered_by result (all_tables records.new positions.new processes.new)) }
+    ensures { HandledIn (all_tables records.old positions.old processes.old) (step_of step g) (answered_by (answer_of result) (all_tables records.new positions.new processes.new)) }
 {
     match step {
         Step::Open => opening::on_sound(records, positions, processes, g),
-        Step::Claim => later_steps::on_sound(records, positions, processes, Step::Claim, g),
-        Step::Cancel => later_steps::on_sound(records, positions, processes, Step::Cancel, g),
-        Step::Refuse => later_steps::on_sound(records, positions, processes, Step::Refuse, g),
-        Step::ApproveGiver => later_steps::on_sound(
-            records,
-            positions,
-            processes,
-            Step::ApproveGiver,
-            g,
-        ),
-        Step::ApproveTaker => later_steps::on_sound(
-            records,
-            positions,
-            processes,
-            Step::ApproveTaker,
-            g,
-        ),
+        _ => later_steps::on_sound(records, positions, processes, step, g),
     }
 }

@@ -8,7 +8,7 @@ use Rattle.rules.specs.declared.Reply.TheVariants as Reply
 use Rattle.soundness.specs.SoundTables.{SoundTables}
 use Rattle.history.proofs.OnTables.{stays-sound}
 use Rattle.verdict.specs.Verdict.{verdict_in, accepted_in}
-use Rattle.verdict.specs.declared.Verdict.TheVariants as Verdict
+use Rattle.verdict.specs.Verdict as Verdict
 use Rattle.verdict.proofs.Handled.{refused-in, accepted-in}
 use Rattle.give_up_steps.specs.HandledIn.{HandledIn}
 

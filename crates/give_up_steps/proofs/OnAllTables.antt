@@ -14,8 +14,7 @@ use Rattle.rules.specs.declared.Reply.TheVariants as Reply
 use Rattle.rules.specs.declared.Step.{Step}
 use Rattle.soundness.specs.SoundTables.{SoundTables}
 use Rattle.verdict.specs.Verdict.{verdict_of, verdict_on_tables}
-use Rattle.verdict.specs.declared.Verdict.{Verdict}
-use Rattle.verdict.specs.declared.Verdict.TheVariants as Verdict
+use Rattle.verdict.specs.Verdict.{Verdict}
 use Rattle.verdict.proofs.Handled.{refused-before, both_hold, unsound-in}
 use Rattle.give_up_steps.specs.OnAllTables.{verdict_on_all_tables}
 

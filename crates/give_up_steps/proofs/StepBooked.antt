@@ -2,7 +2,7 @@
 -- what a transfer leaves, with its own types, and the row of its process. By the definitions. Assumes nothing.
 use mathlib.Core.Path.{◌≡◌, refl, ◌∙◌, ap}
 use mathlib.Core.Bool.{Bool, true, false, cond}
-use mathlib.Core.List.{List, [], ◌∷◌, ◌++◌}
+use mathlib.Core.List.{List, [], ◌++◌}
 use mathlib.Core.Option.{Option, some}
 use lib.IntN.{ℤ, pos}
 use Rattle.rules.specs.Figures.{give_up_kind, take_up_kind}

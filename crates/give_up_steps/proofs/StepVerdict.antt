@@ -38,7 +38,7 @@ use Rattle.soundness.specs.SoundTables.{SoundTables}
 use Rattle.soundness.proofs.GiveUp.{stepped-key}
 use Rattle.verdict.specs.Verdict.{verdict_of, verdict_in}
 use Rattle.verdict.specs.Moving.{moving_effects, moving_verdict}
-use Rattle.verdict.specs.declared.Verdict.TheVariants.{Refused}
+use Rattle.verdict.specs.Verdict.{Refused}
 use Rattle.verdict.proofs.Remaining.{verdict_by, Remaining, ◌past◌, stops}
 use Rattle.verdict.proofs.Moving.{moving-step}
 

@@ -3,7 +3,7 @@ use Rattle.std.specs.Prelude.{not, List, [], ◌∷◌, ℤ}
 use Rattle.rules.specs.Refusal.{test, first_refusal}
 use Rattle.rules.specs.Tables.{sound_records, sound_positions, sound_processes}
 use Rattle.verdict.specs.Verdict.{verdict_of}
-use Rattle.verdict.specs.declared.Verdict.{Verdict}
+use Rattle.verdict.specs.Verdict.{Verdict}
 
 unfoldable pub verdict_on_all_tables : (records positions processes : List ℤ) → Verdict
 verdict_on_all_tables records positions processes =

@@ -16,11 +16,10 @@ pub struct Terms {
 }
 
 // 3: every figure in its range, and two different accounts.
+#[tactic(auto, unfolding(rules::specs::GiveUp::give_up_figures))]
 pub fn figures_valid(g: Terms) -> bool
     ensures { result ≡ terms_valid g }
 {
-    if !figures::valid_id(g.process) {
-        return false;
-    }
-    transfer::figures_valid(g.id, g.suffix, g.giving, g.taking, g.series)
+    figures::valid_id(g.process)
+        && transfer::figures_valid(g.id, g.suffix, g.giving, g.taking, g.series)
 }

@@ -1,34 +1,34 @@
--- How the code rounds: the quotient toward zero, corrected by the remainder, is the average, and every step fits an `i64`.
-use mathlib.Core.Path.{◌≡◌, sym, ap}
+-- How the code rounds: the quotient toward zero, corrected by the remainder, is the average, and its steps fit an `i64`.
+use mathlib.Core.Path.{◌≡◌, ap}
 use mathlib.Core.Bool.{true, false}
 use Prim.Native.Nat.{ℕ, suc, ◌+◌, ◌*◌, ◌/◌, ◌%◌, ◌≤◌, ◌<◌}
 use native.Mathlib.Omega.{arith}
 use lib.IntN.{ℤ, pos, negsuc, ◌+ℤ◌, ◌-ℤ◌, ◌*ℤ◌, neg_ℤ, nat_abs}
 use lib.Signed.{quot_z, rem_z, ◌≤ℤ◌, ◌<ℤ◌}
 use mir.Syntax.{w64}
-use mir.Val.{SFits, of_z}
+use mir.Val.{SFits}
 use Rattle.integers.specs.Rounded.{half_up, rounded}
 use Rattle.integers.specs.Average.{average_of, residual_of}
 use Rattle.integers.specs.Averageable.{Averageable}
 use Rattle.integers.proofs.Linear.{zarith, neg-lin, +-lin, minus-lin, abs-sum, abs-lin}
 use Rattle.integers.proofs.Products.{mul-sfits, sfits-of-bound}
-use Rattle.integers.proofs.Quotient.{rem-small, quot-small}
+use Rattle.integers.proofs.Quotient.{quot-small}
 use Rattle.integers.proofs.Rounded.{half-up-stays, half-up-next}
 use Rattle.integers.proofs.AverageLaws.{average-bound, residual-buy, residual-sell, residual-bound}
 
 -- ---- the three ways: division is toward zero, so the remainder has the value's sign
 
 -- a half or more is left above
-pub rounds-up : (v q : ℤ) → pos 1 ≤ℤ q → q ≤ℤ (rem_z v q +ℤ rem_z v q) → quot_z v q +ℤ pos 1 ≡ average_of v q
+pub rounds-up : (v q : ℤ) → pos 1 ≤ℤ q → q ≤ℤ (rem_z v q +ℤ rem_z v q) → average_of v q ≡ quot_z v q +ℤ pos 1
 unfolding average_of rounded
-rounds-up (pos a) (pos m) h t = ap pos (sym (half-up-next a m (omega zarith) (omega zarith)))
+rounds-up (pos a) (pos m) h t = ap pos (half-up-next a m (omega zarith) (omega zarith))
 rounds-up (negsuc a) (pos m) h t =
     let r : ℤ = neg_ℤ (pos (suc a % m)) in
     absurd (omega (zarith, neg-lin (pos (suc a % m)), +-lin r r))
 rounds-up v (negsuc m) h t = absurd (omega zarith)
 
 -- a half or more is left below
-pub rounds-down : (v q : ℤ) → pos 1 ≤ℤ q → (rem_z v q +ℤ rem_z v q) ≤ℤ (pos 0 -ℤ q) → quot_z v q -ℤ pos 1 ≡ average_of v q
+pub rounds-down : (v q : ℤ) → pos 1 ≤ℤ q → (rem_z v q +ℤ rem_z v q) ≤ℤ (pos 0 -ℤ q) → average_of v q ≡ quot_z v q -ℤ pos 1
 unfolding average_of rounded
 rounds-down (pos a) (pos m) h t = absurd (omega (zarith, minus-lin (pos 0) (pos m)))
 rounds-down (negsuc a) (pos m) h t =
@@ -40,51 +40,27 @@ rounds-down (negsuc a) (pos m) h t =
 rounds-down v (negsuc m) h t = absurd (omega zarith)
 
 -- less than a half is left on either side
-pub stays : (v q : ℤ) → pos 1 ≤ℤ q → (rem_z v q +ℤ rem_z v q) <ℤ q → (pos 0 -ℤ q) <ℤ (rem_z v q +ℤ rem_z v q) → quot_z v q ≡ average_of v q
+pub stays : (v q : ℤ) → pos 1 ≤ℤ q → (rem_z v q +ℤ rem_z v q) <ℤ q → (pos 0 -ℤ q) <ℤ (rem_z v q +ℤ rem_z v q) → average_of v q ≡ quot_z v q
 unfolding average_of rounded
-stays (pos a) (pos m) h t u = ap pos (sym (half-up-stays a m (omega zarith)))
+stays (pos a) (pos m) h t u = ap pos (half-up-stays a m (omega zarith))
 stays (negsuc a) (pos m) h t u =
     let r : ℤ = neg_ℤ (pos (suc a % m)) in
     let k : suc a % m + suc a % m < m = omega (zarith, neg-lin (pos (suc a % m)), +-lin r r, minus-lin (pos 0) (pos m)) in
-    ap (λ (n : ℕ). neg_ℤ (pos n)) (sym (half-up-stays (suc a) m k))
+    ap (λ (n : ℕ). neg_ℤ (pos n)) (half-up-stays (suc a) m k)
 stays v (negsuc m) h t u = absurd (omega zarith)
+
+-- ---- the steps fit
 
 module _ (v q : ℤ) (ok : Averageable v q) where
   -- what the laws of division say here
-  rest : nat_abs (rem_z v q) < nat_abs q
-  rest = rem-small v q ok.positive
-
   small : nat_abs (quot_z v q) ≤ 1_000_000_000_000_000_000
   small = omega (zarith, quot-small v q ok.positive, ok.bounded, ok.most, abs-lin q)
-
-  -- ---- every step fits
-
-  pub divisor-bits : 0 < of_z w64 q
-  divisor-bits = go q ok.positive
-    where
-      go : (z : ℤ) → pos 1 ≤ℤ z → 0 < of_z w64 z
-      go (pos m) h = omega zarith
-      go (negsuc m) h = absurd (omega zarith)
-
-  pub quot_fits : SFits w64 (quot_z v q)
-  quot_fits = omega (zarith, small, abs-sum (quot_z v q))
-
-  pub rem-fits : SFits w64 (rem_z v q)
-  rem-fits = omega (zarith, rest, abs-sum (rem_z v q), ok.most, ok.positive, abs-lin q)
-
-  pub twice-fits : SFits w64 (rem_z v q +ℤ rem_z v q)
-  twice-fits = omega (zarith, rest, abs-sum (rem_z v q), +-lin (rem_z v q) (rem_z v q), ok.most, ok.positive, abs-lin q)
-
-  pub least_fits : SFits w64 (pos 0 -ℤ q)
-  least_fits = omega (zarith, ok.most, ok.positive, minus-lin (pos 0) q)
 
   pub up_fits : SFits w64 (quot_z v q +ℤ pos 1)
   up_fits = omega (zarith, small, abs-sum (quot_z v q), +-lin (quot_z v q) (pos 1))
 
   pub down_fits : SFits w64 (quot_z v q -ℤ pos 1)
   down_fits = omega (zarith, small, abs-sum (quot_z v q), minus-lin (quot_z v q) (pos 1))
-
-  -- ---- the residual's steps fit
 
   pub product-fits : SFits w64 (q *ℤ average_of v q)
   product-fits =
@@ -104,8 +80,8 @@ module _ (v q : ℤ) (ok : Averageable v q) where
       let x : ℤ = q *ℤ average_of v q in
       omega (zarith, above, abs-sum (x -ℤ v), minus-lin x v, minus-lin v x)
 
-  pub sells : v -ℤ q *ℤ average_of v q ≡ residual_of false v q
+  pub sells : residual_of false v q ≡ v -ℤ q *ℤ average_of v q
   sells =
       let x : ℤ = q *ℤ average_of v q in
-      let e : v -ℤ x ≡ neg_ℤ (x -ℤ v) = omega (zarith, minus-lin x v, minus-lin v x, neg-lin (x -ℤ v)) in
+      let e : neg_ℤ (x -ℤ v) ≡ v -ℤ x = omega (zarith, minus-lin x v, minus-lin v x, neg-lin (x -ℤ v)) in
       rw (residual-sell v q) e

@@ -14,10 +14,9 @@ pub fn average(value: i64, quantity: i64) -> i64
     let quotient = value / quantity;
     let rest = value % quantity;
     let twice = rest + rest;
-    let least = -quantity;
     if quantity <= twice {
         quotient + 1
-    } else if twice <= least {
+    } else if twice <= -quantity {
         quotient - 1
     } else {
         quotient
@@ -30,7 +29,9 @@ pub fn residual(buy: bool, value: i64, quantity: i64) -> i64
     ensures { result ≡ residual_of buy value quantity }
 {
     let product = quantity * average(value, quantity);
-    let above = product - value;
-    let below = value - product;
-    if buy { above } else { below }
+    if buy {
+        product - value
+    } else {
+        value - product
+    }
 }

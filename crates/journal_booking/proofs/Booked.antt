@@ -17,6 +17,9 @@ use Rattle.rules.specs.Tables.{Tables, tables_of, all_tables, sound_records, sou
 use Rattle.rules.specs.Handle.{Answer, answered, answered_by, handle, refusal_of}
 use Rattle.rules.specs.declared.Reply.{Reply}
 use Rattle.rules.specs.declared.Reply.TheVariants as Reply
+use Rattle.rules.specs.Reasons.{confirmed_by}
+use Rattle.rules.specs.declared.refusals.Confirmation.{Confirmation}
+use Rattle.rules.specs.declared.refusals.Confirmation.TheVariants as Confirmed
 use Rattle.rules.specs.declared.Step.{Step}
 use Rattle.rules.specs.declared.Heading.{Heading}
 use Rattle.rules.specs.declared.Heading.TheVariants.{Day}
@@ -28,13 +31,18 @@ use Rattle.history.proofs.Answers.{not-accepted-refused, refusal-exactly}
 use Rattle.history.proofs.ProcessesApart.{refusal-apart, processes-apart}
 use Rattle.verdict.specs.Verdict.{verdict_of, verdict_on_tables}
 use Rattle.verdict.specs.HandledSoundly.{HandledSoundly}
-use Rattle.verdict.specs.declared.Verdict.{Verdict}
-use Rattle.verdict.specs.declared.Verdict.TheVariants as Verdict
+use Rattle.verdict.specs.Verdict.{Verdict}
+use Rattle.verdict.specs.Verdict as Verdict
 use Rattle.soundness.specs.SoundTables.{SoundTables}
 use Rattle.give_up_steps.specs.HandledIn.{HandledIn}
 use Rattle.new_day.specs.DayHandled.{DayHandled}
 use Rattle.give_up_steps.proofs.OnAllTables.{third-refuses, unsound-refused}
 use Rattle.journal_booking.specs.RequestBooked.{RequestBooked, BookedBeside, verdict_of_reply}
+
+-- What a booked request answers is no refusal.
+pub confirmed : (c : Confirmation) → verdict_of_reply (confirmed_by c) ≡ Verdict.Accepted
+confirmed (Confirmed.Booked rows residual) = refl
+confirmed (Confirmed.ClosingError excess) = refl
 
 -- A reply that is no refusal.
 not-refused : (reply : Reply) → is_refusal reply ≡ false → verdict_of_reply reply ≡ Verdict.Accepted

@@ -20,7 +20,7 @@ use Rattle.rules.specs.declared.Heading.TheVariants.{Trade, Separation, Transfer
 use Rattle.keys.proofs.Split.{clash}
 use Rattle.soundness.specs.SoundBooks.{plan_on}
 use Rattle.verdict.specs.Verdict.{verdict_of, is_booking}
-use Rattle.verdict.specs.declared.Verdict.TheVariants as Verdict
+use Rattle.verdict.specs.Verdict as Verdict
 use Rattle.verdict.proofs.Handled.{unsound-in}
 use Rattle.journal_booking.specs.RequestBooked.{RequestBooked, is_day}
 use Rattle.journal_booking.proofs.Booked.{refused-booked}

@@ -8,8 +8,8 @@ use Rattle.rules.specs.declared.Reply.TheVariants.{Booked, ClosingError, Lineage
 use Rattle.rules.specs.declared.Heading.{Heading}
 use Rattle.rules.specs.declared.Heading.TheVariants.{Trade, Separation, Transfer, Merge, GiveUp, Day}
 use Rattle.verdict.specs.Verdict.{verdict_of}
-use Rattle.verdict.specs.declared.Verdict.{Verdict}
-use Rattle.verdict.specs.declared.Verdict.TheVariants as Verdict
+use Rattle.verdict.specs.Verdict.{Verdict}
+use Rattle.verdict.specs.Verdict as Verdict
 
 -- Whether a reply is a refusal, and which.
 abbrev pub verdict_of_reply : Reply → Verdict

@@ -3,40 +3,23 @@
 #![tactic(auto)]
 
 ghost use Rattle.std.specs.Prelude.{◌≤◌, ◌≡◌, true, length};
+ghost use Rattle.rules.specs.Reasons.{answer_of};
 ghost use Rattle.rules.specs.Reader.{has_its_figures, request_named};
 ghost use Rattle.rules.specs.Tables.{all_tables, tables_of, sound_records, sound_positions, sound_processes};
 ghost use Rattle.rules.specs.declared.Heading.TheVariants as Heading;
 ghost use Rattle.journal_booking.specs.RequestBooked.{RequestBooked, BookedBeside, verdict_of_reply, is_day};
 
 use give_up_steps::Terms;
-use rules::{Heading, Reply, Step};
-use verdict::Verdict;
+use rules::refusals::{Confirmation, Reason, Refusal};
+use rules::{Heading, Step};
 
-// Whether a reply is a refusal, and which.
-fn verdict_of(reply: Reply) -> Verdict
-    ensures { result ≡ verdict_of_reply reply }
-{
-    match reply {
-        Reply::Booked { rows, residual } => Verdict::Accepted,
-        Reply::ClosingError { excess } => Verdict::Accepted,
-        Reply::Lineage { price, links } => Verdict::Accepted,
-        Reply::Refused(number, place) => Verdict::Refused(number, place),
-        Reply::Stopped {
-            booked,
-            number,
-            place,
-        } => Verdict::Accepted,
-        Reply::Written(bytes) => Verdict::Accepted,
-        Reply::Replayed(lines) => Verdict::Accepted,
-        Reply::BadLine(line) => Verdict::Accepted,
-        Reply::LineRefused(line, number, place) => Verdict::Accepted,
-        Reply::Listed(records) => Verdict::Accepted,
-    }
-}
-
-fn book_trade(records: &mut [i64], positions: &mut [i64], figures: &[i64]) -> Verdict
+fn book_trade(
+    records: &mut [i64],
+    positions: &mut [i64],
+    figures: &[i64],
+) -> Result<Confirmation, Refusal>
     requires { (sound_records records.old ≡ true) × (sound_positions positions.old ≡ true) × (length figures.now ≡ 6) }
-    ensures { RequestBooked (tables_of records.old positions.old) (request_named Heading.Trade figures.now) result (tables_of records.new positions.new) }
+    ensures { RequestBooked (tables_of records.old positions.old) (request_named Heading.Trade figures.now) (verdict_of_reply (answer_of result)) (tables_of records.new positions.new) }
 {
     let id = figures[0];
     let account = figures[1];
@@ -44,20 +27,24 @@ fn book_trade(records: &mut [i64], positions: &mut [i64], figures: &[i64]) -> Ve
     let side = figures[3];
     let quantity = figures[4];
     let price = figures[5];
-    verdict_of(trade::on_sound(
+    trade::on_sound(
         records, positions, id, account, series, side, quantity, price,
-    ))
+    )
 }
 
-fn book_separation(records: &mut [i64], positions: &mut [i64], figures: &[i64]) -> Verdict
+fn book_separation(
+    records: &mut [i64],
+    positions: &mut [i64],
+    figures: &[i64],
+) -> Result<Confirmation, Refusal>
     requires { (sound_records records.old ≡ true) × (sound_positions positions.old ≡ true) × (4 ≤ length figures.now) }
-    ensures { RequestBooked (tables_of records.old positions.old) (request_named Heading.Separation figures.now) result (tables_of records.new positions.new) }
+    ensures { RequestBooked (tables_of records.old positions.old) (request_named Heading.Separation figures.now) (verdict_of_reply (answer_of result)) (tables_of records.new positions.new) }
 {
     let id = figures[0];
     let suffix = figures[1];
     let account = figures[2];
     let series = figures[3];
-    verdict_of(separation::on_sound(
+    separation::on_sound(
         records,
         positions,
         id,
@@ -65,29 +52,37 @@ fn book_separation(records: &mut [i64], positions: &mut [i64], figures: &[i64]) 
         account,
         series,
         &figures[4..],
-    ))
+    )
 }
 
-fn book_transfer(records: &mut [i64], positions: &mut [i64], figures: &[i64]) -> Verdict
+fn book_transfer(
+    records: &mut [i64],
+    positions: &mut [i64],
+    figures: &[i64],
+) -> Result<Confirmation, Refusal>
     requires { (sound_records records.old ≡ true) × (sound_positions positions.old ≡ true) × (length figures.now ≡ 5) }
-    ensures { RequestBooked (tables_of records.old positions.old) (request_named Heading.Transfer figures.now) result (tables_of records.new positions.new) }
+    ensures { RequestBooked (tables_of records.old positions.old) (request_named Heading.Transfer figures.now) (verdict_of_reply (answer_of result)) (tables_of records.new positions.new) }
 {
     let id = figures[0];
     let suffix = figures[1];
     let from = figures[2];
     let to = figures[3];
     let series = figures[4];
-    verdict_of(transfer::on_sound(records, positions, id, suffix, from, to, series))
+    transfer::on_sound(records, positions, id, suffix, from, to, series)
 }
 
-fn book_merge(records: &mut [i64], positions: &mut [i64], figures: &[i64]) -> Verdict
+fn book_merge(
+    records: &mut [i64],
+    positions: &mut [i64],
+    figures: &[i64],
+) -> Result<Confirmation, Refusal>
     requires { (sound_records records.old ≡ true) × (sound_positions positions.old ≡ true) × (3 ≤ length figures.now) }
-    ensures { RequestBooked (tables_of records.old positions.old) (request_named Heading.Merge figures.now) result (tables_of records.new positions.new) }
+    ensures { RequestBooked (tables_of records.old positions.old) (request_named Heading.Merge figures.now) (verdict_of_reply (answer_of result)) (tables_of records.new positions.new) }
 {
     let id = figures[0];
     let account = figures[1];
     let series = figures[2];
-    verdict_of(merge::call::on_sound(records, positions, id, account, series, &figures[3..]))
+    merge::call::on_sound(records, positions, id, account, series, &figures[3..])
 }
 
 fn book_step(
@@ -97,12 +92,12 @@ fn book_step(
     sound: bool,
     step: Step,
     figures: &[i64],
-) -> Verdict
+) -> Result<Confirmation, Refusal>
     requires { (sound_records records.old ≡ true) × (sound_positions positions.old ≡ true) × (sound ≡ sound_processes processes.old) × (length figures.now ≡ 6) }
-    ensures { RequestBooked (all_tables records.old positions.old processes.old) (request_named (Heading.GiveUp step) figures.now) result (all_tables records.new positions.new processes.new) }
+    ensures { RequestBooked (all_tables records.old positions.old processes.old) (request_named (Heading.GiveUp step) figures.now) (verdict_of_reply (answer_of result)) (all_tables records.new positions.new processes.new) }
 {
     if !sound {
-        return Verdict::Refused(19, 0);
+        return Err(Refusal::from(Reason::ProcessesUnsound));
     }
     let process = figures[0];
     let id = figures[1];
@@ -118,16 +113,16 @@ fn book_step(
         taking,
         series,
     };
-    verdict_of(give_up::on_sound(records, positions, processes, step, g))
+    give_up::on_sound(records, positions, processes, step, g)
 }
 
 // A day neither reads nor changes the other tables.
-fn book_day(records: &mut [i64], figures: &[i64]) -> Verdict
+fn book_day(records: &mut [i64], figures: &[i64]) -> Result<Confirmation, Refusal>
     requires { (sound_records records.old ≡ true) × (length figures.now ≡ 1) }
-    ensures { BookedBeside records.old (request_named Heading.Day figures.now) result records.new }
+    ensures { BookedBeside records.old (request_named Heading.Day figures.now) (verdict_of_reply (answer_of result)) records.new }
 {
     let day = figures[0];
-    verdict_of(new_day::on_sound(records, day))
+    new_day::on_sound(records, day)
 }
 
 // On sound positions.
@@ -138,9 +133,9 @@ fn book_on_positions(
     sound: bool,
     heading: Heading,
     figures: &[i64],
-) -> Verdict
+) -> Result<Confirmation, Refusal>
     requires { (sound_records records.old ≡ true) × (sound_positions positions.old ≡ true) × (sound ≡ sound_processes processes.old) × (has_its_figures heading (length figures.now) ≡ true) }
-    ensures { RequestBooked (all_tables records.old positions.old processes.old) (request_named heading figures.now) result (all_tables records.new positions.new processes.new) }
+    ensures { RequestBooked (all_tables records.old positions.old processes.old) (request_named heading figures.now) (verdict_of_reply (answer_of result)) (all_tables records.new positions.new processes.new) }
 {
     match heading {
         Heading::Trade => book_trade(records, positions, figures),
@@ -155,14 +150,7 @@ fn book_on_positions(
 fn is_day(heading: Heading) -> bool
     ensures { result ≡ is_day heading }
 {
-    match heading {
-        Heading::Trade => false,
-        Heading::Separation => false,
-        Heading::Transfer => false,
-        Heading::Merge => false,
-        Heading::GiveUp(_) => false,
-        Heading::Day => true,
-    }
+    matches!(heading, Heading::Day)
 }
 
 // `passes2` tells whether the positions pass test 2, `passes19` whether the processes pass test 19.
@@ -174,9 +162,9 @@ pub fn book_line(
     passes19: bool,
     heading: Heading,
     figures: &[i64],
-) -> Verdict
+) -> Result<Confirmation, Refusal>
     requires { (sound_records records.old ≡ true) × (passes2 ≡ sound_positions positions.old) × (passes19 ≡ sound_processes processes.old) × (has_its_figures heading (length figures.now) ≡ true) }
-    ensures { RequestBooked (all_tables records.old positions.old processes.old) (request_named heading figures.now) result (all_tables records.new positions.new processes.new) }
+    ensures { RequestBooked (all_tables records.old positions.old processes.old) (request_named heading figures.now) (verdict_of_reply (answer_of result)) (all_tables records.new positions.new processes.new) }
 {
     if passes2 {
         return book_on_positions(records, positions, processes, passes19, heading, figures);
@@ -184,5 +172,5 @@ pub fn book_line(
     if is_day(heading) {
         return book_day(records, figures);
     }
-    Verdict::Refused(2, 0)
+    Err(Refusal::from(Reason::PositionsUnsound))
 }

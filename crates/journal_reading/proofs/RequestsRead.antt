@@ -8,26 +8,25 @@ use lib.IntN.{ℤ}
 use lib.ListN.{take, drop}
 use Rattle.text.specs.Scan.{taken}
 use Rattle.rules.specs.Reader.{request_named, is_valid_line, request_from, take_request}
-use Rattle.rules.specs.declared.Heading.{Heading}
 use Rattle.reader.specs.Read.{LineReadAs}
-use Rattle.reader.specs.declared.LineRead.TheVariants.{Read, Bad}
+use Rattle.std.specs.Prelude.{Some, None}
+use Rattle.std.specs.Bool.{then_some}
+use Rattle.reader.specs.declared.LineRead.{LineRead}
 use Rattle.journal_reading.specs.RequestRead.{RequestReadAs}
 
 module _ (text : List ℕ) (at : ℕ) (figures : List ℤ) where
-  pub bad-line : LineReadAs text at figures Bad → RequestReadAs text at figures Bad
+  pub bad-line : LineReadAs text at figures None → RequestReadAs text at figures None
   unfolding take_request request_from
   bad-line w = record { request = ap request_from w.line; within = tt; cells = w.cells }
 
-  module _ (heading : Heading) (count next : ℕ) (w : LineReadAs text at figures (Read heading count next)) where
+  module _ (l : LineRead) (w : LineReadAs text at figures (Some l)) where
     -- What the line's validity makes of it.
-    judged : (valid : Bool) → is_valid_line heading (take count figures) ≡ valid →
-        cond valid (some (taken (request_named heading (take count figures)) (drop next text))) none ≡ take_request (drop at text)
+    judged : (valid : Bool) → is_valid_line l.heading (take l.count figures) ≡ valid →
+        cond valid (some (taken (request_named l.heading (take l.count figures)) (drop l.next text))) none ≡ take_request (drop at text)
     unfolding take_request request_from
     judged valid e =
-        sym (ap (λ (b : Bool). cond b (some (taken (request_named heading (take count figures)) (drop next text))) none) e) ∙ ap request_from w.line
+        sym (ap (λ (b : Bool). cond b (some (taken (request_named l.heading (take l.count figures)) (drop l.next text))) none) e) ∙ ap request_from w.line
 
-    pub invalid-line : is_valid_line heading (take count figures) ≡ false → RequestReadAs text at figures Bad
-    invalid-line e = record { request = judged false e; within = tt; cells = w.cells }
-
-    pub valid-line : is_valid_line heading (take count figures) ≡ true → RequestReadAs text at figures (Read heading count next)
-    valid-line e = record { request = judged true e; within = (e, w.within.0, w.within.1); cells = w.cells }
+    pub by-validity : (valid : Bool) → valid ≡ is_valid_line l.heading (take l.count figures) → RequestReadAs text at figures (then_some valid l)
+    by-validity true e = record { request = judged true (sym e); within = (sym e, w.within.0, w.within.1); cells = w.cells }
+    by-validity false e = record { request = judged false (sym e); within = tt; cells = w.cells }

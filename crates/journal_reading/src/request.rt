@@ -5,16 +5,10 @@ ghost use Rattle.journal_reading.specs.RequestRead.{RequestReadAs};
 use reader::LineRead;
 
 // The line from this place on, where it is one of a request that passes test 3; otherwise it is bad.
-pub fn read_request(text: &[u8], at: usize, figures: &mut [i64]) -> LineRead
+pub fn read_request(text: &[u8], at: usize, figures: &mut [i64]) -> Option<LineRead>
     requires { length figures.old ≡ 2003 }
     ensures { RequestReadAs text.now at figures.new result }
 {
-    let LineRead::Read(heading, count, next) = reader::line::read_line(text, at, &mut *figures)
-    else {
-        return LineRead::Bad;
-    };
-    if !super::validity::line_valid(heading, &figures[..count]) {
-        return LineRead::Bad;
-    }
-    LineRead::Read(heading, count, next)
+    let line = reader::line::read_line(text, at, &mut *figures)?;
+    super::validity::line_valid(line.heading, &figures[..line.count]).then_some(line)
 }

@@ -1,4 +1,6 @@
 // Test 3 of the figures of a line: as many as its kind asks for, and each in its range.
+#![tactic(auto, unfolding(rules::specs::Reader::is_valid_line, rules::specs::Reader::has_its_figures, rules::specs::Reader::request_named, rules::specs::Line::passes_test3))]
+
 ghost use Rattle.std.specs.Prelude.{◌≡◌};
 ghost use Rattle.rules.specs.Reader.{is_valid_line};
 ghost use Rattle.rules.specs.declared.Step.TheVariants.{Open};
@@ -10,79 +12,64 @@ use rules::Heading;
 fn trade_valid(figures: &[i64]) -> bool
     ensures { result ≡ is_valid_line Heading.Trade figures.now }
 {
-    if figures.len() != 6 {
+    let &[id, account, series, side, quantity, price] = figures else {
         return false;
-    }
-    trade::figures_valid(
-        figures[0], figures[1], figures[2], figures[3], figures[4], figures[5],
-    )
+    };
+    trade::figures_valid(id, account, series, side, quantity, price)
 }
 
 fn separation_valid(figures: &[i64]) -> bool
     ensures { result ≡ is_valid_line Heading.Separation figures.now }
 {
-    if figures.len() < 4 {
+    let [id, suffix, account, series, parts @ ..] = figures else {
         return false;
-    }
-    separation::figures_valid(
-        figures[0],
-        figures[1],
-        figures[2],
-        figures[3],
-        &figures[4..],
-    )
+    };
+    separation::figures_valid(*id, *suffix, *account, *series, parts)
 }
 
 fn transfer_valid(figures: &[i64]) -> bool
     ensures { result ≡ is_valid_line Heading.Transfer figures.now }
 {
-    if figures.len() != 5 {
+    let &[id, suffix, from, to, series] = figures else {
         return false;
-    }
-    transfer::figures_valid(figures[0], figures[1], figures[2], figures[3], figures[4])
+    };
+    transfer::figures_valid(id, suffix, from, to, series)
 }
 
 fn merge_valid(figures: &[i64]) -> bool
     ensures { result ≡ is_valid_line Heading.Merge figures.now }
 {
-    if figures.len() < 3 {
+    let [id, account, series, pairs @ ..] = figures else {
         return false;
-    }
-    merge_sources::pairs::figures_valid(figures[0], figures[1], figures[2], &figures[3..])
+    };
+    merge_sources::pairs::figures_valid(*id, *account, *series, pairs)
 }
 
 // The same for every step.
 fn step_valid(figures: &[i64]) -> bool
     ensures { result ≡ is_valid_line (Heading.GiveUp Open) figures.now }
 {
-    if figures.len() != 6 {
+    let &[process, id, suffix, giving, taking, series] = figures else {
         return false;
-    }
-    let process = figures[0];
-    let id = figures[1];
-    let suffix = figures[2];
-    let giving = figures[3];
-    let taking = figures[4];
-    let series = figures[5];
-    let g = Terms {
+    };
+    give_up_steps::figures_valid(Terms {
         process,
         id,
         suffix,
         giving,
         taking,
         series,
-    };
-    give_up_steps::figures_valid(g)
+    })
 }
 
 // A day's range alone: whether it lies after the current day is asked where it is booked.
 fn day_valid(figures: &[i64]) -> bool
     ensures { result ≡ is_valid_line Heading.Day figures.now }
 {
-    if figures.len() != 1 {
+    let &[day] = figures else {
         return false;
-    }
-    figures::valid_day(figures[0])
+    };
+    figures::valid_day(day)
 }
 
 pub fn line_valid(heading: Heading, figures: &[i64]) -> bool

@@ -1,4 +1,4 @@
-pub mod GiveUpAnswers
+pub mod Steps
 pub mod LinesLeft
 pub mod ShortLists
 pub mod TradesLeft

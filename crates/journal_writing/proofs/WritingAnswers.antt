@@ -4,17 +4,18 @@ use mathlib.Core.Path.{◌≡◌, refl, sym, ap, ◌∙◌}
 use mathlib.Core.Bool.{Bool, true, false, ◌&&◌}
 use mathlib.Core.List.{List, ◌++◌, map, flat_map}
 use native.Mathlib.Nat.{zero-add}
-use borrow.Author.Tests.{lt-ltb, le-ltb}
+use borrow.Author.Tests.{lt-ltb, le-ltb, leb-true}
+use lib.Dec.{leb}
+use Rattle.keys.proofs.Split.{and_left, and_right}
 use lib.IntN.{ℤ, pos}
 use lib.ListN.{length, drop}
 use Rattle.text.specs.Written.{written}
 use Rattle.text.proofs.WrittenLaws.{Wrote}
 use Rattle.rules.specs.Refusal.{test, all_of, first_refusal}
 use Rattle.rules.specs.Reply.{refused_by}
-use Rattle.rules.specs.Request.{Request}
 use Rattle.rules.specs.Batch.{trade_count, trades_of, batch_figures}
 use Rattle.rules.specs.Line.{line_of, passes_test3}
-use Rattle.rules.specs.Writing.{text_left, left_in, writing, write_request, write_trades}
+use Rattle.rules.specs.Writing.{text_left, left_in, writing, write_trades}
 use Rattle.rules.specs.declared.Reply.TheVariants.{Refused, Written}
 
 -- ---- by the two tests
@@ -37,17 +38,6 @@ module _ (lines buffer : List ℕ) where
       let front : after ≡ lines ++ drop n buffer = w.1 ∙ ap (λ (k : ℕ). lines ++ drop k buffer) (zero-add n) in
       rw (le-ltb (length buffer) n room) (λ k. record { reply = Written (pos (reaches k)); text = front k })
 
--- ---- of a request
-
-module _ (r : Request) (buffer : List ℕ) where
-  pub request-refused : passes_test3 r ≡ false → text_left (Refused (pos 3) (pos 0)) buffer ≡ write_request r buffer
-  unfolding write_request
-  request-refused fails = refused-3 (line_of r) buffer ∙ ap (λ (valid : Bool). writing valid (line_of r) buffer) (sym fails)
-
-  pub request-passes : passes_test3 r ≡ true → writing true (line_of r) buffer ≡ write_request r buffer
-  unfolding write_request
-  request-passes passes = ap (λ (valid : Bool). writing valid (line_of r) buffer) (sym passes)
-
 -- ---- of a batch
 
 module _ (trades : List ℤ) (buffer : List ℕ) where
@@ -60,14 +50,12 @@ module _ (trades : List ℤ) (buffer : List ℕ) where
   abbrev each : Bool
   each = all_of (map passes_test3 (trades_of trades))
 
-  pub list-refused : listed ≡ false → text_left (Refused (pos 3) (pos 0)) buffer ≡ write_trades trades buffer
+  pub trades-tested : {valid : Bool} → valid ≡ (listed && each) → writing valid lines buffer ≡ write_trades trades buffer
   unfolding write_trades
-  list-refused fails = refused-3 lines buffer ∙ ap (λ (valid : Bool). writing (valid && each) lines buffer) (sym fails)
+  trades-tested e = ap (λ (valid : Bool). writing valid lines buffer) e
 
-  pub trade-refused : listed ≡ true → each ≡ false → text_left (Refused (pos 3) (pos 0)) buffer ≡ write_trades trades buffer
-  unfolding write_trades
-  trade-refused passes fails = refused-3 lines buffer ∙ rw (passes, fails)
-
-  pub trades-pass : listed ≡ true → each ≡ true → writing true lines buffer ≡ write_trades trades buffer
-  unfolding write_trades
-  trades-pass passes valid = rw (passes, valid)
+  pub few-trades : true ≡ (listed && each) → trade_count trades ≤ 1000
+  unfolding batch_figures
+  few-trades passes =
+      let counted : leb (trade_count trades) 1000 ≡ true = and_right _ _ (and_left _ _ (and_left listed each (sym passes))) in
+      leb-true (trade_count trades) 1000 counted

@@ -1,9 +1,10 @@
 -- What is known of a later step past tests 1 to 8, in the shape in which its booking asks for it: the record is under give-up, and the process in its place. Assumes nothing.
-use Prim.Native.Nat.{ℕ}
 use mathlib.Core.Path.{◌≡◌, refl, sym, ◌∙◌, ap, subst}
 use mathlib.Core.Bool.{true, false}
 use mathlib.Core.List.{List}
 use lib.IntN.{ℤ}
+use mir.Syntax.{w64}
+use mir.Val.{SFits}
 use borrow.Author.Tests.{not-false}
 use Rattle.integers.specs.Order.{eq_z}
 use Rattle.integers.proofs.Parts.{eq_z-true}
@@ -17,7 +18,6 @@ use Rattle.rules.specs.Tables.{records_layout, processes_layout}
 use Rattle.rules.specs.declared.Process.{Process}
 use Rattle.rules.specs.declared.ProcessRow.{ProcessRow}
 use Rattle.rules.specs.declared.Record.{Record}
-use Rattle.rules.specs.declared.Step.{Step}
 use Rattle.keys.proofs.Lookup.{find-all}
 use Rattle.cells.proofs.SoundCells.{record-rows-sound, records-known, processes-known}
 use Rattle.soundness.proofs.Accepted.{passed}
@@ -30,8 +30,19 @@ use Rattle.verdict.proofs.Acceptance.{none-accepted}
 use Rattle.give_up_steps.specs.StepTests.{later_tests}
 use Rattle.give_up_steps.specs.declared.Terms.{Terms}
 use Rattle.later_steps.specs.LaterReady.{RecordReady}
+use Rattle.later_steps.specs.declared.Turn.{Turn}
 
-module _ (rs ps qs : List ℤ) (step : Step) (g : Terms) (at : ℕ) (p : Process) (named : Named) (k : RecordReady rs ps qs step g at p named) where
+-- The figures of a request are those of its bits.
+abbrev pub InRange : Terms → Type 0
+InRange g = (SFits w64 g.process) × (SFits w64 g.id) × (SFits w64 g.suffix) × (SFits w64 g.giving) × (SFits w64 g.taking) × (SFits w64 g.series)
+
+module _ (rs ps qs : List ℤ) (t : Turn) (named : Named) (k : RecordReady rs ps qs t named) where
+  abbrev g : Terms
+  g = t.terms
+
+  abbrev p : Process
+  p = t.process
+
   abbrev r : Record
   r = named.record
 
@@ -68,7 +79,7 @@ module _ (rs ps qs : List ℤ) (step : Step) (g : Terms) (at : ℕ) (p : Process
       (find-all process_key sound_process (key_of g.process g.id) (rows_of processes_layout qs) (row_of_process p) (processes-known qs k.ready.sound.processes).rows-sound k.ready.known.found)
 
   -- A row that the step has made, ready to be written in its place.
-  replace : (q : Process) → SoundProcess (row_of_process q) → process_key (row_of_process q) ≡ process_key (row_of_process p) → ReplaceReady qs at q
+  replace : (q : Process) → SoundProcess (row_of_process q) → process_key (row_of_process q) ≡ process_key (row_of_process p) → ReplaceReady qs t.at q
   replace q s e = record {
     sound = k.ready.sound.processes;
     row-sound = sound-process (row_of_process q) s;
@@ -76,16 +87,16 @@ module _ (rs ps qs : List ℤ) (step : Step) (g : Terms) (at : ℕ) (p : Process
     key-is = e ∙ ap (λ (x : ProcessRow). process_key x) k.ready.known.row_is;
   }
 
-  pub stepped-ready : (q : Process) → row_of_process q ≡ stepped step (row_of_process p) → ReplaceReady qs at q
+  pub stepped-ready : (q : Process) → row_of_process q ≡ stepped t.step (row_of_process p) → ReplaceReady qs t.at q
   unfolding finished
   stepped-ready q e =
-      replace q (subst (λ (x : ProcessRow). SoundProcess x) (sym e) (stepped-sound step (row_of_process p) process-is-sound))
-      (ap (λ (x : ProcessRow). process_key x) e ∙ stepped-key step (row_of_process p))
+      replace q (subst (λ (x : ProcessRow). SoundProcess x) (sym e) (stepped-sound t.step (row_of_process p) process-is-sound))
+      (ap (λ (x : ProcessRow). process_key x) e ∙ stepped-key t.step (row_of_process p))
 
-  pub finished-ready : (q : Process) → row_of_process q ≡ finished (stepped step (row_of_process p)) → ReplaceReady qs at q
+  pub finished-ready : (q : Process) → row_of_process q ≡ finished (stepped t.step (row_of_process p)) → ReplaceReady qs t.at q
   finished-ready q e =
-      replace q (subst (λ (x : ProcessRow). SoundProcess x) (sym e) (finished-sound (stepped step (row_of_process p)) (stepped-sound step (row_of_process p) process-is-sound)))
-      (ap (λ (x : ProcessRow). process_key x) e ∙ stepped-key step (row_of_process p))
+      replace q (subst (λ (x : ProcessRow). SoundProcess x) (sym e) (finished-sound (stepped t.step (row_of_process p)) (stepped-sound t.step (row_of_process p) process-is-sound)))
+      (ap (λ (x : ProcessRow). process_key x) e ∙ stepped-key t.step (row_of_process p))
 
 -- The types of the completing step's rows.
 pub kind-give-up : valid_kind give_up_kind ≡ true

@@ -12,7 +12,7 @@ use Rattle.rules.specs.Layout.{Layout, count_of, start_of, row_at, rows_of}
 use Rattle.cells.specs.SoundTable.{SoundTable}
 use Rattle.cells.proofs.Count.{length-rows_of}
 use Rattle.lookup.specs.Lookup.{Searchable, key_at, row_found, found_in, place_in}
-use Rattle.lookup.specs.declared.Found.{Found}
+use Rattle.lookup.specs.Found.{Found}
 use Rattle.lookup.proofs.Halving.{place-just-past}
 use Rattle.lookup.proofs.LookedUp.{front-searchable, found_front}
 use Rattle.lookup.proofs.TableLookup.{KeyFirst, table-searchable}

@@ -24,10 +24,9 @@ use Rattle.keys.proofs.Clauses.{below_all, all_of-nil}
 use Rattle.keys.proofs.KeyOrder.{same-eq, below-asym, below-major, below-minor, below-cases}
 use Rattle.keys.proofs.Rising.{below_all-head, below_all-tail, below_all-intro, rising-tail, rising-head, rising-intro}
 use Rattle.lookup.specs.Lookup.{key_at, row_from, place_from, found_or, greatest_found, the_greatest, sought_as, sought_among, row_found, row_place, row_sought, Searchable}
-use Rattle.lookup.specs.declared.Found.{Found}
-use Rattle.lookup.specs.declared.Found.TheVariants as Found
-use Rattle.lookup.specs.declared.Greatest.TheVariants.{Suffix, Nothing}
-use Rattle.lookup.specs.declared.Sought.TheVariants as Sought
+use Rattle.lookup.specs.Found.{Found}
+use Rattle.lookup.specs.Greatest.{Suffix, Nothing}
+use Rattle.lookup.specs.Sought as Sought
 use Rattle.lookup.proofs.RowFound.{row_told, absent-told}
 use Rattle.lookup.proofs.RisingKeys.{at_place, before-place}
 use Rattle.lookup.proofs.Halving.{keys-count, row-key, place-at-most, place-to, place-past}

@@ -20,7 +20,7 @@ use Rattle.rules.specs.Layout.{decode}
 use Rattle.keys.proofs.Split.{clash}
 use Rattle.keys.proofs.KeyOrder.{same-eq, eq-same, below-major}
 use Rattle.lookup.specs.Lookup.{key_at, row_from, found_or, row_found, row_place, keys_rise}
-use Rattle.lookup.specs.declared.Found.TheVariants as Found
+use Rattle.lookup.specs.Found as Found
 use Rattle.lookup.proofs.RisingKeys.{found-there, found-place, above-from-place}
 use Rattle.lookup.proofs.GreatestPlace.{greater-at, greatest-there, no-greatest}
 use Rattle.lookup.proofs.Halving.{keys-count, row-key, place-at-most}

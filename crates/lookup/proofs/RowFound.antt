@@ -15,8 +15,8 @@ use Rattle.keys.proofs.Split.{split, none-some, some_inj}
 use Rattle.keys.proofs.Clauses.{find-nil, find-here, find-there, greatest-nil, greatest-here, greatest-there}
 use Rattle.keys.proofs.Lookup.{find-key}
 use Rattle.lookup.specs.Lookup.{row_from, found_or, greatest_found}
-use Rattle.lookup.specs.declared.Found.TheVariants as Found
-use Rattle.lookup.specs.declared.Greatest.TheVariants.{Suffix, Nothing}
+use Rattle.lookup.specs.Found as Found
+use Rattle.lookup.specs.Greatest.{Suffix, Nothing}
 use Rattle.lookup.proofs.Clauses.{row_from-nil, row_from-here, row_from-there}
 
 -- ---- counting from the next row

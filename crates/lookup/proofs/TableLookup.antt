@@ -16,7 +16,7 @@ use Rattle.cells.specs.SoundTable.{SoundTable}
 use Rattle.cells.proofs.Count.{room_most}
 use Rattle.cells.proofs.Decode.{length-decode, get_or-decode}
 use Rattle.lookup.specs.Lookup.{key_at, row_from, keys_rise, most_rows, Searchable, found_in, place_in, position_found}
-use Rattle.lookup.specs.declared.Found.TheVariants as Found
+use Rattle.lookup.specs.Found as Found
 use Rattle.lookup.proofs.RowFound.{row_told, absent-told, found-find, found-key, absent-find}
 use Rattle.lookup.proofs.RowPlaced.{place-within, upsert-placed, upsert-replaced}
 use Rattle.lookup.proofs.RisingKeys.{rising-map}

@@ -15,8 +15,8 @@ use Rattle.rules.specs.Layout.{Layout, count_of, decode, row_at, rows_of}
 use Rattle.keys.proofs.Greatest.{found-greatest}
 use Rattle.lookup.specs.Lookup.{key_at, row_from, place_from, found_or, greatest_found, the_greatest, sought_as, place_in, sought_in}
 use Rattle.lookup.specs.SoughtRows.{PresentAt, AbsentAt}
-use Rattle.lookup.specs.declared.Greatest.{Greatest}
-use Rattle.lookup.specs.declared.Sought.TheVariants as Sought
+use Rattle.lookup.specs.Greatest.{Greatest}
+use Rattle.lookup.specs.Sought as Sought
 use Rattle.lookup.proofs.RowFound.{absent-find, greatest-map}
 use Rattle.lookup.proofs.TableLookup.{KeyFirst, table-keys, as_row, row-told-of}
 

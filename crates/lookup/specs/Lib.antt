@@ -1,3 +1,6 @@
+pub mod Found
+pub mod Greatest
+pub mod Sought
 pub mod Lookup
 pub mod SoughtRows
 pub mod Steps

@@ -7,12 +7,10 @@ use Rattle.rules.specs.Rows.{key_of}
 use Rattle.rules.specs.NamedRecord.{next_suffix}
 use Rattle.rules.specs.Layout.{Layout, decode, count_of}
 use Rattle.rules.specs.Tables.{records_layout, positions_layout}
-use Rattle.lookup.specs.declared.Found.{Found}
-use Rattle.lookup.specs.declared.Found.TheVariants as Found
-use Rattle.lookup.specs.declared.Greatest.{Greatest}
-use Rattle.lookup.specs.declared.Greatest.TheVariants.{Suffix, Nothing}
-use Rattle.lookup.specs.declared.Sought.{Sought}
-use Rattle.lookup.specs.declared.Sought.TheVariants as Sought
+use Rattle.lookup.specs.Found.{Found}
+use Rattle.lookup.specs.Greatest.{Greatest}
+use Rattle.lookup.specs.Greatest.{Suffix, Nothing}
+use Rattle.lookup.specs.Sought.{Sought}
 
 -- A row's key is its first two cells, in every table.
 abbrev pub key_at : List ℤ → ℕ → Key

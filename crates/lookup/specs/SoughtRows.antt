@@ -5,8 +5,8 @@ use Rattle.rules.specs.Keyed.{Key, find, greatest}
 use Rattle.rules.specs.Rows.{key_of}
 use Rattle.rules.specs.Layout.{Layout, row_at, rows_of}
 use Rattle.lookup.specs.Lookup.{greatest_found, found_in, place_in}
-use Rattle.lookup.specs.declared.Found.TheVariants as Found
-use Rattle.lookup.specs.declared.Greatest.{Greatest}
+use Rattle.lookup.specs.Found as Found
+use Rattle.lookup.specs.Greatest.{Greatest}
 
 module _ {A : Type 0} (l : Layout A) (key : A → Key) (cells : List ℤ) (k : Key) where
   -- A key that is there: its row, the greatest suffix of its id, and the row where the id's next suffix belongs.

@@ -5,31 +5,26 @@
 ghost use Rattle.std.specs.Prelude.{◌≡◌, ◌+◌, ◌<◌, length};
 ghost use Rattle.rules.specs.Rows.{key_of};
 ghost use Rattle.rules.specs.Keyed.{below, same};
+ghost use Rattle.lookup.specs.Found.{found_told};
+ghost use Rattle.lookup.specs.Sought.{sought_told};
 ghost use Rattle.lookup.specs.Lookup.{Searchable, key_at, row_found, row_place, row_sought};
 
 // "each search in at most 13 steps" (document 02, K6).
 const MOST_STEPS: usize = 13;
 
-// The row with a key, from 0; or that there is none, with the row where the key belongs.
+// A key that is there: its row, the greatest suffix of its id, and the row where the id's next suffix belongs (document 02, K2).
 #[derive(Clone, Copy)]
-pub enum Found {
-    Row(usize),
-    Absent(usize),
+pub struct Present {
+    pub row: usize,
+    pub greatest: i64,
+    pub next: usize,
 }
 
-// The greatest suffix of an id, or that it has no record.
+// A key that is not: the row where it belongs, and the greatest suffix of its id or that it has none.
 #[derive(Clone, Copy)]
-pub enum Greatest {
-    Suffix(i64),
-    Nothing,
-}
-
-// What the lookup says of a key (document 02, K2). Present: its row, the greatest suffix of its id, and the row where the id's next suffix belongs.
-// Absent: the row where the key belongs, and the greatest suffix of its id or that it has none.
-#[derive(Clone, Copy)]
-pub enum Sought {
-    Present(usize, i64, usize),
-    Absent(usize, Greatest),
+pub struct Absent {
+    pub place: usize,
+    pub greatest: Option<i64>,
 }
 
 // Whether the first key comes before the second.
@@ -110,6 +105,7 @@ pub fn place_of(
     low
 }
 
+// The row with a key, from 0; or that there is none, with the row where the key belongs, as `binary_search` of a slice answers.
 pub fn find_row(
     cells: &[i64],
     header: usize,
@@ -117,20 +113,20 @@ pub fn find_row(
     count: usize,
     major: i64,
     minor: i64,
-) -> Found
+) -> Result<usize, usize>
     requires { Searchable header width count cells.now }
-    ensures { result ≡ row_found header width (key_of major minor) count cells.now }
+    ensures { found_told result ≡ row_found header width (key_of major minor) count cells.now }
 {
     let place = place_of(cells, header, width, count, major, minor);
     if place == 0 {
-        return Found::Absent(place);
+        return Err(place);
     }
     let row = place - 1;
     let at = header + row * width;
     if key_same(cells[at], cells[at + 1], major, minor) {
-        Found::Row(row)
+        Ok(row)
     } else {
-        Found::Absent(place)
+        Err(place)
     }
 }
 
@@ -161,14 +157,14 @@ pub fn find_by_distance(
     greatest: i64,
     major: i64,
     minor: i64,
-) -> Found
+) -> Result<usize, usize>
     requires { Searchable header width end cells.now × (0 < end) }
-    ensures { result ≡ row_found header width (key_of major minor) end cells.now }
+    ensures { found_told result ≡ row_found header width (key_of major minor) end cells.now }
 {
     let row = row_by_distance(end, greatest, minor);
     let at = header + row * width;
     if key_same(cells[at], cells[at + 1], major, minor) {
-        return Found::Row(row);
+        return Ok(row);
     }
     find_row(cells, header, width, end, major, minor)
 }
@@ -181,9 +177,9 @@ pub fn look_up(
     count: usize,
     major: i64,
     minor: i64,
-) -> Sought
+) -> Result<Present, Absent>
     requires { Searchable header width count cells.now }
-    ensures { result ≡ row_sought header width (key_of major minor) count cells.now }
+    ensures { sought_told result ≡ row_sought header width (key_of major minor) count cells.now }
 {
     let end = place_of(
         cells,
@@ -198,15 +194,30 @@ pub fn look_up(
         let second = cells[header + end * width + 1];
     }
     if end == 0 {
-        return Sought::Absent(0, Greatest::Nothing);
+        return Err(Absent {
+            place: 0,
+            greatest: None,
+        });
     }
     let last = header + (end - 1) * width;
     let greatest = cells[last + 1];
-    if cells[last] != major {
-        return Sought::Absent(end, Greatest::Nothing);
+    let first = cells[last];
+    if first != major {
+        let greatest = None;
+        return Err(Absent {
+            place: end,
+            greatest,
+        });
     }
     match find_by_distance(cells, header, width, end, greatest, major, minor) {
-        Found::Row(row) => Sought::Present(row, greatest, end),
-        Found::Absent(place) => Sought::Absent(place, Greatest::Suffix(greatest)),
+        Ok(row) => Ok(Present {
+            row,
+            greatest,
+            next: end,
+        }),
+        Err(at) => Err(Absent {
+            place: at,
+            greatest: Some(greatest),
+        }),
     }
 }

@@ -1,1 +1,4 @@
 pub mod SmallPlaces
+pub mod Asked
+pub mod Tests
+pub mod Booked

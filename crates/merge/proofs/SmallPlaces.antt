@@ -8,9 +8,8 @@ use lib.IntN.{ℤ}
 use lib.ListN.{length, length-map}
 use Rattle.rules.specs.Merge.{Source, pairs_of}
 use Rattle.rules.specs.declared.Record.{Record}
-use Rattle.merge_sources.specs.Sources.{sources_in, place_of, source_records}
+use Rattle.merge_sources.specs.Sources.{At, sources_in, place_of, source_records}
 use Rattle.merge_sources.specs.Pairs.{repeats_from}
-use Rattle.merge_sources.specs.declared.Place.TheVariants.{At}
 use Rattle.merge_sources.proofs.Earlier.{repeat-count}
 use Rattle.merge_sources.proofs.Places.{place-within}
 use Rattle.merge_sources.proofs.SourceList.{source-count, record-count}

@@ -1,0 +1,3 @@
+pub mod SourcesFound
+pub mod SourcesPass
+pub mod MergeAccepted

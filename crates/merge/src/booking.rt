@@ -8,34 +8,31 @@ ghost use Rattle.rules.specs.NamedRecord.{is_not_adjustable};
 ghost use Rattle.rules.specs.Refusal.{any_of, all_of};
 ghost use Rattle.rules.specs.Request as Request;
 ghost use Rattle.rules.specs.Layout.{room_of, rows_of, write};
-ghost use Rattle.rules.specs.Tables.{records_layout, sound_record_rows, sound_records, sound_positions};
+ghost use Rattle.rules.specs.Tables.{records_layout, sound_record_rows};
 ghost use Rattle.rules.specs.Merge.{merge_inverses, pairs_of};
 ghost use Rattle.rules.specs.Handle.{answered};
-ghost use Rattle.requests.specs.KnownPosition.{KnownPosition};
-ghost use Rattle.verdict.specs.Verdict.{verdict_on, accepted_on};
-ghost use Rattle.verdict.specs.declared.Verdict.TheVariants.{Accepted};
+ghost use Rattle.rules.specs.Reasons.{confirmed_by};
+ghost use Rattle.verdict.specs.Verdict.{accepted_on};
 ghost use Rattle.merge_sources.specs.Sources.{sources_in, all_found, source_records, inverse_named};
 ghost use Rattle.merge_sources.specs.Pairs.{repeats_from};
 ghost use Rattle.merge_sources.specs.Located.{RowsKnown};
+ghost use Rattle.merge.specs.MergeAccepted.{MergeAccepted};
 
 use super::sources;
-use lookup::Sought;
+use merge_sources::{Source, pairs};
 use requests::Held;
+use rules::Record;
 use rules::codes::{ADJUSTED, MERGE};
-use rules::{Record, Reply};
+use rules::refusals::Confirmation;
 use tables::{positions, records};
 
 // Each source becomes status 1, in the row that was kept.
-fn adjust_sources(records: &mut [i64], pairs: &[i64], rows: &[u16])
-    requires { (sound_record_rows records.old ≡ true) × (all_found records.old pairs.now ≡ true) × (any_of (map is_not_adjustable (source_records records.old pairs.now)) ≡ false) × (any_of (repeats_from [] (pairs_of pairs.now)) ≡ false) × RowsKnown records.old pairs.now rows.now }
+fn adjust_sources(records: &mut [i64], pairs: &[i64], sources: &[Source])
+    requires { (sound_record_rows records.old ≡ true) × (all_found records.old pairs.now ≡ true) × (any_of (map is_not_adjustable (source_records records.old pairs.now)) ≡ false) × (any_of (repeats_from [] (pairs_of pairs.now)) ≡ false) × RowsKnown records.old pairs.now sources.now }
     ensures { (records.new ≡ write records_layout records.old (upsert_all record_key (map adjusted_record (source_records records.old pairs.now)) (rows_of records_layout records.old))) × (sound_record_rows records.new ≡ true) }
 {
-    let count = pairs.len() / 2;
-    let mut i = 0;
-    while i < count {
-        let row = rows[i] as usize;
-        records::set_status(&mut *records, row, ADJUSTED);
-        i += 1;
+    for source in &sources[..pairs.len() / 2] {
+        records::set_status(&mut *records, source.row as usize, ADJUSTED);
     }
 }
 
@@ -44,13 +41,13 @@ fn insert_inverse(records: &mut [i64], today: i64, id: i64, suffix: i64, into: i
     requires { (sound_record_rows records.old ≡ true) × (is_some (find record_key (key_of id suffix) (rows_of records_layout records.old)) ≡ true) × (sound_record (inverse_named today records.old (key_of id suffix) into) ≡ true) × (length (rows_of records_layout records.old) < room_of records_layout records.old) }
     ensures { (records.new ≡ write records_layout records.old (upsert record_key (inverse_named today records.old (key_of id suffix) into) (rows_of records_layout records.old))) × (sound_record_rows records.new ≡ true) }
 {
-    let Sought::Present(row, greatest, place) = records::look_up(records, id, suffix) else {
+    let Ok(there) = records::look_up(records, id, suffix) else {
         // Never reached: the source has its record, by the second premise.
         return;
     };
-    let named = requests::record_named(records, id, suffix, row, greatest, place);
+    let named = requests::record_named(records, id, suffix, there);
     let inverse = requests::inverse_record(today, named.record, named.next, MERGE, 0, 0, into);
-    records::insert_record(records, place, inverse);
+    records::insert_record(records, there.next, inverse);
 }
 
 // Each source gets its inverse row, in list order.
@@ -58,11 +55,8 @@ fn insert_inverses(records: &mut [i64], today: i64, pairs: &[i64], into: i64)
     requires { (sound_record_rows records.old ≡ true) × (all_found records.old pairs.now ≡ true) × (all_of (map sound_record (merge_inverses today into [] (sources_in records.old pairs.now))) ≡ true) × (length (rows_of records_layout records.old) + length (pairs_of pairs.now) ≤ room_of records_layout records.old) }
     ensures { (records.new ≡ write records_layout records.old (upsert_all record_key (merge_inverses today into [] (sources_in records.old pairs.now)) (rows_of records_layout records.old))) × (sound_record_rows records.new ≡ true) }
 {
-    let sources = pairs.len() / 2;
-    let mut i = 0;
-    while i < sources {
-        insert_inverse(&mut *records, today, pairs[2 * i], pairs[2 * i + 1], into);
-        i += 1;
+    for &[id, suffix] in pairs::in_pairs(pairs) {
+        insert_inverse(&mut *records, today, id, suffix, into);
     }
 }
 
@@ -89,13 +83,11 @@ fn insert_merged(records: &mut [i64], merged: Record)
     requires { (sound_record_rows records.old ≡ true) × (sound_record merged ≡ true) × (find record_key (record_key merged) (rows_of records_layout records.old) ≡ none) × (length (rows_of records_layout records.old) < room_of records_layout records.old) }
     ensures { (records.new ≡ write records_layout records.old (upsert record_key merged (rows_of records_layout records.old))) × (sound_record_rows records.new ≡ true) }
 {
-    let id = merged.id;
-    let suffix = merged.suffix;
-    let Sought::Absent(place, greatest) = records::look_up(records, id, suffix) else {
+    let Err(absent) = records::look_up(records, merged.id, merged.suffix) else {
         // Never reached: the new id has no record, by the third premise.
         return;
     };
-    records::insert_record(records, place, merged);
+    records::insert_record(records, absent.place, merged);
 }
 
 pub fn book(
@@ -106,27 +98,27 @@ pub fn book(
     account: i64,
     series: i64,
     pairs: &[i64],
-    rows: &[u16],
-) -> Reply
-    requires { (sound_records records.old ≡ true) × (sound_positions positions.old ≡ true) × (verdict_on records.old positions.old (Request.merge id account series pairs.now) ≡ Accepted) × RowsKnown records.old pairs.now rows.now × KnownPosition positions.old account series held }
-    ensures { answered result records.new positions.new ≡ accepted_on records.old positions.old (Request.merge id account series pairs.now) }
+    sources: &[Source],
+) -> Confirmation
+    requires { MergeAccepted records.old positions.old held id account series pairs.now sources.now }
+    ensures { answered (confirmed_by result) records.new positions.new ≡ accepted_on records.old positions.old (Request.merge id account series pairs.now) }
 {
     let today = records::today(records);
-    let first = sources::source_record(records, pairs, rows, 0);
-    let quantity = sources::sum_of_quantities(records, pairs, rows);
-    let value = sources::sum_of_values(records, pairs, rows);
+    let first = sources::source_record(records, pairs, sources, 0);
+    let quantity = sources::sum_of_quantities(records, pairs, sources);
+    let value = sources::sum_of_values(records, pairs, sources);
     let price = integers::average(value, quantity);
     let residual = integers::residual(figures::is_buy(first.side), value, quantity);
     let merged = merged_row(today, first, id, quantity, price);
     let m = requests::by_residual(residual);
     let found = held.found;
     let left = requests::moved(held.position, m);
-    adjust_sources(&mut *records, pairs, rows);
+    adjust_sources(&mut *records, pairs, sources);
     insert_inverses(&mut *records, today, pairs, id);
     insert_merged(records, merged);
     positions::write_position(positions, found, left);
     let added = (pairs.len() / 2) as i64 + 1;
-    Reply::Booked {
+    Confirmation::Booked {
         rows: added,
         residual,
     }

@@ -1,6 +1,6 @@
 -- The sources of a merge after they are adjusted: all are found as before, and their inverses are the same rows, since an inverse shows no status. By
 -- induction on the pairs. Assumes nothing.
-use Prim.Native.Nat.{◌+◌, ◌/◌}
+use Prim.Native.Nat.{◌/◌}
 use native.Mathlib.Omega.{arith}
 use mathlib.Core.Path.{◌≡◌, refl, sym, ◌∙◌, ap}
 use mathlib.Core.Bool.{Bool, true, not}

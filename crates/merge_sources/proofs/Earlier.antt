@@ -1,16 +1,21 @@
 -- What stood earlier in the list of pairs, one place at a time: whether a pair is among the earlier ones, and how often an id is. By the definitions and
 -- by induction on the place. Assumes nothing.
-use Prim.Native.Nat.{ℕ, zero, suc, ◌+◌, ◌-◌, ◌/◌, ◌≤◌, ◌<◌}
+use Prim.Native.Nat.{ℕ, zero, suc, ◌+◌, ◌/◌, ◌≤◌, ◌<◌}
+use native.Mathlib.Numerals.{add-one}
 use native.Mathlib.Omega.{arith}
-use mathlib.Core.Path.{◌≡◌, refl, sym, ◌∙◌, ap, subst}
+use mathlib.Core.Path.{◌≡◌, refl, sym, ◌∙◌, ap, ap₂, subst}
 use mathlib.Core.Bool.{Bool, true, false, cond, ◌||◌}
-use mathlib.Core.List.{List, [], ◌∷◌}
+use mathlib.Core.List.{List, [], ◌∷◌, ◌++◌, map}
 use mathlib.Core.Logic.{◌⊎◌, inl, inr}
 use borrow.Author.Tests.{ltb-true, ltb-false}
 use lib.Dec.{ltb}
 use lib.IntN.{ℤ, pos, ◌+ℤ◌}
-use lib.ListN.{length, get_or}
+use lib.ListN.{length, get_or, take, length-map}
+use lib.Seq.{take-suc}
 use lib.Signed.{◌≤ℤ◌}
+use Rattle.std.specs.List.{filter, count_by}
+use Rattle.std.proofs.lemmas.List.{map-append}
+use Rattle.std.proofs.lemmas.List.Sums.{length-filter, count_by_more_yes, count_by_more_no}
 use Rattle.integers.specs.Order.{eq_z}
 use Rattle.integers.proofs.Linear.{zarith, +-lin}
 use Rattle.rules.specs.Keyed.{Key, same}
@@ -18,11 +23,23 @@ use Rattle.rules.specs.Merge.{pairs_of, is_among, times_in, stood_earlier}
 use Rattle.rules.specs.declared.Record.{Record}
 use Rattle.keys.proofs.Split.{split, or_left, or_right}
 use Rattle.merge_sources.specs.Sources.{sources_at, sources_in}
-use Rattle.merge_sources.specs.Pairs.{pair_at, earlier_pairs, earlier_ids, stands_earlier, times_earlier, repeats_from}
+use Rattle.merge_sources.specs.Pairs.{pair_of, has_id, pair_at, earlier_pairs, earlier_ids, stands_earlier, times_earlier, repeats_from}
 use Rattle.merge_sources.proofs.PairList.{pair-count, pair-at}
+use Rattle.merge_sources.proofs.SourceList.{map_at}
 use Rattle.merge_sources.proofs.Threaded.{threaded, length-threaded, threaded-at}
 
 -- ---- among the earlier pairs
+
+-- The last of a list may as well stand first.
+among-last : (k : Key) (earlier : List Key) (e : Key) → is_among k (earlier ++ (e ∷ [])) ≡ (same k e || is_among k earlier)
+unfolding is_among
+among-last k [] e = refl
+among-last k (x ∷ rest) e = rw (among-last k rest e) (swapped (same k x) (same k e) (is_among k rest))
+  where
+    swapped : (a b c : Bool) → (a || (b || c)) ≡ (b || (a || c))
+    swapped true true c = refl
+    swapped true false c = refl
+    swapped false b c = refl
 
 pub among_none : (k : Key) (pairs : List ℤ) → is_among k (earlier_pairs pairs 0) ≡ false
 unfolding is_among earlier_pairs
@@ -49,18 +66,6 @@ earlier-among pairs (suc i) j k h s = among-more k pairs i ∙ go (earlier-among
         let e : j ≡ i = omega arith in
         or_left (is_among k (earlier_pairs pairs i)) (subst (λ (n : ℕ). same k (pair_at pairs n) ≡ true) e s)
 
--- Read from the nearest on: the pair before place j is the one, or what is left is asked.
-pub earlier-here : (k : Key) (pairs : List ℤ) (j : ℕ) → 0 < j → same k (pair_at pairs (j - 1)) ≡ true → is_among k (earlier_pairs pairs j) ≡ true
-earlier-here k pairs j h s = earlier-among pairs j (j - 1) k (omega arith) s
-
-pub earlier-there : (k : Key) (pairs : List ℤ) (j : ℕ) → 0 < j → same k (pair_at pairs (j - 1)) ≡ false → is_among k (earlier_pairs pairs j) ≡ is_among k (earlier_pairs pairs (j - 1))
-earlier-there k pairs j h s =
-    let e : j ≡ suc (j - 1) = omega arith in
-    ap (λ (n : ℕ). is_among k (earlier_pairs pairs n)) e ∙ among-more k pairs (j - 1) ∙ ap (λ (b : Bool). b || is_among k (earlier_pairs pairs (j - 1))) s
-
-pub earlier-nowhere : (k : Key) (pairs : List ℤ) (j : ℕ) → j ≤ 0 → is_among k (earlier_pairs pairs j) ≡ false
-earlier-nowhere k pairs j h = let e : j ≡ 0 = omega arith in ap (λ (n : ℕ). is_among k (earlier_pairs pairs n)) e ∙ among_none k pairs
-
 -- ---- how often an id stood earlier
 
 pub times_none : (pairs : List ℤ) (id : ℤ) → times_in (earlier_ids pairs 0) id ≡ pos 0
@@ -70,29 +75,6 @@ times_none pairs id = refl
 pub times_more : (pairs : List ℤ) (j : ℕ) (id : ℤ) → times_in (earlier_ids pairs (suc j)) id ≡ cond (eq_z (pair_at pairs j).major id) (pos 1) (pos 0) +ℤ times_in (earlier_ids pairs j) id
 unfolding times_in earlier_ids
 times_more pairs j id = refl
-
--- Read from the nearest on: n counted so far, and those before place j.
-pub times-here : (pairs : List ℤ) (j : ℕ) (id n : ℤ) → 0 < j → eq_z (pair_at pairs (j - 1)).major id ≡ true →
-    (n +ℤ pos 1) +ℤ times_in (earlier_ids pairs (j - 1)) id ≡ n +ℤ times_in (earlier_ids pairs j) id
-times-here pairs j id n h t =
-    let e : suc (j - 1) ≡ j = omega arith in
-    let s : ℤ = times_in (earlier_ids pairs (j - 1)) id in
-    omega (zarith, +-lin (n +ℤ pos 1) s, +-lin n (pos 1), +-lin n (pos 1 +ℤ s), +-lin (pos 1) s)
-    ∙ ap (λ (z : ℤ). n +ℤ z)
-    (sym (times_more pairs (j - 1) id ∙ ap (λ (b : Bool). cond b (pos 1) (pos 0) +ℤ s) t) ∙ ap (λ (m : ℕ). times_in (earlier_ids pairs m) id) e)
-
-pub times-there : (pairs : List ℤ) (j : ℕ) (id n : ℤ) → 0 < j → eq_z (pair_at pairs (j - 1)).major id ≡ false →
-    n +ℤ times_in (earlier_ids pairs (j - 1)) id ≡ n +ℤ times_in (earlier_ids pairs j) id
-times-there pairs j id n h t =
-    let e : suc (j - 1) ≡ j = omega arith in
-    let s : ℤ = times_in (earlier_ids pairs (j - 1)) id in
-    ap (λ (z : ℤ). n +ℤ z)
-    (omega (zarith, +-lin (pos 0) s) ∙ sym (times_more pairs (j - 1) id ∙ ap (λ (b : Bool). cond b (pos 1) (pos 0) +ℤ s) t) ∙ ap (λ (m : ℕ). times_in (earlier_ids pairs m) id) e)
-
-pub times-nowhere : (pairs : List ℤ) (j : ℕ) (id n : ℤ) → j ≤ 0 → n +ℤ times_in (earlier_ids pairs j) id ≡ n
-times-nowhere pairs j id n h =
-    let e : j ≡ 0 = omega arith in
-    ap (λ (m : ℕ). n +ℤ times_in (earlier_ids pairs m) id) e ∙ ap (λ (z : ℤ). n +ℤ z) (times_none pairs id) ∙ omega (zarith, +-lin n (pos 0))
 
 pub times-earlier : (pairs : List ℤ) (i : ℕ) → times_earlier pairs i ≡ times_in (earlier_ids pairs i) (pair_at pairs i).major
 unfolding times_earlier
@@ -131,6 +113,53 @@ repeat-at pairs i h =
     ∙ threaded-at among_earlier (λ (k : Key). k) (pairs_of pairs) (earlier_pairs pairs) i other false
     (λ j k. ap (λ (e : Key). e ∷ earlier_pairs pairs j) (sym (pair-at pairs j other (omega (arith, pair-count pairs))))) (omega (arith, pair-count pairs))
     ∙ ap (λ (k : Key). is_among k (earlier_pairs pairs i)) (pair-at pairs i other h)
+
+-- ---- the list as arrays of two
+
+module _ (pairs : List ℤ) (list : List (List ℤ)) (is : map pair_of list ≡ pairs_of pairs) where
+  listed-count : length list ≡ length pairs / 2
+  listed-count = sym (length-map list pair_of) ∙ ap (λ (l : List Key). length l) is ∙ pair-count pairs
+
+  pub listed-at : (i : ℕ) → i < length list → pair_of (get_or list i []) ≡ pair_at pairs i
+  listed-at i h =
+      let k : Key = pair_of (get_or list i []) in
+      sym (map_at pair_of list i [] k h) ∙ ap (λ (l : List Key). get_or l i k) is ∙ pair-at pairs i k (omega (arith, listed-count))
+
+  -- Among the first so many, in the list's order and from the nearest on.
+  among-listed : (k : Key) (i : ℕ) → i ≤ length list → is_among k (map pair_of (take i list)) ≡ is_among k (earlier_pairs pairs i)
+  unfolding is_among
+  among-listed k zero h = sym (among_none k pairs)
+  among-listed k (suc i) h =
+      let lt : i < length list = omega arith in
+      ap (λ (l : List (List ℤ)). is_among k (map pair_of l)) (take-suc list i [] lt)
+      ∙ ap (is_among k) (map-append pair_of (take i list) (get_or list i [] ∷ []))
+      ∙ among-last k (map pair_of (take i list)) (pair_of (get_or list i []))
+      ∙ ap₂ (λ (e : Key) (b : Bool). same k e || b) (listed-at i lt) (among-listed k i (omega arith))
+      ∙ sym (among-more k pairs i)
+
+  pub repeat-listed : (i : ℕ) → i < length list → get_or (repeats_from [] (pairs_of pairs)) i false ≡ is_among (pair_of (get_or list i [])) (map pair_of (take i list))
+  repeat-listed i h =
+      repeat-at pairs i (omega (arith, listed-count)) ∙ stands-earlier pairs i
+      ∙ ap (λ (k : Key). is_among k (earlier_pairs pairs i)) (sym (listed-at i h))
+      ∙ sym (among-listed (pair_of (get_or list i [])) i (omega arith))
+
+  pub times-listed : (id : ℤ) (i : ℕ) → i ≤ length list → pos (length (filter (has_id id) (take i list))) ≡ times_in (earlier_ids pairs i) id
+  times-listed id i h = ap pos (length-filter (has_id id) (take i list)) ∙ counted i h
+    where
+      one : (b : Bool) (n m : ℕ) (z : ℤ) → (b ≡ true → n ≡ m + 1) → (b ≡ false → n ≡ m) → pos m ≡ z → pos n ≡ cond b (pos 1) (pos 0) +ℤ z
+      one true n m z f g e = let k : n ≡ m + 1 = f refl in omega (zarith, +-lin (pos 1) z, k)
+      one false n m z f g e = let k : n ≡ m = g refl in omega (zarith, +-lin (pos 0) z, k)
+
+      counted : (i : ℕ) → i ≤ length list → pos (count_by (has_id id) (take i list)) ≡ times_in (earlier_ids pairs i) id
+      counted zero h = sym (times_none pairs id)
+      counted (suc i) h =
+          let lt : i < length list = omega arith in
+          one (has_id id (get_or list i [])) (count_by (has_id id) (take (suc i) list)) (count_by (has_id id) (take i list)) (times_in (earlier_ids pairs i) id)
+          (λ e. ap (λ (n : ℕ). count_by (has_id id) (take n list)) (sym (add-one i)) ∙ count_by_more_yes (has_id id) list i [] lt e)
+          (λ e. ap (λ (n : ℕ). count_by (has_id id) (take n list)) (sym (add-one i)) ∙ count_by_more_no (has_id id) list i [] lt e)
+          (counted i (omega arith))
+          ∙ ap (λ (k : Key). cond (eq_z k.major id) (pos 1) (pos 0) +ℤ times_in (earlier_ids pairs i) id) (listed-at i lt)
+          ∙ sym (times_more pairs i id)
 
 -- The rules' test is this one.
 pub stood-earlier : (rows : List Record) (earlier ks : List Key) → stood_earlier earlier (sources_at rows ks) ≡ repeats_from earlier ks

@@ -1,6 +1,6 @@
 -- The inverse rows of a merge, place by place, and test 13: the suffixes that they would need do not depend on the new id, and the merged row has suffix 0.
 -- By induction on the sources. Assumes nothing.
-use Prim.Native.Nat.{ℕ, ◌+◌, ◌/◌, ◌<◌}
+use Prim.Native.Nat.{ℕ, ◌/◌, ◌<◌}
 use native.Mathlib.Omega.{arith}
 use mathlib.Core.Path.{◌≡◌, refl, sym, ◌∙◌, ap}
 use mathlib.Core.Bool.{Bool, false, ◌||◌}
@@ -81,12 +81,16 @@ pub suffixes-above : (today id : ℤ) (rs : List Record) (sources : List Source)
 suffixes-above today id rs sources =
     any_last (merge_inverses today id [] sources) (merged_record today id rs) (merged-suffix today id rs) ∙ ap any_of (suffixes-alike today id (pos 0) (pos 0) [] sources)
 
-pub suffix-count : (cells pairs : List ℤ) → length (map suffix_is_above (merge_inverses (pos 0) (pos 0) [] (sources_in cells pairs))) ≡ length pairs / 2
+-- The test of each source's inverse.
+abbrev pub above : List ℤ → List ℤ → List Bool
+above cells pairs = map suffix_is_above (merge_inverses (pos 0) (pos 0) [] (sources_in cells pairs))
+
+pub suffix-count : (cells pairs : List ℤ) → length (above cells pairs) ≡ length pairs / 2
 suffix-count cells pairs =
     length-map (merge_inverses (pos 0) (pos 0) [] (sources_in cells pairs)) suffix_is_above ∙ inverse-count (pos 0) (pos 0) [] (sources_in cells pairs) ∙ source-count cells pairs
 
 pub suffix-at : (cells pairs : List ℤ) (i : ℕ) → i < length pairs / 2 →
-    get_or (map suffix_is_above (merge_inverses (pos 0) (pos 0) [] (sources_in cells pairs))) i false
+    get_or (above cells pairs) i false
     ≡ lt_z greatest_of_suffixes (next_of (rows_of records_layout cells) (pair_at pairs i).major +ℤ times_earlier pairs i)
 unfolding suffix_is_above inverse_record
 suffix-at cells pairs i h =

@@ -5,7 +5,6 @@ pub mod SourceList
 pub mod SourceRows
 pub mod Sums
 pub mod SumRanges
-pub mod PairTests
 pub mod SourceSums
 pub mod SourceTests
 pub mod Threaded

@@ -29,7 +29,7 @@ use Rattle.soundness.proofs.BookingFacts.{PlanFacts}
 use Rattle.soundness.proofs.Merge.{merge-facts}
 use Rattle.soundness.proofs.MergeAccepted.{MergePassed, merge-passed}
 use Rattle.verdict.specs.Verdict.{verdict_on}
-use Rattle.verdict.specs.declared.Verdict.TheVariants.{Accepted}
+use Rattle.verdict.specs.Verdict.{Accepted}
 use Rattle.verdict.proofs.Acceptance.{sound-books, accepted-accepts}
 use Rattle.merge_sources.specs.Sources.{sources_in}
 use Rattle.merge_sources.proofs.PairList.{pair-count}

@@ -2,15 +2,16 @@
 use Prim.Native.Nat.{ℕ, zero, suc, ◌+◌, ◌*◌, ◌/◌, ◌<◌}
 use native.Mathlib.Numerals.{add-one}
 use native.Mathlib.Omega.{arith}
-use mathlib.Core.Path.{◌≡◌, refl, sym, ◌∙◌, ap₂}
-use mathlib.Core.List.{List, [], ◌∷◌}
+use mathlib.Core.Path.{◌≡◌, refl, sym, ◌∙◌, ap, ap₂}
+use mathlib.Core.List.{List, [], ◌∷◌, map}
 use lib.IntN.{ℤ, pos}
 use lib.ListN.{length, get_or, drop}
 use lib.Seq.{drop-cons}
 use Rattle.rules.specs.Keyed.{Key}
 use Rattle.rules.specs.Rows.{key_of}
 use Rattle.rules.specs.Merge.{pairs_of}
-use Rattle.merge_sources.specs.Pairs.{pair_at}
+use Rattle.std.specs.Simd.{first_chunks}
+use Rattle.merge_sources.specs.Pairs.{pair_of, pair_at}
 
 pub pair-count : (pairs : List ℤ) → length (pairs_of pairs) ≡ length pairs / 2
 unfolding pairs_of
@@ -39,3 +40,16 @@ pairs-from pairs i h =
     let there : i < length (pairs_of pairs) = omega (arith, pair-count pairs) in
     drop-cons (pairs_of pairs) i (pair_at pairs i) there
     ∙ ap₂ (λ (k : Key) (n : ℕ). k ∷ drop n (pairs_of pairs)) (pair-at pairs i (pair_at pairs i) h) (sym (add-one i))
+
+-- ---- the list as arrays of two
+
+half-more : (n : ℕ) → suc (suc n) / 2 ≡ suc (n / 2)
+half-more n = omega arith
+
+pub chunks-pairs : (figures : List ℤ) → map pair_of (first_chunks 2 (length figures / 2) figures) ≡ pairs_of figures
+unfolding pairs_of
+chunks-pairs [] = refl
+chunks-pairs (id ∷ []) = refl
+chunks-pairs (id ∷ suffix ∷ rest) =
+    ap (λ (n : ℕ). map pair_of (first_chunks 2 n (id ∷ suffix ∷ rest))) (half-more (length rest))
+    ∙ ap (λ (l : List Key). key_of id suffix ∷ l) (chunks-pairs rest)

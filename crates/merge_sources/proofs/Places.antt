@@ -1,5 +1,5 @@
 -- A list of tests read from the front: while none of the first i holds, one more is read; the first that holds is the place, and at the end there is none.
--- The same of tests that must all hold. By induction on the list. Assumes nothing.
+-- Where tests must all hold, each does. By induction on the list. Assumes nothing.
 use Prim.Native.Nat.{ℕ, zero, suc, ◌+◌, ◌≤◌, ◌<◌}
 use native.Mathlib.Numerals.{add-one}
 use native.Mathlib.Omega.{arith}
@@ -8,10 +8,11 @@ use mathlib.Core.Bool.{Bool, true, false}
 use mathlib.Core.List.{List, [], ◌∷◌}
 use lib.ListN.{length, get_or, take}
 use lib.Seq.{take_all}
+use Rattle.std.specs.Prelude.{Option, Some, None}
+use Rattle.std.specs.Option.{MatchOption}
 use Rattle.rules.specs.Refusal.{any_of, all_of, first_place}
 use Rattle.keys.proofs.Split.{clash}
-use Rattle.merge_sources.specs.Sources.{place_of}
-use Rattle.merge_sources.specs.declared.Place.TheVariants.{At, Nowhere}
+use Rattle.merge_sources.specs.Sources.{At, Nowhere, told, place_of}
 
 -- ---- tests of which none may hold
 
@@ -69,6 +70,18 @@ place_here fails i h none e = place-somewhere fails (one_holds fails i h e) ∙ 
 pub place-at-last : (fails : List Bool) (i : ℕ) → length fails ≤ i → any_of (take i fails) ≡ false → place_of fails ≡ Nowhere
 place-at-last fails i h none = place-nowhere fails (none-at-last fails i h none)
 
+-- The first place where a test holds, as a search of the places finds it.
+each-before : (fails : List Bool) (i : ℕ) → i ≤ length fails → ((k : ℕ) → k < i → get_or fails k false ≡ false) → any_of (take i fails) ≡ false
+each-before fails zero h each = none-at-first fails
+each-before fails (suc i) h each = none-of-more fails i (omega arith) (each-before fails i (omega arith) (λ k lt. each k (omega arith))) (each i (omega arith))
+
+pub place-found : (fails : List Bool) (test : ℕ → Bool) (n : ℕ) (r : Option ℕ) → n ≡ length fails → ((i : ℕ) → i < n → get_or fails i false ≡ test i) →
+    MatchOption r ((k : ℕ) → 0 ≤ k → k < n → test k ≡ false) (λ i. (0 ≤ i) × (i < n) × (test i ≡ true) × ((k : ℕ) → 0 ≤ k → k < i → test k ≡ false)) → told r ≡ place_of fails
+place-found fails test n None many at none =
+    sym (place-at-last fails n (omega (arith, many)) (each-before fails n (omega (arith, many)) (λ k lt. at k lt ∙ none k (omega arith) lt)))
+place-found fails test n (Some i) many at (low, within, here, before) =
+    sym (place_here fails i (omega (arith, many, within)) (each-before fails i (omega (arith, many, within)) (λ k lt. at k (omega (arith, within)) ∙ before k (omega arith) lt)) (at i within ∙ here))
+
 -- What an answer says of the tests.
 pub place-tells : (fails : List Bool) (i : ℕ) → place_of fails ≡ At i → (any_of fails ≡ true) × (first_place fails ≡ i)
 unfolding place_of
@@ -95,30 +108,6 @@ nowhere-tells fails e = go (any_of fails) refl
     go false t = t
 
 -- ---- tests that must all hold
-
-pub all-at-first : (holds : List Bool) → all_of (take 0 holds) ≡ true
-unfolding all_of
-all-at-first holds = refl
-
-all-of-more : (holds : List Bool) (i : ℕ) → i < length holds → all_of (take i holds) ≡ true → get_or holds i true ≡ true → all_of (take (suc i) holds) ≡ true
-unfolding all_of
-all-of-more [] i h all e = refl
-all-of-more (b ∷ rest) zero h all e = rw e
-all-of-more (true ∷ rest) (suc i) h all e = all-of-more rest i (omega arith) all e
-all-of-more (false ∷ rest) (suc i) h all e = all
-
-pub all-next : (holds : List Bool) (i : ℕ) → i < length holds → all_of (take i holds) ≡ true → get_or holds i true ≡ true → all_of (take (i + 1) holds) ≡ true
-all-next holds i h all e = ap (λ (n : ℕ). all_of (take n holds)) (add-one i) ∙ all-of-more holds i h all e
-
-pub all-at-last : (holds : List Bool) (i : ℕ) → length holds ≤ i → all_of (take i holds) ≡ true → all_of holds ≡ true
-all-at-last holds i h all = ap all_of (sym (take_all i holds h)) ∙ all
-
-pub one-fails : (holds : List Bool) (i : ℕ) → i < length holds → get_or holds i true ≡ false → all_of holds ≡ false
-unfolding all_of
-one-fails [] i h e = absurd (omega arith)
-one-fails (b ∷ rest) zero h e = rw e
-one-fails (true ∷ rest) (suc i) h e = one-fails rest i (omega arith) e
-one-fails (false ∷ rest) (suc i) h e = refl
 
 pub all_hold : (holds : List Bool) (i : ℕ) → i < length holds → all_of holds ≡ true → get_or holds i true ≡ true
 unfolding all_of

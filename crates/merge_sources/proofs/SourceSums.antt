@@ -1,11 +1,12 @@
 -- The records of a merge's sources in a sound table: each is sound, and every step of the two sums fits an `i64`; where the sum of quantities is at most
 -- 1,000,000 the average and the residual can be taken. By the ranges of the figures. Assumes nothing.
-use Prim.Native.Nat.{ℕ, ◌*◌, ◌/◌, ◌≤◌, ◌<◌}
+use Prim.Native.Nat.{ℕ, ◌+◌, ◌/◌, ◌≤◌, ◌<◌}
 use native.Mathlib.Omega.{arith}
-use mathlib.Core.Path.{◌≡◌, ◌∙◌, ap, subst}
+use mathlib.Core.Path.{◌≡◌, sym, ◌∙◌, ap, subst}
 use mathlib.Core.Bool.{true, false}
 use mathlib.Core.List.{List, [], ◌∷◌, map}
-use lib.IntN.{ℤ, pos, ◌*ℤ◌}
+use mathlib.Core.Option.{some}
+use lib.IntN.{ℤ, pos, ◌+ℤ◌, ◌*ℤ◌}
 use lib.ListN.{length, take, length-take}
 use lib.Signed.{◌≤ℤ◌}
 use mir.Syntax.{w64}
@@ -14,6 +15,7 @@ use Rattle.integers.specs.Averageable.{Averageable}
 use Rattle.integers.proofs.Linear.{zarith, abs-lin}
 use Rattle.integers.proofs.Products.{sfits-of-bound, mul-sfits}
 use Rattle.rules.specs.Figures.{most_quantity}
+use Rattle.rules.specs.Keyed.{find}
 use Rattle.rules.specs.Rows.{record_key, sound_record}
 use Rattle.rules.specs.NamedRecord.{no_record, is_not_adjustable}
 use Rattle.rules.specs.Refusal.{any_of, all_of}
@@ -28,8 +30,8 @@ use Rattle.soundness.proofs.NamedRecord.{record_of}
 use Rattle.merge_sources.specs.Sources.{all_found, source_records}
 use Rattle.merge_sources.specs.Pairs.{pair_at}
 use Rattle.merge_sources.proofs.Each.{Each, each_at, at_each, each_take}
-use Rattle.merge_sources.proofs.SourceList.{record-count, record-at, source-found}
-use Rattle.merge_sources.proofs.Sums.{sum_over, quantity_of, value_of, quantities-sum}
+use Rattle.merge_sources.proofs.SourceList.{record-count, record-at, record-found, source-found}
+use Rattle.merge_sources.proofs.Sums.{sum_over, quantity_of, value_of, quantities-sum, sum-next}
 use Rattle.merge_sources.proofs.SumRanges.{Sized, each-sized, Priced, each-priced, quantities-range, partial-value, averageable}
 
 all_of_each : (rs : List Record) → Each (λ (r : Record). sound_record r ≡ true) rs → all_of (map sound_record rs) ≡ true
@@ -84,3 +86,18 @@ module _ (cells pairs : List ℤ) (sound : sound_record_rows cells ≡ true) (al
 
       pub sources-averageable : 0 < length pairs / 2 → Averageable (sum_of_values (source_records cells pairs)) (sum_of_quantities (source_records cells pairs))
       sources-averageable h = averageable rs priced-sources (omega (arith, record-count cells pairs)) small
+
+-- One more source, by a figure of its record.
+pub sum-one-more : (figure : Record → ℤ) (cells pairs : List ℤ) (i : ℕ) (r : Record) (sum : ℤ) → i < length pairs / 2 → find record_key (pair_at pairs i) (rows_of records_layout cells) ≡ some r →
+    sum ≡ sum_over figure (take i (source_records cells pairs)) → sum +ℤ figure r ≡ sum_over figure (take (i + 1) (source_records cells pairs))
+sum-one-more figure cells pairs i r sum h e so_far =
+    ap (λ (z : ℤ). z +ℤ figure r) so_far
+    ∙ ap (λ (x : Record). sum_over figure (take i (source_records cells pairs)) +ℤ figure x) (sym (record-found cells pairs i h r e))
+    ∙ sym (sum-next figure (source_records cells pairs) i no_record (omega (arith, record-count cells pairs, h)))
+
+-- Its value fits, where every source is adjustable.
+pub source-value-fits : (cells pairs : List ℤ) → sound_record_rows cells ≡ true → all_found cells pairs ≡ true → any_of (map is_not_adjustable (source_records cells pairs)) ≡ false →
+    (i : ℕ) (r : Record) → i < length pairs / 2 → find record_key (pair_at pairs i) (rows_of records_layout cells) ≡ some r → SFits w64 (r.quantity *ℤ r.price)
+source-value-fits cells pairs sound all adjustable i r h e =
+    value-fits cells pairs sound all adjustable r
+    (subst Priced (sym (record-at cells pairs i h no_record) ∙ record-found cells pairs i h r e) (source-priced cells pairs sound all adjustable i h))

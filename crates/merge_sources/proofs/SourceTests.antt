@@ -1,76 +1,26 @@
--- The tests that one function makes by their number are tests 6, 7, 8 and 10 of the rules; and the number of the status test, 7 or 17, is that of the source at the place that it gives.
--- By the definitions. Assumes nothing.
-use Prim.Native.Nat.{ℕ, suc}
-use mathlib.Core.Path.{◌≡◌, refl, ◌∙◌, ap}
-use mathlib.Core.Bool.{Bool, true, false, cond, not, ◌||◌, beq}
+-- The number of the status test, 7 or 17, is that of the source at the place that it gives. By induction on the records. Assumes nothing.
+use Prim.Native.Nat.{ℕ, suc, ◌/◌, ◌≤◌, ◌<◌}
+use native.Mathlib.Omega.{arith}
+use mathlib.Core.Path.{◌≡◌, refl, sym, ◌∙◌, ap}
+use mathlib.Core.Bool.{Bool, true, false, cond, ◌||◌}
 use mathlib.Core.List.{List, [], ◌∷◌, map}
-use lib.IntN.{ℤ, pos}
-use lib.ListN.{get_or}
-use Rattle.integers.specs.Order.{eq_z}
-use Rattle.rules.specs.Figures.{is_buy, is_to_close}
-use Rattle.rules.specs.NamedRecord.{no_record, is_elsewhere, is_not_adjustable, status_refusal}
+use mathlib.Core.Option.{some}
+use lib.IntN.{ℤ}
+use lib.ListN.{length, get_or, length-map}
+use Rattle.std.specs.Prelude.{Some, None}
+use Rattle.rules.specs.Keyed.{find}
+use Rattle.rules.specs.Rows.{record_key}
+use Rattle.rules.specs.Layout.{rows_of}
+use Rattle.rules.specs.Tables.{records_layout}
+use Rattle.rules.specs.NamedRecord.{no_record, is_not_adjustable, status_refusal}
 use Rattle.rules.specs.Refusal.{any_of, first_place}
-use Rattle.rules.specs.Merge.{first_status_refusal, closes, side_differs}
+use Rattle.rules.specs.Merge.{first_status_refusal}
 use Rattle.rules.specs.declared.Record.{Record}
 use Rattle.keys.proofs.Split.{clash}
-use Rattle.merge_sources.specs.Sources.{place_of, fails_test}
-use Rattle.merge_sources.specs.declared.Place.TheVariants.{At}
-use Rattle.merge_sources.proofs.Places.{place-tells}
-
--- ---- by a number that is compared in turn
-
-beq-true : (b : Bool) → beq b true ≡ b
-beq-true true = refl
-beq-true false = refl
-
-beq-false : (b : Bool) → not (beq b false) ≡ b
-beq-false true = refl
-beq-false false = refl
-
-module _ (number account series : ℤ) (buy : Bool) (r : Record) where
-  pub is-test-6 : eq_z number (pos 6) ≡ true → fails_test number account series buy r ≡ is_elsewhere account series r
-  unfolding fails_test
-  is-test-6 e = rw e
-
-  module _ (not-6 : eq_z number (pos 6) ≡ false) where
-    pub is-test-7 : eq_z number (pos 7) ≡ true → fails_test number account series buy r ≡ is_not_adjustable r
-    unfolding fails_test
-    is-test-7 e = rw (not-6, e)
-
-    module _ (not-7 : eq_z number (pos 7) ≡ false) where
-      pub is-test-8 : eq_z number (pos 8) ≡ true → fails_test number account series buy r ≡ is_to_close r.side
-      unfolding fails_test closes
-      is-test-8 e = rw (not-6, not-7, e)
-
-      module _ (not-8 : eq_z number (pos 8) ≡ false) where
-        pub is-test-of-sells : buy ≡ true → fails_test number account series buy r ≡ not (is_buy r.side)
-        unfolding fails_test
-        is-test-of-sells e = rw (not-6, not-7, not-8, e) (ap not (beq-true (is_buy r.side)))
-
-        pub is-test-of-buys : buy ≡ false → fails_test number account series buy r ≡ is_buy r.side
-        unfolding fails_test
-        is-test-of-buys e = rw (not-6, not-7, not-8, e) (beq-false (is_buy r.side))
-
--- ---- by the number that the verdict gives
-
-module _ (account series : ℤ) (buy : Bool) where
-  pub fails-6 : fails_test (pos 6) account series buy ≡ is_elsewhere account series
-  unfolding fails_test eq_z
-  fails-6 = refl
-
-  pub fails-7 : fails_test (pos 7) account series buy ≡ is_not_adjustable
-  unfolding fails_test eq_z
-  fails-7 = refl
-
-  pub fails-8 : fails_test (pos 8) account series buy ≡ closes
-  unfolding fails_test eq_z
-  fails-8 = refl
-
-  pub fails-10 : (first : Record) → buy ≡ is_buy first.side → fails_test (pos 10) account series buy ≡ side_differs first
-  unfolding fails_test eq_z side_differs
-  fails-10 first e = λ i r. not (beq (is_buy r.side) (e i))
-
--- ---- the number of the status test
+use Rattle.merge_sources.specs.Sources.{At, told, place_of, IsTest, source_records}
+use Rattle.merge_sources.specs.Pairs.{pair_at}
+use Rattle.merge_sources.proofs.Places.{place-found, place-tells}
+use Rattle.merge_sources.proofs.SourceList.{found-record, record-count, record-test}
 
 first-status : (rs : List Record) → any_of (map is_not_adjustable rs) ≡ true → first_status_refusal rs ≡ status_refusal (get_or rs (first_place (map is_not_adjustable rs)) no_record).status
 unfolding any_of first_place first_status_refusal
@@ -89,3 +39,30 @@ pub status-at : (rs : List Record) (i : ℕ) → place_of (map is_not_adjustable
 status-at rs i e =
     let t : (any_of (map is_not_adjustable rs) ≡ true) × (first_place (map is_not_adjustable rs) ≡ i) = place-tells (map is_not_adjustable rs) i e in
     first-status rs t.0 ∙ ap (λ (n : ℕ). status_refusal (get_or rs n no_record).status) t.1
+
+-- ---- a test of the code on one source after the other
+
+module _ (cells pairs : List ℤ) (answers : Record → Bool → Type 0) where
+  -- What the test answers of the record of the source at a place.
+  abbrev pub Answered : Bool → ℕ → Type 0
+  Answered b i = (r : Record) × (find record_key (pair_at pairs i) (rows_of records_layout cells) ≡ some r) × answers r b
+
+  module _ (test : Record → Bool) (is : IsTest answers test) where
+    abbrev fails : List Bool
+    fails = map test (source_records cells pairs)
+
+    many : length pairs / 2 ≡ length fails
+    many = sym (length-map (source_records cells pairs) test ∙ record-count cells pairs)
+
+    answered-at : (i : ℕ) → i < length pairs / 2 → (b : Bool) → Answered b i → get_or fails i false ≡ b
+    answered-at i h b (r, e, a) =
+        record-test cells pairs i h test ∙ ap test (found-record (find record_key (pair_at pairs i) (rows_of records_layout cells)) r e) ∙ sym (is r b a)
+
+    pub fails-first : (i : ℕ) → i < length pairs / 2 → ((k : ℕ) → k < i → Answered false k) → Answered true i → told (Some i) ≡ place_of fails
+    fails-first i h before here =
+        place-found fails (λ (k : ℕ). get_or fails k false) (length pairs / 2) (Some i) many (λ k lt. refl)
+        (omega arith, h, answered-at i h true here, λ k low lt. answered-at k (omega arith) false (before k lt))
+
+    pub fails-nowhere : (i : ℕ) → length pairs / 2 ≤ i → ((k : ℕ) → k < i → Answered false k) → told None ≡ place_of fails
+    fails-nowhere i h before =
+        place-found fails (λ (k : ℕ). get_or fails k false) (length pairs / 2) None many (λ k lt. refl) (λ k low lt. answered-at k lt false (before k (omega arith)))

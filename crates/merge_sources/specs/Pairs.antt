@@ -1,10 +1,18 @@
 -- What stood earlier in the list of pairs.
 use Rattle.std.specs.Prelude.{ℕ, zero, suc, ◌+◌, ◌*◌, Bool, List, [], ◌∷◌, ℤ, pos, get_or}
+use Rattle.integers.specs.Order.{eq_z}
 use Rattle.rules.specs.Keyed.{Key}
 use Rattle.rules.specs.Rows.{key_of}
 use Rattle.rules.specs.Merge.{pairs_of, is_among, times_in}
-use Rattle.merge_sources.specs.Sources.{place_of}
-use Rattle.merge_sources.specs.declared.Place.{Place}
+use Rattle.merge_sources.specs.Sources.{Place, place_of}
+
+-- A pair of figures, id and suffix, as a key.
+abbrev pub pair_of : List ℤ → Key
+pair_of figures = key_of (get_or figures 0 (pos 0)) (get_or figures 1 (pos 0))
+
+-- Whether its id is this one.
+abbrev pub has_id : ℤ → List ℤ → Bool
+has_id id figures = eq_z (pair_of figures).major id
 
 -- The pair at a place.
 unfoldable pub pair_at : List ℤ → ℕ → Key

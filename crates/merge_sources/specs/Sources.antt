@@ -1,18 +1,14 @@
 -- The sources of a merge as the code sees them, and what it answers about a list of sources.
-use Rattle.std.specs.Prelude.{Bool, cond, not, List, [], ◌∷◌, map, ℤ, pos}
-use Rattle.std.specs.Bool.{beq}
-use Rattle.integers.specs.Order.{eq_z}
-use Rattle.rules.specs.Figures.{is_buy, merge_kind}
+use Rattle.std.specs.Prelude.{◌≡◌, ℕ, Bool, cond, not, List, [], ◌∷◌, map, ℤ, pos, Option, Some, None}
+use Rattle.rules.specs.Figures.{merge_kind}
 use Rattle.rules.specs.Keyed.{Key, find, greatest}
 use Rattle.rules.specs.Rows.{key_of, record_key, inverse_record}
-use Rattle.rules.specs.NamedRecord.{the_record, next_suffix, is_elsewhere, is_not_adjustable}
+use Rattle.rules.specs.NamedRecord.{the_record, next_suffix}
 use Rattle.rules.specs.Refusal.{any_of, first_place}
 use Rattle.rules.specs.Layout.{rows_of}
 use Rattle.rules.specs.Tables.{records_layout}
-use Rattle.rules.specs.Merge.{Source, pairs_of, closes, is_missing, records_of}
+use Rattle.rules.specs.Merge.{Source, pairs_of, is_missing, records_of}
 use Rattle.rules.specs.declared.Record.{Record}
-use Rattle.merge_sources.specs.declared.Place.{Place}
-use Rattle.merge_sources.specs.declared.Place.TheVariants.{At, Nowhere}
 
 -- The named pairs with what the records table has of them.
 unfoldable pub sources_at : List Record → List Key → List Source
@@ -23,17 +19,23 @@ sources_at rows (k ∷ rest) =
 unfoldable pub sources_in : List ℤ → List ℤ → List Source
 sources_in cells pairs = sources_at (rows_of records_layout cells) (pairs_of pairs)
 
+-- The place of the first source that fails a test, from 0; or that none does.
+pub data Place : Type 0 where
+  At : ℕ → Place
+  Nowhere : Place
+
+-- What the code's answer says.
+abbrev pub told : Option ℕ → Place
+told (Some place) = At place
+told None = Nowhere
+
 -- The first place where a test fails, or nowhere.
 unfoldable pub place_of : List Bool → Place
 place_of fails = cond (any_of fails) (At (first_place fails)) Nowhere
 
--- Tests 6, 7, 8 and 10 of one source; `buy` is the side of the first.
-unfoldable pub fails_test : ℤ → ℤ → ℤ → Bool → Record → Bool
-fails_test number account series buy r =
-    cond (eq_z number (pos 6)) (is_elsewhere account series r)
-    (cond (eq_z number (pos 7)) (is_not_adjustable r)
-    (cond (eq_z number (pos 8)) (closes r)
-    (not (beq (is_buy r.side) buy))))
+-- That a test of the code, by what is known of each answer, is this test.
+abbrev pub IsTest : (Record → Bool → Type 0) → (Record → Bool) → Type 0
+IsTest answers test = (r : Record) (b : Bool) → answers r b → b ≡ test r
 
 -- The record of a pair, and the inverse that it gets in a merge into a new id: "an inverse row of type 901 with its id's next suffix, parent the source, into = the
 -- new id".

@@ -3,9 +3,9 @@
 
 pub mod pairs; // the list of pairs: test 3, test 9, how often an id stood earlier
 
-// The place of the first source that fails a test, from 0; or that none does.
+// What is kept of a source once it is looked up: its row number, and the greatest suffix of its id.
 #[derive(Clone, Copy)]
-pub enum Place {
-    At(usize),
-    Nowhere,
+pub struct Source {
+    pub row: u16,
+    pub suffix: u16,
 }

@@ -1,5 +1,5 @@
 -- A new day on sound records beside any other tables: refused 3, or cell 1 written; and the records are sound again, since a later day is one too. Assumes nothing.
-use Prim.Native.Nat.{◌≤◌}
+use Prim.Native.Nat.{◌<◌, ◌≤◌}
 use native.Mathlib.Omega.{arith}
 use mathlib.Core.Path.{◌≡◌, refl, sym, ◌∙◌}
 use mathlib.Core.Bool.{true, false, not, ◌&&◌}
@@ -30,6 +30,10 @@ unfolding day_written
 day-set day [] h = absurd (omega arith)
 day-set day (c ∷ []) h = absurd (omega arith)
 day-set day (c ∷ d ∷ rest) h = refl
+
+-- Cell 1 is there in a sound table.
+pub headed : (cells : List ℤ) → sound_records cells ≡ true → 1 < length cells
+headed cells h = (records-known cells (record-rows-sound cells h)).header-within
 
 module _ (rs : List ℤ) (day : ℤ) where
   abbrev day_tests : List Test

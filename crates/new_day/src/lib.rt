@@ -3,36 +3,39 @@
 
 ghost use Rattle.std.specs.Prelude.{◌≡◌, true, []};
 ghost use Rattle.rules.specs.Handle.{handle, answered};
+ghost use Rattle.rules.specs.Reasons.{answer_of};
 ghost use Rattle.rules.specs.Request as Request;
 ghost use Rattle.rules.specs.Tables.{tables_of, sound_records};
 ghost use Rattle.new_day.specs.DayHandled.{DayHandled};
 
 use rules::Reply;
 use rules::layout::DAY_CELL;
+use rules::refusals::{Confirmation, Reason, Refusal};
 
-pub fn on_sound(records: &mut [i64], day: i64) -> Reply
+// "the same or an earlier day, or one outside 1 to 99,999, is refused 3"
+#[tactic(auto, using(crate::proofs::DayMoved::headed))]
+pub fn on_sound(records: &mut [i64], day: i64) -> Result<Confirmation, Refusal>
     requires { sound_records records.old ≡ true }
-    ensures { DayHandled records.old day result records.new }
+    ensures { DayHandled records.old day (answer_of result) records.new }
 {
-    if !figures::valid_day(day) {
-        return Reply::Refused(3, 0);
-    }
     let today = records[DAY_CELL];
-    if day <= today {
-        return Reply::Refused(3, 0);
+    if !figures::valid_day(day) || day <= today {
+        return Err(Reason::OutOfRange.into());
     }
     records[DAY_CELL] = day;
-    Reply::Booked {
+    Ok(Confirmation::Booked {
         rows: 0,
         residual: 0,
-    }
+    })
 }
 
 pub fn day(records: &mut [i64], day: i64) -> Reply
     ensures { answered result records.new [] ≡ handle (tables_of records.old []) (Request.new_day day) }
 {
-    if !scan::soundness::records_sound(records) {
-        return Reply::Refused(1, 0);
-    }
-    on_sound(records, day)
+    let outcome = if scan::soundness::records_sound(records) {
+        on_sound(records, day)
+    } else {
+        Err(Reason::RecordsUnsound.into())
+    };
+    rules::refusals::answer(outcome)
 }

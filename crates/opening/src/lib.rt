@@ -1,51 +1,57 @@
 // Opening a give-up (document 02, K3), on sound tables: the process id must be unused, the record adjustable and to open; then the record has status 3 and the process table one row more, pending.
 #![tactic(auto)]
 
-ghost use Rattle.std.specs.Prelude.{◌≡◌, true};
+ghost use Rattle.std.specs.Prelude.{◌≡◌, true, ◌+◌, ltb, length};
 ghost use Rattle.rules.specs.Figures.{under_give_up};
 ghost use Rattle.rules.specs.Keyed.{upsert};
 ghost use Rattle.rules.specs.Rows.{record_key, with_status};
 ghost use Rattle.rules.specs.ProcessRows.{process_key};
+ghost use Rattle.rules.specs.Reasons.{answer_of};
 ghost use Rattle.rules.specs.Refusal.{first_refusal};
-ghost use Rattle.rules.specs.Layout.{row_at, rows_of, write};
+ghost use Rattle.rules.specs.Layout.{row_at, room_of, rows_of, write};
 ghost use Rattle.rules.specs.Tables.{all_tables, records_layout, processes_layout, sound_processes};
 ghost use Rattle.rules.specs.Handle.{answered_by};
 ghost use Rattle.rules.specs.declared.Step.TheVariants.{Open};
 ghost use Rattle.soundness.specs.SoundTables.{SoundTables};
-ghost use Rattle.verdict.specs.Verdict.{verdict_of};
+ghost use Rattle.verdict.specs.Verdict.{judged, verdict_of};
 ghost use Rattle.give_up_steps.specs.HandledIn.{HandledIn};
 ghost use Rattle.give_up_steps.specs.StepTests.{opening_tests};
 ghost use Rattle.give_up_steps.specs.Terms.{step_of, opened_row};
 ghost use Rattle.opening.specs.OpeningReady.{OpeningReady};
 
 use give_up_steps::Terms;
-use lookup::{Greatest, Sought};
+use rules::Record;
 use rules::codes::{ADJUSTABLE, UNDER_GIVE_UP};
-use rules::{Record, Reply};
+use rules::refusals::{Confirmation, Reason, Refusal};
 use tables::records;
-use verdict::Verdict;
+
+// 23: the process table has no room for a row more.
+fn lacks_room(processes: &[i64]) -> bool
+    requires { sound_processes processes.now ≡ true }
+    ensures { result ≡ ltb (room_of processes_layout processes.now) (length (rows_of processes_layout processes.now) + 1) }
+{
+    processes::room(processes) < processes::count(processes) + 1
+}
 
 // Tests 6 to 8, of the record that was found, and 23.
-fn verdict(processes: &[i64], r: Record, giving: i64, series: i64) -> Verdict
+fn verdict(processes: &[i64], r: Record, giving: i64, series: i64) -> Result<(), Reason>
     requires { sound_processes processes.now ≡ true }
-    ensures { result ≡ verdict_of (first_refusal (opening_tests processes.now r giving series)) }
+    ensures { judged result ≡ verdict_of (first_refusal (opening_tests processes.now r giving series)) }
 {
-    let elsewhere = requests::is_elsewhere(r, giving, series);
-    let status = r.status;
-    let full = processes::room(processes) < processes::count(processes) + 1;
-    if elsewhere {
-        return Verdict::Refused(6, 0);
+    if requests::is_elsewhere(r, giving, series) {
+        return Err(Reason::Elsewhere);
     }
+    let status = r.status;
     if status != ADJUSTABLE {
-        return Verdict::Refused(requests::status_refusal(status), 0);
+        return Err(requests::status_refusal(status));
     }
     if figures::is_to_close(r.side) {
-        return Verdict::Refused(8, 0);
+        return Err(Reason::ToClose);
     }
-    if full {
-        return Verdict::Refused(23, 0);
+    if lacks_room(processes) {
+        return Err(Reason::NoProcessesRoom);
     }
-    Verdict::Accepted
+    Ok(())
 }
 
 fn book(records: &mut [i64], processes: &mut [i64], row: usize, place: usize, g: Terms)
@@ -58,31 +64,34 @@ fn book(records: &mut [i64], processes: &mut [i64], row: usize, place: usize, g:
 }
 
 // The positions are neither read nor changed.
-pub fn on_sound(records: &mut [i64], positions: &[i64], processes: &mut [i64], g: Terms) -> Reply
+pub fn on_sound(
+    records: &mut [i64],
+    positions: &[i64],
+    processes: &mut [i64],
+    g: Terms,
+) -> Result<Confirmation, Refusal>
     requires { SoundTables (all_tables records.old positions.now processes.old) }
-    ensures { HandledIn (all_tables records.old positions.now processes.old) (step_of Open g) (answered_by result (all_tables records.new positions.now processes.new)) }
+    ensures { HandledIn (all_tables records.old positions.now processes.old) (step_of Open g) (answered_by (answer_of result) (all_tables records.new positions.now processes.new)) }
 {
     if !give_up_steps::figures_valid(g) {
-        return Reply::Refused(3, 0);
+        return Err(Refusal::from(Reason::OutOfRange));
     }
-    let Sought::Absent(place, used) = processes::look_up(processes, g.process, g.id) else {
-        return Reply::Refused(18, 0);
+    // 18: "a used process id", by this transaction or another.
+    let Err(absent) = processes::look_up(processes, g.process, g.id) else {
+        return Err(Refusal::from(Reason::OutOfTurn));
     };
-    let Greatest::Nothing = used else {
-        return Reply::Refused(18, 0);
+    if absent.greatest.is_some() {
+        return Err(Refusal::from(Reason::OutOfTurn));
+    }
+    let Ok(there) = records::look_up(records, g.id, g.suffix) else {
+        return Err(Refusal::from(Reason::NoRecord));
     };
-    let Sought::Present(row, greatest, next) = records::look_up(records, g.id, g.suffix) else {
-        return Reply::Refused(5, 0);
-    };
+    let row = there.row;
     let r = records::read_record(records, row);
-    match verdict(processes, r, g.giving, g.series) {
-        Verdict::Refused(number, at) => Reply::Refused(number, at),
-        Verdict::Accepted => {
-            book(records, processes, row, place, g);
-            Reply::Booked {
-                rows: 0,
-                residual: 0,
-            }
-        }
-    }
+    verdict(processes, r, g.giving, g.series)?;
+    book(records, processes, row, absent.place, g);
+    Ok(Confirmation::Booked {
+        rows: 0,
+        residual: 0,
+    })
 }

@@ -1,10 +1,10 @@
-// Numbers and cells on a writer, for the programs that show what the book does. Where the writer's bytes are known, each call that succeeds appends just its text.
+// Numbers and cells on a writer, and tables that hold no row, for the programs that show what the book does. Where the writer's bytes are known, each call that succeeds appends just its text.
 #![tactic(auto)]
 
-ghost use Rattle.std.specs.Prelude.{OnOk};
+ghost use Rattle.std.specs.Prelude.{◌≡◌, ℕ, ◌<◌, ◌≤◌, pos, negsuc, get_or, OnOk};
 ghost use Rattle.std.specs.Io.KnownBytes.{Appends};
 ghost use Rattle.std.specs.Fmt.{signed_decimal};
-ghost use Rattle.printing.specs.Printed.{line_text, value_text, cell_text, barred_text, cells_text};
+ghost use Rattle.printing.specs.Printed.{line_text, value_text, cells_text};
 
 use std::io;
 use std::io::Write;
@@ -37,28 +37,23 @@ pub fn value<W: Write>(to: &mut W, name: &[u8], z: i64) -> io::Result<()>
     text(to, b"\n")
 }
 
-fn cell<W: Write>(to: &mut W, z: i64) -> io::Result<()>
-    ensures { OnOk result (Appends (W.contents to.old) (W.contents to.new) (cell_text z)) }
-{
-    text(to, b"| ")?;
-    number(to, z)?;
-    text(to, b" ")
-}
-
-// Cells with a bar between two.
-fn barred<W: Write>(to: &mut W, all: &[i64]) -> io::Result<()>
-    ensures { OnOk result (Appends (W.contents to.old) (W.contents to.new) (barred_text all.now)) }
-{
-    for i in 0..all.len() {
-        cell(to, all[i])?;
-    }
-    Ok(())
-}
-
-// The same, with the end of the line.
+// Cells with a bar between two, and the end of the line.
 pub fn cells<W: Write>(to: &mut W, all: &[i64]) -> io::Result<()>
     ensures { OnOk result (Appends (W.contents to.old) (W.contents to.new) (cells_text all.now)) }
 {
-    barred(to, all)?;
-    text(to, b"|\n")
+    for z in all {
+        write!(to, "| {z} ")?;
+    }
+    writeln!(to, "|")
+}
+
+// A table that holds no row: a header of zeros, and -1 in each cell past it.
+pub fn no_rows<const N: usize>(header: usize) -> [i64; N]
+    requires { header ≤ N }
+    ensures zeros { (k : ℕ) → k < N → k < header → get_or result k (pos 0) ≡ pos 0 }
+    ensures rest { (k : ℕ) → k < N → header ≤ k → get_or result k (pos 0) ≡ negsuc 0 }
+{
+    let mut cells = [-1; N];
+    cells[..header].fill(0);
+    cells
 }

@@ -19,7 +19,7 @@ use Rattle.keys.proofs.Greatest.{greatest-none}
 use Rattle.keys.proofs.Lookup.{all-upsert}
 use Rattle.keys.proofs.Rising.{upsert-adds, upsert-replaces}
 use Rattle.lookup.specs.Lookup.{found_in, place_in}
-use Rattle.lookup.specs.declared.Found.TheVariants.{Row}
+use Rattle.lookup.specs.Found.{Row}
 use Rattle.lookup.proofs.TableLookup.{KeyFirst, table-found}
 use Rattle.shifter.specs.Insertion.{inserted, replaced}
 use Rattle.tables.proofs.RowPut.{put-inserted, put-replaced}

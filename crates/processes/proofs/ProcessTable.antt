@@ -17,7 +17,7 @@ use Rattle.cells.specs.SoundTable.{SoundTable}
 use Rattle.cells.proofs.SoundCells.{processes-known}
 use Rattle.keys.proofs.Split.{and_right}
 use Rattle.lookup.specs.Lookup.{found_in}
-use Rattle.lookup.specs.declared.Found.TheVariants.{Row}
+use Rattle.lookup.specs.Found.{Row}
 use Rattle.lookup.proofs.TableLookup.{KeyFirst}
 use Rattle.tables.proofs.RowFits.{row-cells-within}
 use Rattle.tables.proofs.RowThere.{row-there, row-is-sound}

@@ -7,51 +7,32 @@ ghost use Rattle.rules.specs.Rows.{key_of};
 ghost use Rattle.rules.specs.ProcessRows.{process_key, stage_number, valid_stage, row_of_process};
 ghost use Rattle.rules.specs.Layout.{row_at, room_of, rows_of, write};
 ghost use Rattle.rules.specs.Tables.{process_cells, processes_layout, sound_processes};
+ghost use Rattle.lookup.specs.Sought.{sought_told};
 ghost use Rattle.lookup.specs.Lookup.{sought_in};
 ghost use Rattle.processes.specs.Ready.{InsertReady, ReplaceReady};
 
-use lookup::Sought;
-use rules::codes::{CANCELLED, CLAIMED, DONE, PENDING, REFUSED};
-use rules::layout::{MOST_PROCESSES, PROCESS_WIDTH, PROCESSES_HEADER};
+use lookup::{Absent, Present};
+use rules::layout::{PROCESS_WIDTH, PROCESSES_HEADER};
 use rules::{Process, ProcessRow, Stage};
 use scan::rows;
 
-pub fn stage_number(stage: Stage) -> i64
-    ensures { result ≡ stage_number stage }
-{
-    match stage {
-        Stage::Pending => PENDING,
-        Stage::Claimed => CLAIMED,
-        Stage::Refused => REFUSED,
-        Stage::Cancelled => CANCELLED,
-        Stage::Done => DONE,
-    }
-}
-
+// The stage of a number that passed the test of a stage.
+#[tactic(auto, unfolding(rules::specs::ProcessRows::stage_number))]
 pub fn stage_of(number: i64) -> Stage
     requires { valid_stage number ≡ true }
     ensures { stage_number result ≡ number }
 {
-    if number == PENDING {
-        return Stage::Pending;
+    match Stage::try_from(number) {
+        Ok(stage) => stage,
+        Err(_) => Stage::Done,
     }
-    if number == CLAIMED {
-        return Stage::Claimed;
-    }
-    if number == REFUSED {
-        return Stage::Refused;
-    }
-    if number == CANCELLED {
-        return Stage::Cancelled;
-    }
-    Stage::Done
 }
 
 // The row of a process, and the process of a row.
+#[tactic(auto, unfolding(rules::specs::ProcessRows::stage_number))]
 pub fn row_of(p: Process) -> ProcessRow
     ensures { result ≡ row_of_process p }
 {
-    let stage = p.stage;
     ProcessRow {
         process: p.process,
         id: p.id,
@@ -61,7 +42,7 @@ pub fn row_of(p: Process) -> ProcessRow
         series: p.series,
         giver: p.giver,
         taker: p.taker,
-        stage: stage_number(stage),
+        stage: p.stage as i64,
     }
 }
 
@@ -69,8 +50,6 @@ pub fn process_of(r: ProcessRow) -> Process
     requires { valid_stage r.stage ≡ true }
     ensures { row_of_process result ≡ r }
 {
-    let number = r.stage;
-    let stage = stage_of(number);
     Process {
         process: r.process,
         id: r.id,
@@ -80,7 +59,7 @@ pub fn process_of(r: ProcessRow) -> Process
         series: r.series,
         giver: r.giver,
         taker: r.taker,
-        stage,
+        stage: stage_of(r.stage),
     }
 }
 
@@ -94,20 +73,20 @@ pub fn count(cells: &[i64]) -> usize
     requires { sound_processes cells.now ≡ true }
     ensures { result ≡ length (rows_of processes_layout cells.now) }
 {
-    cells[0] as usize
+    scan::soundness::count::<ProcessRow>(cells)
 }
 
 // How many rows there is room for.
 pub fn room(cells: &[i64]) -> usize
     ensures { result ≡ room_of processes_layout cells.now }
 {
-    scan::soundness::room_for(PROCESSES_HEADER, PROCESS_WIDTH, MOST_PROCESSES, cells.len())
+    scan::soundness::room::<ProcessRow>(cells)
 }
 
 // The lookup: what the table has of a process id and the transaction id that the process names.
-pub fn look_up(cells: &[i64], process: i64, id: i64) -> Sought
+pub fn look_up(cells: &[i64], process: i64, id: i64) -> Result<Present, Absent>
     requires { sound_processes cells.now ≡ true }
-    ensures { result ≡ sought_in processes_layout (key_of process id) cells.now }
+    ensures { sought_told result ≡ sought_in processes_layout (key_of process id) cells.now }
 {
     lookup::look_up(
         cells,
@@ -124,7 +103,7 @@ pub fn read_process(cells: &[i64], row: usize) -> Process
     requires { (sound_processes cells.now ≡ true) × (row < length (rows_of processes_layout cells.now)) }
     ensures { row_of_process result ≡ row_at processes_layout cells.now row }
 {
-    process_of(rows::process_at(cells, PROCESSES_HEADER + row * PROCESS_WIDTH))
+    process_of(rows::row_at::<ProcessRow>(cells, row))
 }
 
 // A process whose id is not used, at the place where its key belongs.

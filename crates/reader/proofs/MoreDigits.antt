@@ -5,7 +5,7 @@ use mathlib.Core.Path.{◌≡◌, refl, sym, ◌∙◌, ap}
 use mathlib.Core.Bool.{Bool, true, false, cond, ◌&&◌}
 use mathlib.Core.Logic.{⊎_elim}
 use mathlib.Core.List.{List, ◌∷◌}
-use borrow.Author.Tests.{leb-true}
+use borrow.Author.Tests.{le-leb, leb-true}
 use lib.Dec.{leb}
 use lib.ListN.{get_or, drop}
 use Rattle.text.specs.Scan.{taken, first, is_digit, more_digits}
@@ -19,6 +19,13 @@ both false b h = (cc, cc)
 pub digit-range : (b : ℕ) → is_digit b ≡ true → (48 ≤ b) × (b ≤ 57)
 unfolding is_digit
 digit-range b h = let t : (leb 48 b ≡ true) × (leb b 57 ≡ true) = both (leb 48 b) (leb b 57) h in (leb-true 48 b t.0, leb-true b 57 t.1)
+
+pub digit-there : (b : ℕ) → 48 ≤ b → b ≤ 57 → is_digit b ≡ true
+unfolding is_digit
+digit-there b least most = rw (le-leb 48 b least, le-leb b 57 most)
+
+pub no-digit : (b : ℕ) → (48 ≤ b → b ≤ 57 → ⊥) → is_digit b ≡ false
+no-digit b other = ⊎_elim (λ digit. absurd (other (digit-range b digit).0 (digit-range b digit).1)) (λ none. none) (split (is_digit b))
 
 -- ---- how great
 

@@ -15,7 +15,7 @@ use mir.Val.{SFits, to_z, of_z}
 use Rattle.text.specs.Scan.{Taken, taken, first, is_digit, more_digits, digits_after, take_magnitude, not_negative, negative, below_zero, take_number, take_field}
 use Rattle.integers.proofs.Parts.{split}
 use Rattle.reader.proofs.Places.{first-there, begins}
-use Rattle.reader.proofs.MoreDigits.{digit-range, room-for-twelve, digits-small}
+use Rattle.reader.proofs.MoreDigits.{digit-range, digit-there, no-digit, room-for-twelve, digits-small}
 
 -- ---- a number without a sign
 
@@ -49,18 +49,17 @@ magnitude-small text {t} h =
     (split (is_digit (first text)))
 
 module _ (text : List ℕ) (at : ℕ) {b : ℕ} (read : b ≡ get_or text at 0) where
-  pub no-magnitude : is_digit b ≡ false → none ≡ take_magnitude (drop at text)
-  no-magnitude other = sym (magnitude-none (drop at text) (rw (first-there text at read) other))
+  pub no-magnitude : (48 ≤ b → b ≤ 57 → ⊥) → none ≡ take_magnitude (drop at text)
+  no-magnitude other = sym (magnitude-none (drop at text) (rw (first-there text at read) (no-digit b other)))
 
   pub magnitude-zero : b ≡ 48 → some (taken 0 (drop (at + 1) text)) ≡ take_magnitude (drop at text)
   unfolding is_digit take_magnitude digits_after
   magnitude-zero e = sym (ap take_magnitude (begins text at read e (omega arith)))
 
-  pub magnitude-more : is_digit b ≡ true → (b ≡ 48 → ⊥) → some (more_digits 12 (b - 48) (drop (at + 1) text)) ≡ take_magnitude (drop at text)
-  magnitude-more digit other =
-      let least : 48 ≤ b = (digit-range b digit).0 in
+  pub magnitude-more : 48 < b → b ≤ 57 → some (more_digits 12 (b - 48) (drop (at + 1) text)) ≡ take_magnitude (drop at text)
+  magnitude-more least most =
       let starts : drop at text ≡ b ∷ drop (at + 1) text = begins text at read refl (omega arith) in
-      sym (ap take_magnitude starts ∙ magnitude-digit (b ∷ drop (at + 1) text) digit ∙ ap some (digits-after (b - 48) (drop (at + 1) text) (omega arith)))
+      sym (ap take_magnitude starts ∙ magnitude-digit (b ∷ drop (at + 1) text) (digit-there b (omega arith) most) ∙ ap some (digits-after (b - 48) (drop (at + 1) text) (omega arith)))
 
 -- ---- a number
 

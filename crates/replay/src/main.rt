@@ -3,7 +3,7 @@
 // is read and printed the contracts say what they can name, the bytes of a reader and a writer.
 #![tactic(auto)]
 
-ghost use Rattle.std.specs.Prelude.{◌≡◌, length};
+ghost use Rattle.std.specs.Prelude.{◌≡◌, ◌<◌, length};
 ghost use Rattle.std.specs.Io.KnownBytes.{ReadConsumes};
 ghost use Rattle.replay.specs.WithinText.{WithinText, ReadsStart};
 
@@ -46,7 +46,7 @@ fn read_part<R: Read>(from: &mut R, text: &mut [u8]) -> io::Result<usize>
     from.read(text)
 }
 
-// Reads until the file ends or the text is full.
+// Reads until the file ends or the text is full. The loop stays: without a heap no library method reads a file of unknown length.
 fn read_file<R: Read>(from: &mut R, text: &mut [u8]) -> io::Result<usize>
     ensures within { WithinText result text.new }
     ensures start { ReadsStart (R.remaining from.old) result text.new }
@@ -62,76 +62,26 @@ fn read_file<R: Read>(from: &mut R, text: &mut [u8]) -> io::Result<usize>
     Ok(at)
 }
 
-// A number that is not negative, as it is; 0 for one that is.
-fn natural(z: i64) -> usize {
-    if z < 0 {
-        return 0;
-    }
-    z as usize
-}
-
-// The cell at a place of its row: a tab before each but the first.
-fn print_cell<W: Write>(to: &mut W, place: usize, z: i64) -> io::Result<()> {
-    if 0 < place {
-        printing::text(to, b"\t")?;
-    }
-    printing::number(to, z)
-}
-
-fn print_cells<W: Write>(to: &mut W, cells: &[i64]) -> io::Result<()> {
-    for i in 0..cells.len() {
-        print_cell(to, i, cells[i])?;
-    }
-    Ok(())
-}
-
+// A row: its cells, a tab before each but the first.
 fn print_row<W: Write>(to: &mut W, cells: &[i64]) -> io::Result<()> {
-    print_cells(to, cells)?;
+    for (i, z) in cells.iter().enumerate() {
+        let tab = if i == 0 { "" } else { "\t" };
+        write!(to, "{tab}{z}")?;
+    }
     printing::text(to, b"\n")
 }
 
-// The rows that the count in cell 0 names, as far as there are cells.
-fn print_rows<W: Write>(to: &mut W, table: &[i64], header: usize, width: usize) -> io::Result<()> {
-    if table.len() <= header {
+// The rows that the table's count names, as far as there are cells.
+fn print_rows<W: Write>(to: &mut W, count: i64, rows: &[i64], width: usize) -> io::Result<()>
+    requires { 0 < width }
+{
+    let Ok(count) = usize::try_from(count) else {
         return Ok(());
-    }
-    let count = natural(table[0]);
-    let mut at = header;
-    for _ in 0..count {
-        if table.len() - at < width {
-            return Ok(());
-        }
-        let end = at + width;
-        print_row(to, &table[at..end])?;
-        at = end;
+    };
+    for row in rows.chunks_exact(width).take(count) {
+        print_row(to, row)?;
     }
     Ok(())
-}
-
-// The number of a line, alone.
-fn print_line<W: Write>(to: &mut W, line: i64) -> io::Result<()> {
-    printing::number(to, line)?;
-    printing::text(to, b"\n")
-}
-
-fn say_number<W: Write>(to: &mut W, z: i64) -> io::Result<()> {
-    write!(to, "{}", natural(z))
-}
-
-fn say_bad<W: Write>(to: &mut W, line: i64) -> io::Result<()> {
-    printing::text(to, b"replay: line ")?;
-    say_number(to, line)?;
-    printing::text(to, b" is bad: it is no line of a request\n")
-}
-
-fn say_refused<W: Write>(to: &mut W, line: i64, number: i64, place: i64) -> io::Result<()> {
-    printing::text(to, b"replay: line ")?;
-    say_number(to, line)?;
-    printing::text(to, b" is refused: number ")?;
-    say_number(to, number)?;
-    printing::text(to, b", place ")?;
-    say_number(to, place)?;
-    printing::text(to, b"\n")
 }
 
 fn replay<W: Write, E: Write>(out: &mut W, err: &mut E, text: &[u8]) -> io::Result<()> {
@@ -140,32 +90,31 @@ fn replay<W: Write, E: Write>(out: &mut W, err: &mut E, text: &[u8]) -> io::Resu
     let mut processes = [0i64; PROCESSES];
     match book::replay(&mut records, &mut positions, &mut processes, text) {
         Reply::Replayed(_) => {
-            print_rows(out, &records, layout::RECORDS_HEADER, layout::RECORD_WIDTH)?;
-            print_rows(
-                out,
-                &positions,
-                layout::POSITIONS_HEADER,
-                layout::POSITION_WIDTH,
-            )?;
-            print_rows(
-                out,
-                &processes,
-                layout::PROCESSES_HEADER,
-                layout::PROCESS_WIDTH,
-            )
+            let record_rows = &records[layout::RECORDS_HEADER..];
+            let position_rows = &positions[layout::POSITIONS_HEADER..];
+            let process_rows = &processes[layout::PROCESSES_HEADER..];
+            print_rows(out, records[0], record_rows, layout::RECORD_WIDTH)?;
+            print_rows(out, positions[0], position_rows, layout::POSITION_WIDTH)?;
+            print_rows(out, processes[0], process_rows, layout::PROCESS_WIDTH)
         }
         // The reason is said even where the line could not be printed.
         Reply::BadLine(line) => {
-            let printed = print_line(out, line);
-            say_bad(err, line)?;
+            let printed = writeln!(out, "{line}");
+            writeln!(
+                err,
+                "replay: line {line} is bad: it is no line of a request"
+            )?;
             printed
         }
         Reply::LineRefused(line, number, place) => {
-            let printed = print_line(out, line);
-            say_refused(err, line, number, place)?;
+            let printed = writeln!(out, "{line}");
+            writeln!(
+                err,
+                "replay: line {line} is refused: number {number}, place {place}"
+            )?;
             printed
         }
-        _ => printing::text(err, b"replay: no answer of a replay\n"),
+        _ => printing::line(err, b"replay: no answer of a replay"),
     }
 }
 
@@ -193,19 +142,19 @@ fn main(rt: HostRuntime) -> io::Result<()> {
     let mut out = io::writer(&rt);
     let mut err = rt.stderr();
     if !has_argument(&rt, 1) || has_argument(&rt, 2) {
-        return printing::text(&mut err, b"usage: replay JOURNAL\n");
+        return printing::line(&mut err, b"usage: replay JOURNAL");
     }
     let mut name = [0u8; PATH];
     let Ok(n) = rt.arg(1, &mut name) else {
-        return printing::text(
+        return printing::line(
             &mut err,
-            b"replay: can't take the journal's name: File name too long\n",
+            b"replay: can't take the journal's name: File name too long",
         );
     };
     let Ok(path) = str::from_utf8(&name[..n]) else {
-        return printing::text(
+        return printing::line(
             &mut err,
-            b"replay: can't take the journal's name: it is no UTF-8\n",
+            b"replay: can't take the journal's name: it is no UTF-8",
         );
     };
     match fs::open(&rt, path) {

@@ -24,7 +24,7 @@ use Rattle.soundness.specs.SoundBooks.{plan_on}
 use Rattle.history.specs.History.{is_accepted}
 use Rattle.history.proofs.Answers.{refused-not-accepted}
 use Rattle.verdict.specs.Verdict.{verdict_of}
-use Rattle.verdict.specs.declared.Verdict.TheVariants as Verdict
+use Rattle.verdict.specs.Verdict as Verdict
 use Rattle.verdict.proofs.Handled.{unsound-in}
 use Rattle.replaying.specs.Unsound.{first_line, refused_at_once}
 use Rattle.replaying.proofs.AnswerFrom.{answer_from, from_start, at-end, line-bad, line_refused}

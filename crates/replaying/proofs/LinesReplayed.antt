@@ -13,16 +13,16 @@ use Rattle.rules.specs.Request.{Request}
 use Rattle.rules.specs.Reader.{request_named}
 use Rattle.rules.specs.Tables.{Tables, sound_records}
 use Rattle.rules.specs.Handle.{handle, refusal_of}
-use Rattle.rules.specs.declared.Heading.{Heading}
 use Rattle.history.specs.History.{is_accepted}
 use Rattle.history.proofs.Accepted.{refused-tables}
 use Rattle.verdict.specs.Verdict.{verdict_of}
-use Rattle.verdict.specs.declared.Verdict.TheVariants as Verdict
-use Rattle.reader.specs.declared.LineRead.TheVariants as LineRead
+use Rattle.verdict.specs.Verdict as Verdict
+use Rattle.std.specs.Prelude.{Some, None}
+use Rattle.reader.specs.declared.LineRead.{LineRead}
 use Rattle.journal_reading.specs.RequestRead.{RequestReadAs}
 use Rattle.journal_booking.specs.RequestBooked.{RequestBooked}
 use Rattle.replaying.specs.LineReplayed.{LineReplayed}
-use Rattle.replaying.specs.declared.Became.TheVariants.{Booked, Bad, Refused}
+use Rattle.replaying.specs.Became.{Booked, Bad, Refused}
 
 -- Accepted by the first refusal: there is none.
 accepted-none : (o : Option Test) → Verdict.Accepted ≡ verdict_of o → o ≡ none
@@ -41,15 +41,15 @@ unfolding is_accepted is_some
 refused-same t r x e = refused-tables t r (ap (λ (o : Option Test). not (is_some o)) e)
 
 module _ (t : Tables) (text : List ℕ) (at : ℕ) (figures : List ℤ) where
-  pub bad-replayed : sound_records t.records ≡ true → RequestReadAs text at figures LineRead.Bad → LineReplayed t text at Bad t
+  pub bad-replayed : sound_records t.records ≡ true → RequestReadAs text at figures None → LineReplayed t text at Bad t
   bad-replayed records w =
       record { became = (sym w.request, refl); records-sound = records; positions-sound = refl; processes-sound = refl }
 
-  module _ (heading : Heading) (count next : ℕ) (w : RequestReadAs text at figures (LineRead.Read heading count next)) (after : Tables) where
+  module _ (line : LineRead) (w : RequestReadAs text at figures (Some line)) (after : Tables) where
     abbrev r : Request
-    r = request_named heading (take count figures)
+    r = request_named line.heading (take line.count figures)
 
-    pub booked-replayed : RequestBooked t r Verdict.Accepted after → LineReplayed t text at (Booked next) after
+    pub booked-replayed : RequestBooked t r Verdict.Accepted after → LineReplayed t text at (Booked line.next) after
     booked-replayed b = record {
       became = record { request = r; read = sym w.request; within = w.within.2; accepted = accepted-none (refusal_of t r) b.verdict; tables = b.tables };
       records-sound = b.records-sound;
@@ -61,7 +61,7 @@ module _ (t : Tables) (text : List ℕ) (at : ℕ) (figures : List ℤ) where
     refused-replayed number place b =
         let first : (x : Test) × (refusal_of t r ≡ some x) = refused-some number place (refusal_of t r) b.verdict in
         record {
-          became = record { request = r; rest = drop next text; read = sym w.request; refused = sym b.verdict; same = b.tables ∙ refused-same t r first.0 first.1 };
+          became = record { request = r; rest = drop line.next text; read = sym w.request; refused = sym b.verdict; same = b.tables ∙ refused-same t r first.0 first.1 };
           records-sound = b.records-sound;
           positions-sound = b.positions-sound;
           processes-sound = b.processes-sound;

@@ -14,9 +14,9 @@ use Rattle.rules.specs.Handle.{answered_by, refusal_of}
 use Rattle.rules.specs.Replay.{handle_replay}
 use Rattle.rules.specs.declared.Reply.TheVariants as Reply
 use Rattle.verdict.specs.Verdict.{verdict_of}
-use Rattle.verdict.specs.declared.Verdict.TheVariants as Verdict
+use Rattle.verdict.specs.Verdict as Verdict
 use Rattle.replaying.specs.LineReplayed.{LineBooked, LineStops, LineReplayed}
-use Rattle.replaying.specs.declared.Became.TheVariants.{Booked, Bad, Refused}
+use Rattle.replaying.specs.Became.{Booked, Bad, Refused}
 use Rattle.replaying.proofs.AnswerFrom.{answer_from, from_start, at-end, line-bad, line_refused, line-booked}
 use Rattle.replaying.proofs.LineLength.{three-fewer}
 

@@ -1,2 +1,3 @@
+pub mod Became
 pub mod LineReplayed
 pub mod Unsound

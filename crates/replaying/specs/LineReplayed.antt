@@ -7,9 +7,9 @@ use Rattle.rules.specs.Reader.{take_request}
 use Rattle.rules.specs.Tables.{Tables, sound_records, sound_positions, sound_processes}
 use Rattle.rules.specs.Handle.{handle, refusal_of}
 use Rattle.verdict.specs.Verdict.{verdict_of}
-use Rattle.verdict.specs.declared.Verdict.TheVariants as Verdict
-use Rattle.replaying.specs.declared.Became.{Became}
-use Rattle.replaying.specs.declared.Became.TheVariants.{Booked, Bad, Refused}
+use Rattle.verdict.specs.Verdict as Verdict
+use Rattle.replaying.specs.Became.{Became}
+use Rattle.replaying.specs.Became.{Booked, Bad, Refused}
 
 -- Booked: the request that is taken off the text there is accepted, and leaves these tables; the next line begins within the text.
 pub record LineBooked (t : Tables) (text : List ℕ) (at next : ℕ) (after : Tables) : Type 0 where

@@ -3,14 +3,14 @@ ghost use Rattle.std.specs.Prelude.{◌≡◌, true, length};
 ghost use Rattle.rules.specs.Handle.{answered_by};
 ghost use Rattle.rules.specs.Replay.{handle_replay};
 ghost use Rattle.rules.specs.Tables.{all_tables, sound_records, sound_positions, sound_processes};
+ghost use Rattle.replaying.specs.Became.{became};
 ghost use Rattle.replaying.specs.LineReplayed.{LineReplayed};
 ghost use Rattle.replaying.specs.Unsound.{refused_at_once};
 
-use crate::Became;
-use reader::LineRead;
+use crate::Unbooked;
 use rules::Reply;
 use rules::layout::MOST_FIGURES;
-use verdict::Verdict;
+use rules::refusals::{self, Reason};
 
 // The line from this place on: read, and its request booked.
 fn replay_line(
@@ -22,29 +22,23 @@ fn replay_line(
     text: &[u8],
     at: usize,
     figures: &mut [i64],
-) -> Became
+) -> Result<usize, Unbooked>
     requires { (sound_records records.old ≡ true) × (passes2 ≡ sound_positions positions.old) × (passes19 ≡ sound_processes processes.old) × (length figures.old ≡ 2003) }
-    ensures { (LineReplayed (all_tables records.old positions.old processes.old) text.now at result (all_tables records.new positions.new processes.new)) × (length figures.new ≡ 2003) }
+    ensures { (LineReplayed (all_tables records.old positions.old processes.old) text.now at (became result) (all_tables records.new positions.new processes.new)) × (length figures.new ≡ 2003) }
 {
-    let LineRead::Read(heading, count, next) = journal_reading::request::read_request(
-        text,
-        at,
-        &mut *figures,
-    ) else {
-        return Became::Bad;
+    let Some(line) = journal_reading::request::read_request(text, at, &mut *figures) else {
+        return Err(Unbooked::Bad);
     };
-    match journal_booking::book_line(
+    journal_booking::book_line(
         records,
         positions,
         processes,
         passes2,
         passes19,
-        heading,
-        &figures[..count],
-    ) {
-        Verdict::Accepted => Became::Booked(next),
-        Verdict::Refused(number, place) => Became::Refused(number, place),
-    }
+        line.heading,
+        &figures[..line.count],
+    )?;
+    Ok(line.next)
 }
 
 // Every line, with cells for a line's figures.
@@ -73,15 +67,16 @@ fn replay_lines(
             at,
             &mut *figures,
         ) {
-            Became::Bad => {
+            Err(Unbooked::Bad) => {
                 let bad = (line + 1) as i64;
                 return Reply::BadLine(bad);
             }
-            Became::Refused(number, place) => {
+            Err(Unbooked::Refused(refusal)) => {
                 let refused = (line + 1) as i64;
-                return Reply::LineRefused(refused, number, place);
+                let number = refusals::number(refusal.reason);
+                return Reply::LineRefused(refused, number, refusal.place);
             }
-            Became::Booked(next) => at = next,
+            Ok(next) => at = next,
         }
         line += 1;
     }
@@ -117,12 +112,12 @@ fn first_line_refused(text: &[u8], figures: &mut [i64]) -> Reply
     requires { length figures.old ≡ 2003 }
     ensures { result ≡ refused_at_once text.now }
 {
-    if text.len() == 0 {
+    if text.is_empty() {
         return Reply::Replayed(0);
     }
     match journal_reading::request::read_request(text, 0, figures) {
-        LineRead::Bad => Reply::BadLine(1),
-        LineRead::Read(heading, count, next) => Reply::LineRefused(1, 1, 0),
+        None => Reply::BadLine(1),
+        Some(_) => Reply::LineRefused(1, refusals::number(Reason::RecordsUnsound), 0),
     }
 }
 

@@ -2,12 +2,24 @@
 // positions that are not sound days are booked all the same, up to the first line that is another request.
 #![tactic(auto)]
 
+ghost use Rattle.std.specs.Prelude.{◌≡◌};
+ghost use Rattle.replaying.specs.declared.Unbooked.TheVariants.{Refused};
+
+use rules::refusals::Refusal;
+
 pub mod each_line; // every line in turn
 
-// What became of a line: booked, with the place of the next; bad; or refused with a number and a place.
-#[derive(Clone, Copy)]
-pub enum Became {
-    Booked(usize),
+// Why a line is not booked: it is no line of a request, or its request is refused.
+#[derive(Clone, Copy, Debug, PartialEq, Eq)]
+pub enum Unbooked {
     Bad,
-    Refused(i64, i64),
+    Refused(Refusal),
+}
+
+impl From<Refusal> for Unbooked {
+    ghost from_gives = { λ e u. u ≡ Refused e };
+
+    fn from(refusal: Refusal) -> Unbooked {
+        Unbooked::Refused(refusal)
+    }
 }

@@ -1,10 +1,10 @@
 -- What the call for the list is answered: refusals 1, 5 and 14, each of which leaves every cell, or the number of records with their pairs written. By the definitions. Assumes nothing.
 use Prim.Native.Nat.{ℕ, ◌*◌}
-use native.Mathlib.Omega.{arith}
 use mathlib.Core.Path.{◌≡◌, refl, sym, ◌∙◌, ap}
 use mathlib.Core.Bool.{Bool, true, false, cond, not}
 use mathlib.Core.List.{List, [], ◌∷◌, map}
 use lib.Dec.{ltb}
+use Rattle.std.specs.Prelude.{Ok, Err}
 use lib.IntN.{ℤ, pos}
 use lib.ListN.{length}
 use Rattle.rules.specs.Call.{reportable, handle_call}
@@ -16,10 +16,11 @@ use Rattle.rules.specs.Reply.{refused_by}
 use Rattle.rules.specs.Reportable.{lacks_parent, reportable_among, ids_and_suffixes, reportable_tests, listed_in, handle_reportable}
 use Rattle.rules.specs.Tables.{records_layout, tables_of, current_day, sound_records, books_of}
 use Rattle.rules.specs.declared.Record.{Record}
+use Rattle.rules.specs.declared.refusals.Reason.{Reason}
+use Rattle.rules.specs.declared.refusals.Reason.TheVariants.{NoRecord}
 use Rattle.rules.specs.declared.Reply.{Reply}
 use Rattle.rules.specs.declared.Reply.TheVariants.{Refused, Listed}
 use Rattle.reportable.specs.Listing.{counted_of}
-use Rattle.reportable.specs.declared.Counted.TheVariants.{Pairs, NoParent}
 
 module _ (rs pairs : List ℤ) where
   abbrev rows : List Record
@@ -48,27 +49,27 @@ module _ (rs pairs : List ℤ) where
   module _ (sound : sound_records rs ≡ true) where
     -- ---- what the count says
 
-    counted_none : counted_of (current_day rs) rows rows ≡ NoParent → any_of (map (lacks_parent (current_day rs) rows) rows) ≡ true
+    pub counted-none : (e : Reason) → counted_of (current_day rs) rows rows ≡ Err e → (any_of (map (lacks_parent (current_day rs) rows) rows) ≡ true) × (e ≡ NoRecord)
     unfolding counted_of
-    counted_none h = go (any_of (map (lacks_parent (current_day rs) rows) rows)) _ h
+    counted-none e h = go (any_of (map (lacks_parent (current_day rs) rows) rows)) _ h
       where
-        go : (b : Bool) (n : ℕ) → cond b NoParent (Pairs n) ≡ NoParent → b ≡ true
-        go true n e = refl
-        go false n e = let z : ◌≡◌ {A = ℕ} 0 1 = cc in absurd (omega arith)
+        go : (b : Bool) (n : ℕ) → cond b (Err NoRecord) (Ok n) ≡ Err e → (b ≡ true) × (e ≡ NoRecord)
+        go true n k = (refl, cc)
+        go false n k = absurd (cc)
 
-    pub counted-all : (n : ℕ) → counted_of (current_day rs) rows rows ≡ Pairs n → (any_of (map (lacks_parent (current_day rs) rows) rows) ≡ false) × (length listed ≡ n)
+    pub counted-all : (n : ℕ) → counted_of (current_day rs) rows rows ≡ Ok n → (any_of (map (lacks_parent (current_day rs) rows) rows) ≡ false) × (length listed ≡ n)
     unfolding counted_of
     counted-all n h = go (any_of (map (lacks_parent (current_day rs) rows) rows)) _ h
       where
-        go : (b : Bool) (m : ℕ) → cond b NoParent (Pairs m) ≡ Pairs n → (b ≡ false) × (m ≡ n)
-        go true m e = let z : ◌≡◌ {A = ℕ} 0 1 = cc in absurd (omega arith)
+        go : (b : Bool) (m : ℕ) → cond b (Err NoRecord) (Ok m) ≡ Ok n → (b ≡ false) × (m ≡ n)
+        go true m e = absurd (cc)
         go false m e = (refl, cc)
 
-    pub refused-missing : counted_of (current_day rs) rows rows ≡ NoParent → Answered (Refused (pos 5) (pos 0)) pairs
+    pub refused-missing : any_of (map (lacks_parent (current_day rs) rows) rows) ≡ true → Answered (Refused (pos 5) (pos 0)) pairs
     unfolding first_refusal test answer refused_by written_to
-    refused-missing h = sym (ap (left_by pairs) as-tests ∙ rw (sound, counted_none h))
+    refused-missing h = sym (ap (left_by pairs) as-tests ∙ rw (sound, h))
 
-    module _ (n : ℕ) (counted : counted_of (current_day rs) rows rows ≡ Pairs n) where
+    module _ (n : ℕ) (counted : counted_of (current_day rs) rows rows ≡ Ok n) where
       pub refused-short : ltb (length pairs) (2 * n) ≡ true → Answered (Refused (pos 14) (pos 0)) pairs
       unfolding first_refusal test answer refused_by written_to
       refused-short h =

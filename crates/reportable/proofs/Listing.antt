@@ -6,6 +6,7 @@ use mathlib.Core.Path.{◌≡◌, refl, sym, ◌∙◌, ap, subst}
 use mathlib.Core.Bool.{Bool, true, false, cond}
 use mathlib.Core.List.{List, [], ◌∷◌, ◌++◌, map}
 use lib.IntN.{ℤ}
+use Rattle.std.specs.Prelude.{Result, Ok, Err}
 use lib.ListN.{length, get_or, take, drop, set, length-append, take-append-drop}
 use lib.Seq.{drop-cons, take-suc}
 use Rattle.text.specs.Written.{written}
@@ -16,14 +17,16 @@ use Rattle.rules.specs.NamedRecord.{no_record}
 use Rattle.rules.specs.Rows.{record_key}
 use Rattle.rules.specs.Refusal.{any_of}
 use Rattle.rules.specs.Reportable.{is_reportable, lacks_parent, reportable_among, ids_and_suffixes}
-use Rattle.rules.specs.Tables.{records_layout}
+use Rattle.rules.specs.Tables.{records_layout, sound_record_rows}
 use Rattle.rules.specs.declared.Record.{Record}
+use Rattle.rules.specs.declared.refusals.Reason.{Reason}
+use Rattle.rules.specs.declared.refusals.Reason.TheVariants.{NoRecord}
+use Rattle.cells.proofs.Count.{room_most}
+use Rattle.cells.proofs.SoundCells.{records-known}
 use Rattle.keys.proofs.Split.{or-false-left, or-false-right}
 use Rattle.lookup.proofs.TableLookup.{records-first, table-row}
 use Rattle.reportable.specs.Listing.{pairs_of_row, counted_of}
-use Rattle.reportable.specs.declared.Counted.{Counted}
-use Rattle.reportable.specs.declared.Counted.TheVariants.{Pairs, NoParent}
-use Rattle.reportable.proofs.RowPairs.{two-lacks, not-two, given_is}
+use Rattle.reportable.proofs.RowPairs.{row-lacks, row-whole, given_is}
 
 -- ---- lists of records
 
@@ -87,45 +90,43 @@ none-at f (r ∷ rest) (suc i) other h n = none-at f rest i other (omega arith) 
 -- ---- counting
 
 -- So many pairs more.
-abbrev pub more : ℕ → Counted → Counted
-more n (Pairs m) = Pairs (n + m)
-more n NoParent = NoParent
+abbrev pub more : ℕ → Result ℕ Reason → Result ℕ Reason
+more n (Ok m) = Ok (n + m)
+more n (Err e) = Err e
 
-more-more : (a b : ℕ) (c : Counted) → more a (more b c) ≡ more (a + b) c
-more-more a b (Pairs m) = ap Pairs (sym (add_assoc a b m))
-more-more a b NoParent = refl
+more-more : (a b : ℕ) (c : Result ℕ Reason) → more a (more b c) ≡ more (a + b) c
+more-more a b (Ok m) = ap Ok (sym (add_assoc a b m))
+more-more a b (Err e) = refl
 
-more-none : (c : Counted) → more 0 c ≡ c
-more-none (Pairs m) = ap Pairs (zero-add m)
-more-none NoParent = refl
+more-none : (c : Result ℕ Reason) → more 0 c ≡ c
+more-none (Ok m) = ap Ok (zero-add m)
+more-none (Err e) = refl
 
 module _ (today : ℤ) (records : List Record) where
-  counted-lacks : (r : Record) (rest : List Record) → lacks_parent today records r ≡ true → counted_of today records (r ∷ rest) ≡ NoParent
+  counted-lacks : (r : Record) (rest : List Record) → lacks_parent today records r ≡ true → counted_of today records (r ∷ rest) ≡ Err NoRecord
   unfolding counted_of any_of
   counted-lacks r rest h = rw h
 
-  counted_next : (r : Record) (rest : List Record) → lacks_parent today records r ≡ false → counted_of today records (r ∷ rest) ≡ more (pairs_of_row today records r) (counted_of today records rest)
+  counted_next : (r : Record) (rest : List Record) (n : ℕ) → pairs_of_row today records r ≡ Ok n → counted_of today records (r ∷ rest) ≡ more n (counted_of today records rest)
   unfolding counted_of any_of
-  counted_next r rest h =
-      let sum : length (reportable_among today records (r ∷ rest)) ≡ pairs_of_row today records r + length (reportable_among today records rest) =
+  counted_next r rest n h =
+      let sum : length (reportable_among today records (r ∷ rest)) ≡ n + length (reportable_among today records rest) =
       ap (λ (l : List Record). length l) (among-append today records (r ∷ []) rest) ∙ length-append (reportable_among today records (r ∷ [])) (reportable_among today records rest)
-      ∙ ap (λ (n : ℕ). n + length (reportable_among today records rest)) (sym (given_is today records r h)) in
-      rw h (go (any_of (map (lacks_parent today records) rest)) _ _ _ sum)
+      ∙ ap (λ (k : ℕ). k + length (reportable_among today records rest)) (sym (given_is today records r n h)) in
+      rw (row-whole today records r n h) (go (any_of (map (lacks_parent today records) rest)) _ _ sum)
     where
-      go : (b : Bool) (n m k : ℕ) → n ≡ m + k → cond b NoParent (Pairs n) ≡ more m (cond b NoParent (Pairs k))
-      go true n m k e = refl
-      go false n m k e = ap Pairs e
+      go : (b : Bool) (m k : ℕ) → m ≡ n + k → cond b (Err NoRecord) (Ok m) ≡ more n (cond b (Err NoRecord) (Ok k))
+      go true m k e = refl
+      go false m k e = ap Ok e
 
 -- A row with its parent there gives one pair at most.
-one_at_most : (today : ℤ) (records : List Record) (r : Record) → lacks_parent today records r ≡ false → pairs_of_row today records r ≤ 1
-unfolding pairs_of_row
-one_at_most today records r whole = rw whole (go (is_reportable today records r))
-  where
-    go : (b : Bool) → cond b 1 0 ≤ 1
-    go true = omega arith
-    go false = omega arith
+one_at_most : (today : ℤ) (records : List Record) (r : Record) (n : ℕ) → pairs_of_row today records r ≡ Ok n → n ≤ 1
+one_at_most today records r n h = omega (arith, given_is today records r n h, fewer-reported today records (r ∷ []))
 
 -- ---- over the rows of a table
+
+pub few-rows : (cells : List ℤ) → sound_record_rows cells ≡ true → length (rows_of records_layout cells) ≤ 4096
+few-rows cells sound = omega (arith, (records-known cells sound).rows_fit, room_most records_layout cells)
 
 module _ (today : ℤ) (cells : List ℤ) where
   abbrev rows : List Record
@@ -148,32 +149,31 @@ module _ (today : ℤ) (cells : List ℤ) where
   none-counted = record { within = omega arith; few = omega arith; rest = sym (more-none (counted_of today rows rows)) }
 
   module _ (pairs row : ℕ) (so_far : CountedSoFar pairs row) where
-    pub row-lacks : row < length rows → pairs_of_row today rows (row_at records_layout cells row) ≡ 2 → NoParent ≡ counted_of today rows rows
-    row-lacks h two =
-        sym (so_far.rest ∙ ap (λ (l : List Record). more pairs (counted_of today rows l)) (rows-from row h)
-        ∙ ap (more pairs) (counted-lacks today rows (row_at records_layout cells row) (drop (suc row) rows) (two-lacks today rows (row_at records_layout cells row) two)))
+    pub row-refused : row < length rows → (e : Reason) → pairs_of_row today rows (row_at records_layout cells row) ≡ Err e → Err e ≡ counted_of today rows rows
+    row-refused h e lacks =
+        let w : (lacks_parent today rows (row_at records_layout cells row) ≡ true) × (e ≡ NoRecord) = row-lacks today rows (row_at records_layout cells row) e lacks in
+        ap Err w.1 ∙ sym (so_far.rest ∙ ap (λ (l : List Record). more pairs (counted_of today rows l)) (rows-from row h)
+        ∙ ap (more pairs) (counted-lacks today rows (row_at records_layout cells row) (drop (suc row) rows) w.0))
 
-    pub row-counted : row < length rows → (given : ℕ) → given ≡ pairs_of_row today rows (row_at records_layout cells row) → (given ≡ 2 → ⊥) → CountedSoFar (pairs + given) (row + 1)
-    row-counted h given e n =
+    pub row-counted : row < length rows → (given : ℕ) → pairs_of_row today rows (row_at records_layout cells row) ≡ Ok given → CountedSoFar (pairs + given) (row + 1)
+    row-counted h given e =
         let r : Record = row_at records_layout cells row in
-        let whole : lacks_parent today rows r ≡ false = not-two today rows r (λ two. n (e ∙ two)) in
         let one : row + 1 ≡ suc row = omega arith in
         record {
           within = omega arith;
-          few = omega (arith, so_far.few, one_at_most today rows r whole, e);
+          few = omega (arith, so_far.few, one_at_most today rows r given e);
           rest =
               so_far.rest ∙ ap (λ (l : List Record). more pairs (counted_of today rows l)) (rows-from row h)
-              ∙ ap (more pairs) (counted_next today rows r (drop (suc row) rows) whole)
-              ∙ more-more pairs (pairs_of_row today rows r) (counted_of today rows (drop (suc row) rows))
-              ∙ ap (λ (k : ℕ). more (pairs + k) (counted_of today rows (drop (suc row) rows))) (sym e)
+              ∙ ap (more pairs) (counted_next today rows r (drop (suc row) rows) given e)
+              ∙ more-more pairs given (counted_of today rows (drop (suc row) rows))
               ∙ ap (λ (k : ℕ). more (pairs + given) (counted_of today rows (drop k rows))) (sym one);
         }
 
-    pub all-counted : length rows ≤ row → Pairs pairs ≡ counted_of today rows rows
+    pub all-counted : length rows ≤ row → Ok pairs ≡ counted_of today rows rows
     unfolding counted_of any_of reportable_among
     all-counted h =
         let end : row ≡ length rows = omega (arith, so_far.within) in
-        sym (so_far.rest ∙ ap (λ (l : List Record). more pairs (counted_of today rows l)) (ap (λ (k : ℕ). drop k rows) end ∙ drop_all rows) ∙ ap Pairs (plus_none pairs))
+        sym (so_far.rest ∙ ap (λ (l : List Record). more pairs (counted_of today rows l)) (ap (λ (k : ℕ). drop k rows) end ∙ drop_all rows) ∙ ap Ok (plus_none pairs))
       where
         drop_all : (l : List Record) → drop (length l) l ≡ []
         drop_all [] = refl

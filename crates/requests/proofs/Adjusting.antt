@@ -1,6 +1,5 @@
 -- A named record adjusted, and the rows that come out of it inserted at the place that the lookup said: its status leaves every key where it stood, so the place is still
 -- the next suffix's. Assumes nothing.
-use Prim.Native.Nat.{◌+◌, ◌≤◌}
 use native.Mathlib.Omega.{arith}
 use mathlib.Core.Path.{◌≡◌, sym, ap, subst, ◌∙◌}
 use mathlib.Core.Bool.{true}

@@ -1,8 +1,9 @@
 // What several requests share: what was looked up of a record and of a position, the room tests, a position's change, a new row, and the rows that come out of a record.
 #![tactic(auto)]
 
-ghost use Rattle.std.specs.Prelude.{◌≡◌, true, ◌∷◌, ◌+◌, ◌≤◌, ltb, pos, length};
+ghost use Rattle.std.specs.Prelude.{Ok, ◌≡◌, true, ◌∷◌, ◌+◌, ◌≤◌, ltb, pos, length};
 ghost use Rattle.rules.specs.Figures.{magnitude_at_most, valid_price};
+ghost use Rattle.rules.specs.Reasons.{number_of};
 ghost use Rattle.rules.specs.NamedRecord.{is_elsewhere, status_refusal};
 ghost use Rattle.rules.specs.Keyed.{upsert_all};
 ghost use Rattle.rules.specs.Rows as Rows;
@@ -10,7 +11,7 @@ ghost use Rattle.rules.specs.Rows.{record_key};
 ghost use Rattle.rules.specs.Layout.{room_of, rows_of, write};
 ghost use Rattle.rules.specs.Tables.{records_layout, positions_layout, sound_record_rows, sound_positions};
 ghost use Rattle.lookup.specs.Lookup.{record_sought};
-ghost use Rattle.lookup.specs.declared.Sought.TheVariants.{Present};
+ghost use Rattle.lookup.specs.Sought.{sought_told};
 ghost use Rattle.tables.specs.NewRows.{new_rows};
 ghost use Rattle.verdict.specs.MovedReady.{MovedReady};
 ghost use Rattle.requests.specs.AbsentRow.{absent_row};
@@ -18,15 +19,16 @@ ghost use Rattle.requests.specs.AdjustReady.{AdjustReady};
 ghost use Rattle.requests.specs.KnownPosition.{KnownPosition};
 ghost use Rattle.requests.specs.KnownRecord.{KnownRecord};
 
-use lookup::Found;
+use lookup::Present;
 use rules::codes::{ADJUSTABLE, ADJUSTED, INVERSE, UNDER_GIVE_UP};
+use rules::refusals::Reason;
 use rules::{Movement, Position, Record};
 use tables::{new_rows, positions, records};
 
-// A position as it was looked up: the row with its key or the place where it belongs, and its figures, zeros where it has no row.
+// A position as it was looked up: the row with its key, or as an error the place where it belongs; and its figures, zeros where it has no row.
 #[derive(Clone, Copy)]
 pub struct Held {
-    pub found: Found,
+    pub found: Result<usize, usize>,
     pub position: Position,
 }
 
@@ -49,19 +51,14 @@ pub fn position_held(cells: &[i64], account: i64, series: i64) -> Held
 }
 
 // What the lookup said of a record that is there.
-pub fn record_named(
-    cells: &[i64],
-    id: i64,
-    suffix: i64,
-    row: usize,
-    greatest: i64,
-    place: usize,
-) -> Named
-    requires { (sound_record_rows cells.now ≡ true) × (record_sought cells.now id suffix ≡ Present row greatest place) }
+pub fn record_named(cells: &[i64], id: i64, suffix: i64, there: Present) -> Named
+    requires { (sound_record_rows cells.now ≡ true) × (record_sought cells.now id suffix ≡ sought_told (Ok there)) }
     ensures { KnownRecord cells.now id suffix result }
 {
+    let row = there.row;
+    let place = there.next;
     let record = records::read_record(cells, row);
-    let next = greatest + 1;
+    let next = there.greatest + 1;
     Named {
         record,
         row,
@@ -87,12 +84,12 @@ pub fn lacks_positions_room(cells: &[i64], added: usize) -> bool
 }
 
 // 1 where the lookup found no row, else 0.
-pub fn absent_row(found: Found) -> usize
+pub fn absent_row(found: Result<usize, usize>) -> usize
     ensures { result ≡ absent_row found }
 {
     match found {
-        Found::Row(_) => 0,
-        Found::Absent(_) => 1,
+        Ok(_) => 0,
+        Err(_) => 1,
     }
 }
 
@@ -164,20 +161,18 @@ pub fn adjust_named(
 pub fn is_elsewhere(r: Record, account: i64, series: i64) -> bool
     ensures { result ≡ is_elsewhere account series r }
 {
-    if r.account != account {
-        return true;
-    }
-    r.series != series
+    r.account != account || r.series != series
 }
 
 // 7, or 17 while a give-up is under way: the refusal of a record of this status, which isn't 0.
-pub fn status_refusal(status: i64) -> i64
-    ensures { result ≡ pos (status_refusal status) }
+pub fn status_refusal(status: i64) -> Reason
+    ensures { number_of result ≡ pos (status_refusal status) }
 {
     if status == UNDER_GIVE_UP {
-        return 17;
+        Reason::UnderGiveUp
+    } else {
+        Reason::NotAdjustable
     }
-    7
 }
 
 // A row with suffix 0, parent 0 and status 0: a trade's, and the merged one. New rows take the current day, here as in the two below.

@@ -5,6 +5,7 @@ pub mod ProcessRows
 pub mod NamedRecord
 pub mod Refusal
 pub mod Reply
+pub mod Reasons
 pub mod Request
 pub mod Books
 pub mod Plan
@@ -24,6 +25,7 @@ pub mod Sequence
 pub mod Batch
 pub mod Line
 pub mod Reader
+pub mod Numbers
 pub mod Replay
 pub mod Writing
 pub mod Reportable

@@ -25,5 +25,8 @@ pub const STATUS_CELL: usize = 4;
 // The cell of the records header that has the current day.
 pub const DAY_CELL: usize = 1;
 
+// The figures of a trade in a batch: id, account, series, side code, quantity, price (`trade_at` in specs/Batch.antt).
+pub const TRADE_WIDTH: usize = 6;
+
 // The figures of a line of a journal: a merge names an id, an account, a series and 1,000 pairs (`most_figures` in specs/Reader.antt).
 pub const MOST_FIGURES: usize = 2003;

@@ -3,6 +3,8 @@
 
 pub mod codes; // status, type, limits
 pub mod layout; // header, width and room of the tables
+pub mod numbers; // letters of steps, numbers of stages
+pub mod refusals; // why a request is refused
 
 // A row of the records table: one transaction record. Its key is the id, then the suffix.
 #[derive(Clone, Copy)]
@@ -57,14 +59,14 @@ pub struct ProcessRow {
     pub stage: i64,
 }
 
-// How far a give-up has come.
-#[derive(Clone, Copy)]
+// How far a give-up has come, by the numbers of the process table.
+#[derive(Clone, Copy, Debug, PartialEq, Eq)]
 pub enum Stage {
-    Pending,
-    Claimed,
-    Refused,
-    Cancelled,
-    Done,
+    Pending = 6,
+    Claimed = 9,
+    Refused = 10,
+    Cancelled = 12,
+    Done = 0,
 }
 
 // The process of a give-up by value, its stage told apart.
@@ -81,15 +83,15 @@ pub struct Process {
     pub stage: Stage,
 }
 
-// The steps of a give-up.
-#[derive(Clone, Copy)]
+// The steps of a give-up, by their letters in a journal.
+#[derive(Clone, Copy, Debug, PartialEq, Eq)]
 pub enum Step {
-    Open,
-    Claim,
-    Cancel,
-    Refuse,
-    ApproveGiver,
-    ApproveTaker,
+    Open = 79,
+    Claim = 67,
+    Cancel = 88,
+    Refuse = 82,
+    ApproveGiver = 71,
+    ApproveTaker = 84,
 }
 
 // What stands before the figures of a line of a journal: the letter of the request's kind, and of a step of a give-up also the step's.

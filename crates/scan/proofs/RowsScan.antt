@@ -1,28 +1,26 @@
 -- One pass over the rows of a table, over any layout with its key and the test of a row: whether the rows rise and each is sound, from the first row to the rest;
 -- and what holds before each turn of the loop that tests them.
 -- Assumes nothing.
-use Prim.Native.Nat.{ℕ, zero, suc, ◌+◌, ◌-◌, ◌*◌, ◌^◌, ◌≤◌, ◌<◌}
-use native.Mathlib.Nat.{suc-mul}
+use Prim.Native.Nat.{ℕ, ◌+◌, ◌-◌, ◌≤◌, ◌<◌}
+use native.Mathlib.Nat.{add-mul, sub-zero}
 use native.Mathlib.Omega.{arith}
-use mathlib.Core.Path.{◌≡◌, refl, sym, ap, ◌∙◌}
+use mathlib.Core.Path.{◌≡◌, refl, sym, ◌∙◌}
 use mathlib.Core.Bool.{Bool, true, false, ◌&&◌}
 use mathlib.Core.List.{List, [], ◌∷◌, map}
-use lib.IntN.{ℤ, pos}
-use lib.ListN.{length, get_or}
-use lib.Signed.{mag}
-use mir.Syntax.{w64}
-use mir.Val.{to_z, of_z}
+use lib.IntN.{ℤ}
 use Rattle.rules.specs.Keyed.{Key, below, rising}
 use Rattle.rules.specs.Refusal.{all_of}
-use Rattle.rules.specs.Rows.{key_of}
-use Rattle.rules.specs.Layout.{Layout, decode, start_of}
+use Rattle.rules.specs.Layout.{Layout, decode, start_of, row_at}
 use Rattle.cells.proofs.Decode.{decode-step}
 use Rattle.scan.specs.Scan.{rows_rise_sound}
-use Rattle.scan.proofs.ReadBack.{read_back}
 
 false-last : (a : Bool) → (a && false) ≡ false
 false-last true = refl
 false-last false = refl
+
+true-last : (a : Bool) → (a && true) ≡ a
+true-last true = refl
+true-last false = refl
 
 module _ {Row : Type 0} (key : Row → Key) (sound_row : Row → Bool) where
   -- these rows rise, and each is sound
@@ -37,9 +35,9 @@ module _ {Row : Type 0} (key : Row → Key) (sound_row : Row → Bool) where
   unfolding rising
   rows-not-rising r s rest e = rw e
 
-  one-row : (r : Row) → sound_row r ≡ true → rise_sound (r ∷ []) ≡ rise_sound []
+  one-row : (r : Row) → rise_sound (r ∷ []) ≡ sound_row r
   unfolding rising all_of
-  one-row r e = rw e
+  one-row r = true-last (sound_row r)
 
   first-row : (r s : Row) (rest : List Row) → sound_row r ≡ true → below (key r) (key s) ≡ true → rise_sound (r ∷ s ∷ rest) ≡ rise_sound (s ∷ rest)
   unfolding rising all_of
@@ -64,80 +62,52 @@ module _ {Row : Type 0} (key : Row → Key) (sound_row : Row → Bool) where
     not-rising-row left at cells h e =
         rw (decode-step get width left at cells (omega arith)) (rw (decode-step get width (left - 1) (at + width) cells (omega arith)) (rows-not-rising _ _ _ e))
 
-    next_row : (left at : ℕ) (cells : List ℤ) → 0 < left → sound_row (get cells at) ≡ true
-        → (1 < left → below (key (get cells at)) (key (get cells (at + width))) ≡ true)
+    next_row : (left at : ℕ) (cells : List ℤ) → 1 < left → sound_row (get cells at) ≡ true
+        → below (key (get cells at)) (key (get cells (at + width))) ≡ true
         → rows_sound left at cells ≡ rows_sound (left - 1) (at + width) cells
-    next_row zero at cells h e b = absurd (omega arith)
-    next_row (suc zero) at cells h e b = one-row _ e
-    next_row (suc (suc n)) at cells h e b =
-        let m : suc (suc n) - 1 ≡ suc n = omega arith in
-        rw m (first-row _ _ _ e (b (omega arith)))
+    next_row left at cells h e b =
+        rw (decode-step get width left at cells (omega arith), decode-step get width (left - 1) (at + width) cells (omega arith)) (first-row _ _ _ e b)
+
+    last_row : (left at : ℕ) (cells : List ℤ) → left ≡ 1 → rows_sound left at cells ≡ sound_row (get cells at)
+    last_row left at cells e = rw e (one-row (get cells at))
 
 -- ---- the loop over the rows of a layout
 
--- the cell at a place, read back from its bits
-abbrev read : List ℤ → ℕ → ℤ
-read cells i = to_z w64 (of_z w64 (get_or cells i (pos 0)))
-
--- the answer of a comparison of keys, handed the cells of two neighbouring rows
-pub neighbours : (cells : List ℤ) (at width : ℕ) {r : Bool}
-    → mag (get_or cells at (pos 0)) < 2 ^ 63
-    → mag (get_or cells (at + 1) (pos 0)) < 2 ^ 63
-    → mag (get_or cells (at + width) (pos 0)) < 2 ^ 63
-    → mag (get_or cells (at + (width + 1)) (pos 0)) < 2 ^ 63
-    → r ≡ below (key_of (read cells at) (read cells (at + 1))) (key_of (read cells (at + width)) (read cells (at + (width + 1))))
-    → r ≡ below (key_of (get_or cells at (pos 0)) (get_or cells (at + 1) (pos 0))) (key_of (get_or cells (at + width) (pos 0)) (get_or cells (at + width + 1) (pos 0)))
-neighbours cells at width f g f2 g2 e =
-    let next : at + (width + 1) ≡ at + width + 1 = omega arith in
-    rw next at
-    (simp (
-      read_back (get_or cells at (pos 0)) f,
-      read_back (get_or cells (at + 1) (pos 0)) g,
-      read_back (get_or cells (at + width) (pos 0)) f2,
-      read_back (get_or cells (at + (width + 1)) (pos 0)) g2,
-    ) at e)
-
--- the same of keys with one figure, handed the first cells of the two rows
-pub first-neighbours : (cells : List ℤ) (at width : ℕ) {r : Bool}
-    → mag (get_or cells at (pos 0)) < 2 ^ 63
-    → mag (get_or cells (at + width) (pos 0)) < 2 ^ 63
-    → r ≡ below (key_of (read cells at) (pos 0)) (key_of (read cells (at + width)) (pos 0))
-    → r ≡ below (key_of (get_or cells at (pos 0)) (pos 0)) (key_of (get_or cells (at + width) (pos 0)) (pos 0))
-first-neighbours cells at width f g e = rw (read_back (get_or cells at (pos 0)) f, read_back (get_or cells (at + width) (pos 0)) g) at e
-
--- The answer on the rows that are left is the answer on all of them, and they lie within the cells.
-pub record RowsLeft {Row : Type 0} (l : Layout Row) (key : Row → Key) (sound_row : Row → Bool) (cells : List ℤ) (count left at : ℕ) : Type 0 where
-  pub answer : rows_sound key sound_row l.get l.width left at cells ≡ rows_rise_sound l key sound_row count cells
-  pub within : at + left * l.width ≤ length cells
+-- The rows before this one rise and are sound, and it comes after them: the answer on the rows from it on is the answer on all of them.
+pub record RowsPassed {Row : Type 0} (l : Layout Row) (key : Row → Key) (sound_row : Row → Bool) (cells : List ℤ) (count row : ℕ) : Type 0 where
+  pub answer : rows_sound key sound_row l.get l.width (count - row) (start_of l row) cells ≡ rows_rise_sound l key sound_row count cells
 
 module _ {Row : Type 0} {l : Layout Row} {key : Row → Key} {sound_row : Row → Bool} {cells : List ℤ} {count : ℕ} where
-  pub all_left : start_of l count ≤ length cells → RowsLeft l key sound_row cells count count l.header
-  all_left h = record { answer = refl; within = h }
+  pub none_passed : RowsPassed l key sound_row cells count 0
+  none_passed =
+      let first : start_of l 0 ≡ l.header = omega arith in
+      record { answer = rw (sub-zero, first) refl }
 
-  module _ {left at : ℕ} (rows : RowsLeft l key sound_row cells count left at) where
-    pub none_left : left ≤ 0 → true ≡ rows_rise_sound l key sound_row count cells
-    none_left h = no_row key sound_row l.get l.width left at cells h ∙ rows.answer
+  module _ {row : ℕ} (passed : RowsPassed l key sound_row cells count row) where
+    -- there is none
+    pub all_passed : count ≤ row → true ≡ rows_rise_sound l key sound_row count cells
+    all_passed h = no_row key sound_row l.get l.width (count - row) (start_of l row) cells (omega arith) ∙ passed.answer
 
-    -- the first row is not sound
-    pub row-fails : 0 < left → sound_row (l.get cells at) ≡ false → false ≡ rows_rise_sound l key sound_row count cells
-    row-fails some e = sym (unsound-row key sound_row l.get l.width left at cells some e) ∙ rows.answer
+    -- it is sound, and the last
+    pub last_passes : count ≡ row + 1 → sound_row (row_at l cells row) ≡ true → true ≡ rows_rise_sound l key sound_row count cells
+    last_passes h e = sym (last_row key sound_row l.get l.width (count - row) (start_of l row) cells (omega arith) ∙ e) ∙ passed.answer
+
+    -- it is not sound
+    pub row-fails : row < count → sound_row (row_at l cells row) ≡ false → false ≡ rows_rise_sound l key sound_row count cells
+    row-fails h e = sym (unsound-row key sound_row l.get l.width (count - row) (start_of l row) cells (omega arith) e) ∙ passed.answer
+
+    next : start_of l row + l.width ≡ start_of l (row + 1)
+    next = omega (arith, add-mul row 1 l.width)
 
     -- it does not come before the next one
-    pub not-rising : 1 < left → below (key (l.get cells at)) (key (l.get cells (at + l.width))) ≡ false → false ≡ rows_rise_sound l key sound_row count cells
-    not-rising more e = sym (not-rising-row key sound_row l.get l.width left at cells more e) ∙ rows.answer
+    pub not-rising : row + 1 < count → below (key (row_at l cells row)) (key (row_at l cells (row + 1))) ≡ false → false ≡ rows_rise_sound l key sound_row count cells
+    not-rising h e = sym (not-rising-row key sound_row l.get l.width (count - row) (start_of l row) cells (omega arith) (rw next e)) ∙ passed.answer
 
-    module _ (some : 0 < left) (sound : sound_row (l.get cells at) ≡ true) where
-      rest-left : (1 < left → below (key (l.get cells at)) (key (l.get cells (at + l.width))) ≡ true) → RowsLeft l key sound_row cells count (left - 1) (at + l.width)
-      rest-left b =
-          let e : left ≡ suc (left - 1) = omega arith in
-          record {
-            answer = sym (next_row key sound_row l.get l.width left at cells some sound b) ∙ rows.answer;
-            within = omega (arith, ap (λ n. n * l.width) e, suc-mul (left - 1) l.width);
-          }
-
-      -- it is sound, and comes before the next one or is the last
-      pub row-passes : below (key (l.get cells at)) (key (l.get cells (at + l.width))) ≡ true → RowsLeft l key sound_row cells count (left - 1) (at + l.width)
-      row-passes b = rest-left (λ more. b)
-
-      pub last-passes : left ≤ 1 → RowsLeft l key sound_row cells count (left - 1) (at + l.width)
-      last-passes one = rest-left (λ more. absurd (omega arith))
+    -- it is sound, and comes before the next one
+    pub row-passes : row + 1 < count → sound_row (row_at l cells row) ≡ true → below (key (row_at l cells row)) (key (row_at l cells (row + 1))) ≡ true
+        → RowsPassed l key sound_row cells count (row + 1)
+    row-passes h e b =
+        let left : count - row - 1 ≡ count - (row + 1) = omega arith in
+        record {
+          answer = rw (← left, ← next) (sym (next_row key sound_row l.get l.width (count - row) (start_of l row) cells (omega arith) e (rw next b)) ∙ passed.answer);
+        }

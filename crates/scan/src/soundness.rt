@@ -1,264 +1,142 @@
 // Tests 1, 2 and 19: any slice, of any length and content. One pass over the rows that the count names, and no read past them.
-ghost use Rattle.std.specs.Prelude.{◌≡◌, ◌≤◌, ◌<◌, length};
-ghost use Rattle.rules.specs.Rows.{record_key, position_key, sound_record, sound_position};
-ghost use Rattle.rules.specs.ProcessRows.{process_number, sound_process};
-ghost use Rattle.rules.specs.Layout.{room_for, start_of};
-ghost use Rattle.rules.specs.Tables.{records_layout, positions_layout, processes_layout, sound_records, sound_positions, sound_processes};
-ghost use Rattle.scan.specs.Scan.{count_sound, rows_rise_sound, sound_record_on};
+ghost use Rattle.std.specs.Prelude.{◌≡◌, true, ◌≤◌, ◌<◌, length};
+ghost use Rattle.rules.specs.Rows.{sound_record, sound_position};
+ghost use Rattle.rules.specs.ProcessRows.{sound_process};
+ghost use Rattle.rules.specs.Layout.{room_for, room_of, rows_of, start_of, count_is_sound};
+ghost use Rattle.rules.specs.Tables.{sound_table, sound_records, sound_positions, sound_processes};
+ghost use Rattle.scan.specs.Scan.{rows_rise_sound};
 
 use super::rows;
+use super::rows::Row;
 use rules::codes::LAST_DAY;
-use rules::layout::{
-    DAY_CELL, MOST_POSITIONS, MOST_PROCESSES, MOST_RECORDS, POSITION_WIDTH, POSITIONS_HEADER,
-    PROCESS_WIDTH, PROCESSES_HEADER, RECORD_WIDTH, RECORDS_HEADER,
-};
+use rules::layout::DAY_CELL;
 use rules::{Position, ProcessRow, Record};
 
 // How many whole rows fit into so many cells, at most `most`.
+#[tactic(auto, unfolding(rules::specs::Layout::room_for))]
 pub fn room_for(header: usize, width: usize, most: usize, cells: usize) -> usize
     requires { 0 < width }
     ensures { result ≡ room_for header width most cells }
 {
-    if cells < header {
-        return 0;
-    }
-    let whole = (cells - header) / width;
-    if whole < most { whole } else { most }
+    most.min(cells.saturating_sub(header) / width)
+}
+
+// How many rows of a table there is room for.
+pub fn room<R: Row>(cells: &[i64]) -> usize
+    ensures { result ≡ room_of R.layout cells.now }
+{
+    room_for(R::HEADER, R::WIDTH, R::MOST, cells.len())
 }
 
 // The slice has a header, and the count lies between 0 and the room.
-fn count_sound(cells: &[i64], header: usize, width: usize, most: usize) -> bool
-    requires { (1 ≤ header) × (0 < width) × (most ≤ 4096) }
-    ensures { result ≡ count_sound header width most cells.now }
+fn count_sound<R: Row>(cells: &[i64]) -> bool
+    ensures { result ≡ count_is_sound R.layout cells.now }
 {
-    if cells.len() < header {
-        return false;
-    }
-    let room = room_for(header, width, most, cells.len()) as i64;
-    figures::in_range(0, room, cells[0])
+    R::HEADER <= cells.len() && figures::in_range(0, room::<R>(cells) as i64, cells[0])
 }
 
-// The kind comes last: its test, a table of bits, then keeps no other cell waiting in a register. The day is tested before (`sound_record_on`).
+// The count of a table whose count is sound.
+pub fn count<R: Row>(cells: &[i64]) -> usize
+    requires { count_is_sound R.layout cells.now ≡ true }
+    ensures { result ≡ length (rows_of R.layout cells.now) }
+{
+    cells[0] as usize
+}
+
+// The kind comes last: its test, a table of bits, then keeps no other cell waiting in a register. The day is tested before (`Row::sound_on`).
+#[tactic(auto, unfolding(rules::specs::Rows::sound_record))]
 pub fn sound_record(r: Record) -> bool
     ensures { result ≡ sound_record r }
 {
-    if !figures::valid_id(r.id) {
-        return false;
-    }
-    if !figures::valid_suffix(r.suffix) {
-        return false;
-    }
-    if !figures::valid_suffix(r.parent) {
-        return false;
-    }
-    if !figures::valid_status(r.status) {
-        return false;
-    }
-    if !figures::valid_account(r.account) {
-        return false;
-    }
-    if !figures::valid_series(r.series) {
-        return false;
-    }
-    if !figures::valid_side(r.side) {
-        return false;
-    }
-    if !figures::valid_signed_quantity(r.status, r.quantity) {
-        return false;
-    }
-    if !figures::valid_price(r.price) {
-        return false;
-    }
-    if !figures::valid_booked(r.long) {
-        return false;
-    }
-    if !figures::valid_booked(r.short) {
-        return false;
-    }
-    if !figures::valid_into(r.into) {
-        return false;
-    }
-    if !figures::valid_parent(r.parent, r.suffix) {
-        return false;
-    }
-    figures::valid_kind(r.kind)
+    figures::valid_id(r.id)
+        && figures::valid_suffix(r.suffix)
+        && figures::valid_suffix(r.parent)
+        && figures::valid_status(r.status)
+        && figures::valid_account(r.account)
+        && figures::valid_series(r.series)
+        && figures::valid_side(r.side)
+        && figures::valid_signed_quantity(r.status, r.quantity)
+        && figures::valid_price(r.price)
+        && figures::valid_booked(r.long)
+        && figures::valid_booked(r.short)
+        && figures::valid_into(r.into)
+        && figures::valid_parent(r.parent, r.suffix)
+        && figures::valid_kind(r.kind)
 }
 
-// A record as the scan asks it: sound, and booked on no later day than the current one.
-fn sound_record_on(r: Record, today: i64) -> bool
-    ensures { result ≡ sound_record_on today r }
-{
-    if !figures::in_range(0, today, r.day) {
-        return false;
-    }
-    sound_record(r)
-}
-
+#[tactic(auto, unfolding(rules::specs::Rows::sound_position))]
 pub fn sound_position(p: Position) -> bool
     ensures { result ≡ sound_position p }
 {
-    if !figures::in_range(0, 1_000_000_000_000, p.long) {
-        return false;
-    }
-    if !figures::in_range(0, 1_000_000_000_000, p.short) {
-        return false;
-    }
-    if !figures::in_range(-1_000_000_000_000_000, 1_000_000_000_000_000, p.cash) {
-        return false;
-    }
-    if !figures::valid_total(p.quantity) {
-        return false;
-    }
-    figures::valid_total(p.value)
+    figures::in_range(0, 1_000_000_000_000, p.long)
+        && figures::in_range(0, 1_000_000_000_000, p.short)
+        && figures::in_range(-1_000_000_000_000_000, 1_000_000_000_000_000, p.cash)
+        && figures::valid_total(p.quantity)
+        && figures::valid_total(p.value)
 }
 
+#[tactic(auto, unfolding(rules::specs::ProcessRows::sound_process))]
 pub fn sound_process(r: ProcessRow) -> bool
     ensures { result ≡ sound_process r }
 {
-    if !figures::valid_id(r.process) {
-        return false;
-    }
-    if !figures::valid_id(r.id) {
-        return false;
-    }
-    if !figures::valid_suffix(r.suffix) {
-        return false;
-    }
-    if !figures::valid_account(r.giving) {
-        return false;
-    }
-    if !figures::valid_account(r.taking) {
-        return false;
-    }
-    if !figures::valid_series(r.series) {
-        return false;
-    }
-    if !figures::valid_approval(r.giver) {
-        return false;
-    }
-    if !figures::valid_approval(r.taker) {
-        return false;
-    }
-    figures::valid_stage(r.stage)
+    figures::valid_id(r.process)
+        && figures::valid_id(r.id)
+        && figures::valid_suffix(r.suffix)
+        && figures::valid_account(r.giving)
+        && figures::valid_account(r.taking)
+        && figures::valid_series(r.series)
+        && figures::valid_approval(r.giver)
+        && figures::valid_approval(r.taker)
+        && figures::valid_stage(r.stage)
 }
 
-// The key of the row after the one at a cell; of a process the process id alone.
-const NEXT_ID: usize = RECORD_WIDTH;
-
-const NEXT_SUFFIX: usize = RECORD_WIDTH + 1;
-
-const NEXT_ACCOUNT: usize = POSITION_WIDTH;
-
-const NEXT_SERIES: usize = POSITION_WIDTH + 1;
-
-const NEXT_PROCESS: usize = PROCESS_WIDTH;
-
-fn record_rows_sound(cells: &[i64], count: usize, today: i64) -> bool
-    requires { start_of records_layout count ≤ length cells.now }
-    ensures { result ≡ rows_rise_sound records_layout record_key (sound_record_on today) count cells.now }
+// So many rows rise, and each is sound. The loop ends at the last row by a test in the turn, which serves the compiler for both: a turn has one test of the row's number.
+fn rows_rise_sound<R: Row>(cells: &[i64], count: usize, today: i64) -> bool
+    requires { start_of R.layout count ≤ length cells.now }
+    ensures { result ≡ rows_rise_sound R.layout R.key (R.sound_on today) count cells.now }
 {
-    let mut left = count;
-    let mut at = RECORDS_HEADER;
-    while 0 < left {
-        if !sound_record_on(rows::record_at(cells, at), today) {
+    for row in 0..count {
+        let r = rows::row_at::<R>(cells, row);
+        if !r.sound_on(today) {
             return false;
         }
-        if 1 < left {
-            if !lookup::key_below(
-                cells[at],
-                cells[at + 1],
-                cells[at + NEXT_ID],
-                cells[at + NEXT_SUFFIX],
-            ) {
-                return false;
-            }
+        if row + 1 == count {
+            return true;
         }
-        left -= 1;
-        at += RECORD_WIDTH;
+        if !r.comes_before(rows::row_at(cells, row + 1)) {
+            return false;
+        }
     }
     true
 }
 
-fn position_rows_sound(cells: &[i64], count: usize) -> bool
-    requires { start_of positions_layout count ≤ length cells.now }
-    ensures { result ≡ rows_rise_sound positions_layout position_key sound_position count cells.now }
+fn table_sound<R: Row>(cells: &[i64], today: i64) -> bool
+    ensures { result ≡ sound_table R.layout R.key (R.sound_on today) cells.now }
 {
-    let mut left = count;
-    let mut at = POSITIONS_HEADER;
-    while 0 < left {
-        if !sound_position(rows::position_at(cells, at)) {
-            return false;
-        }
-        if 1 < left {
-            if !lookup::key_below(
-                cells[at],
-                cells[at + 1],
-                cells[at + NEXT_ACCOUNT],
-                cells[at + NEXT_SERIES],
-            ) {
-                return false;
-            }
-        }
-        left -= 1;
-        at += POSITION_WIDTH;
-    }
-    true
-}
-
-fn process_rows_sound(cells: &[i64], count: usize) -> bool
-    requires { start_of processes_layout count ≤ length cells.now }
-    ensures { result ≡ rows_rise_sound processes_layout process_number sound_process count cells.now }
-{
-    let mut left = count;
-    let mut at = PROCESSES_HEADER;
-    while 0 < left {
-        if !sound_process(rows::process_at(cells, at)) {
-            return false;
-        }
-        if 1 < left {
-            if !lookup::key_below(cells[at], 0, cells[at + NEXT_PROCESS], 0) {
-                return false;
-            }
-        }
-        left -= 1;
-        at += PROCESS_WIDTH;
-    }
-    true
+    count_sound::<R>(cells) && rows_rise_sound::<R>(cells, count::<R>(cells), today)
 }
 
 // Test 1.
 pub fn records_sound(cells: &[i64]) -> bool
     ensures { result ≡ sound_records cells.now }
 {
-    if !count_sound(cells, RECORDS_HEADER, RECORD_WIDTH, MOST_RECORDS) {
-        return false;
-    }
-    let today = cells[DAY_CELL];
-    if !figures::in_range(0, LAST_DAY, today) {
-        return false;
-    }
-    let count = cells[0] as usize;
-    record_rows_sound(cells, count, today)
+    DAY_CELL < cells.len()
+        && figures::in_range(0, LAST_DAY, cells[DAY_CELL])
+        && table_sound::<Record>(cells, cells[DAY_CELL])
 }
 
 // Test 2.
+#[tactic(auto, unfolding(rules::specs::Tables::sound_positions))]
 pub fn positions_sound(cells: &[i64]) -> bool
     ensures { result ≡ sound_positions cells.now }
 {
-    if !count_sound(cells, POSITIONS_HEADER, POSITION_WIDTH, MOST_POSITIONS) {
-        return false;
-    }
-    let count = cells[0] as usize;
-    position_rows_sound(cells, count)
+    table_sound::<Position>(cells, 0)
 }
 
 // Test 19.
+#[tactic(auto, unfolding(rules::specs::Tables::sound_processes))]
 pub fn processes_sound(cells: &[i64]) -> bool
     ensures { result ≡ sound_processes cells.now }
 {
-    if !count_sound(cells, PROCESSES_HEADER, PROCESS_WIDTH, MOST_PROCESSES) {
-        return false;
-    }
-    let count = cells[0] as usize;
-    process_rows_sound(cells, count)
+    table_sound::<ProcessRow>(cells, 0)
 }

@@ -3,9 +3,9 @@
 use Prim.Native.Nat.{ℕ, ◌+◌, ◌*◌, ◌≤◌, ◌<◌}
 use native.Mathlib.Numerals.{add-one}
 use mathlib.Core.Path.{◌≡◌, sym, ap, ◌∙◌}
-use mathlib.Core.Bool.{Bool, true, false, ◌&&◌}
+use mathlib.Core.Bool.{Bool, true, ◌&&◌}
 use mathlib.Core.List.{List, [], ◌∷◌, map}
-use borrow.Author.Tests.{leb-true, le-leb, lt-leb}
+use borrow.Author.Tests.{leb-true}
 use lib.Dec.{leb}
 use lib.IntN.{ℤ, pos, ◌+ℤ◌}
 use lib.ListN.{length, get_or, drop, drop_of_length-le}
@@ -18,7 +18,7 @@ use Rattle.rules.specs.Figures.{valid_id, valid_suffix, valid_account, valid_ser
 use Rattle.rules.specs.Refusal.{all_of}
 use Rattle.rules.specs.Separation.{sum_of, separation_figures}
 use Rattle.keys.proofs.Split.{and_left, and_right}
-use Rattle.keys.proofs.Clauses.{all_of-nil, all_of-cons, all_of-head}
+use Rattle.keys.proofs.Clauses.{all_of-cons, all_of-head}
 use Rattle.soundness.proofs.FigureRanges.{quantity-range}
 
 module _ (parts : List ℤ) (i : ℕ) where
@@ -31,20 +31,8 @@ module _ (parts : List ℤ) (i : ℕ) where
 
 -- ---- the tests of the parts
 
--- 2 to 1,000 of them.
+-- At most 1,000 of them.
 module _ (n : ℕ) where
-  pub too_few : n < 2 → valid_count n ≡ false
-  unfolding valid_count
-  too_few h = rw (lt-leb 2 n h)
-
-  pub too_many : 2 ≤ n → 1000 < n → valid_count n ≡ false
-  unfolding valid_count
-  too_many h k = rw (le-leb 2 n h, lt-leb n 1000 k)
-
-  pub count-valid : 2 ≤ n → n ≤ 1000 → valid_count n ≡ true
-  unfolding valid_count
-  count-valid h k = rw (le-leb 2 n h, le-leb n 1000 k)
-
   pub valid-count : valid_count n ≡ true → n ≤ 1000
   unfolding valid_count
   valid-count h = leb-true n 1000 (and_right (leb 2 n) (leb n 1000) h)
@@ -59,14 +47,8 @@ module _ (parts : List ℤ) (i : ℕ) where
       ap (λ (l : List ℤ). all_of (map valid_quantity l)) (next-part parts i h)
       ∙ all_of-cons (valid_quantity (get_or parts i (pos 0))) (map valid_quantity (drop (i + 1) parts))
 
-  pub part-invalid : i < length parts → valid_quantity (get_or parts i (pos 0)) ≡ false → valid_from parts i ≡ false
-  part-invalid h e = valid-next h ∙ ap (λ (b : Bool). b && valid_from parts (i + 1)) e
-
   pub part-valid : i < length parts → valid_quantity (get_or parts i (pos 0)) ≡ true → valid_from parts i ≡ valid_from parts (i + 1)
   part-valid h e = valid-next h ∙ ap (λ (b : Bool). b && valid_from parts (i + 1)) e
-
-  pub none-invalid : length parts ≤ i → true ≡ valid_from parts i
-  none-invalid h = sym (ap (λ (l : List ℤ). all_of (map valid_quantity l)) (no_part parts i h) ∙ all_of-nil)
 
 -- What valid figures tell of the parts.
 pub parts-told : (id suffix account series : ℤ) (parts : List ℤ) → separation_figures id suffix account series parts ≡ true

@@ -1,4 +1,3 @@
 pub mod RowsFilled
-pub mod Moved
 pub mod Placed
 pub mod Written

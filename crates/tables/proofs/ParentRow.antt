@@ -21,8 +21,8 @@ use Rattle.keys.proofs.Equal.{eq_z-true}
 use Rattle.keys.proofs.KeyOrder.{below_irrefl, below-asym, below-minor}
 use Rattle.soundness.proofs.SoundRecord.{record-sound}
 use Rattle.lookup.specs.Lookup.{Searchable, row_found, found_in}
-use Rattle.lookup.specs.declared.Found.{Found}
-use Rattle.lookup.specs.declared.Found.TheVariants.{Row, Absent}
+use Rattle.lookup.specs.Found.{found_told}
+use Rattle.std.specs.Prelude.{Result, Ok, Err}
 use Rattle.lookup.proofs.TableLookup.{records-first, table-found, table-absent}
 use Rattle.lookup.proofs.FirstRows.{found_first}
 use Rattle.tables.proofs.RowStatus.{row-sound}
@@ -43,17 +43,17 @@ parent-not-above r sound = go (or_cases (lt_z r.parent r.suffix) (eq_z r.parent 
         ap (λ (x : ℤ). below (record_key r) (key_of r.id x)) (p ∙ sym s) ∙ below_irrefl (record_key r)
 
 module _ (cells : List ℤ) (r : Record) where
-  told : (f : Found) → f ≡ found_in records_layout (parent_key r) cells → ParentAt cells r f
+  told : (f : Result ℕ ℕ) → found_told f ≡ found_in records_layout (parent_key r) cells → ParentAt cells r f
   unfolding parent_of
-  told (Row i) e = let t = table-found records_layout record_key records-first cells (parent_key r) i (sym e) in (t.0, t.1)
-  told (Absent place) e = (table-absent records_layout record_key records-first cells (parent_key r) place (sym e)).0
+  told (Ok i) e = let t = table-found records_layout record_key records-first cells (parent_key r) i (sym e) in (t.0, t.1)
+  told (Err place) e = (table-absent records_layout record_key records-first cells (parent_key r) place (sym e)).0
 
   -- `end` is told by what the search asked.
   pub parent-at : SoundRecords cells → (row : ℕ) → row < length (rows_of records_layout cells) → r ≡ row_at records_layout cells row
       → {end : ℕ} → Searchable records_layout.header records_layout.width end cells → row < end → end ≤ length (rows_of records_layout cells)
-      → (f : Found) → f ≡ row_found records_layout.header records_layout.width (parent_key r) end cells → ParentAt cells r f
+      → (f : Result ℕ ℕ) → found_told f ≡ row_found records_layout.header records_layout.width (parent_key r) end cells → ParentAt cells r f
   parent-at table row within own {end} asked past up_to_lem f e =
       told f
       (found_first records_layout record_key records-first sound_record cells table end up_to_lem row past (parent_key r)
       (ap (λ (x : Record). below (record_key x) (parent_key r)) (sym own) ∙ parent-not-above r (subst (λ (x : Record). sound_record x ≡ true) (sym own) (row-sound cells table row within)))
-      f e)
+      (found_told f) e)

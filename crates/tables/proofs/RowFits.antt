@@ -15,7 +15,7 @@ use Rattle.cells.specs.SoundTable.{SoundTable}
 use Rattle.cells.proofs.Count.{room_most, fits-cells}
 use Rattle.keys.proofs.Clauses.{absent_from-nil, absent_from-new}
 use Rattle.lookup.specs.Lookup.{found_in, place_in}
-use Rattle.lookup.specs.declared.Found.TheVariants.{Row}
+use Rattle.lookup.specs.Found.{Row}
 use Rattle.lookup.proofs.TableLookup.{KeyFirst, table-found, table-place}
 
 -- Room for the rows and an absent one.

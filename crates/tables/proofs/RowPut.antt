@@ -17,7 +17,7 @@ use Rattle.cells.proofs.Sound.{sound-write}
 use Rattle.keys.proofs.Lookup.{all-upsert}
 use Rattle.keys.proofs.Rising.{upsert-rises, upsert-adds, upsert-replaces}
 use Rattle.lookup.specs.Lookup.{found_in, place_in}
-use Rattle.lookup.specs.declared.Found.TheVariants.{Row}
+use Rattle.lookup.specs.Found.{Row}
 use Rattle.lookup.proofs.TableLookup.{KeyFirst, table-found, table-place, table-inserted, table-replaced}
 use Rattle.shifter.specs.Insertion.{inserted, replaced}
 use Rattle.shifter.proofs.Written.{inserted-written, replaced-written}

@@ -17,7 +17,7 @@ use Rattle.cells.specs.SoundTable.{SoundRecords}
 use Rattle.cells.proofs.Count.{length-rows_of}
 use Rattle.cells.proofs.RowCells.{records-lawful}
 use Rattle.lookup.specs.Lookup.{found_in}
-use Rattle.lookup.specs.declared.Found.TheVariants.{Row}
+use Rattle.lookup.specs.Found.{Row}
 use Rattle.lookup.proofs.TableLookup.{records-first}
 use Rattle.tables.proofs.RowFits.{row-cells-within}
 use Rattle.tables.proofs.RowPut.{put-replaced}

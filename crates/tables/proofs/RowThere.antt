@@ -11,7 +11,7 @@ use Rattle.rules.specs.Layout.{Layout, count_of, decode, row_at, rows_of}
 use Rattle.cells.specs.SoundTable.{SoundTable}
 use Rattle.keys.proofs.Lookup.{find-all}
 use Rattle.lookup.specs.Lookup.{key_at, row_from, found_or, found_in, place_in}
-use Rattle.lookup.specs.declared.Found.TheVariants.{Row}
+use Rattle.lookup.specs.Found.{Row}
 use Rattle.lookup.proofs.RisingKeys.{rising-map, found-there}
 use Rattle.lookup.proofs.TableLookup.{KeyFirst, table-keys, table-row, table-found}
 

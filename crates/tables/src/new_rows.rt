@@ -13,6 +13,7 @@ use rules::Record;
 use rules::layout::{RECORD_WIDTH, RECORDS_HEADER};
 use scan::rows;
 
+// As a struct update it was tried, and the proof did not close.
 fn numbered_as(r: Record, suffix: i64, quantity: i64) -> Record
     ensures { result ≡ numbered_as r suffix quantity }
 {

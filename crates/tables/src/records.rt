@@ -5,19 +5,20 @@ ghost use Rattle.rules.specs.Keyed.{find, upsert};
 ghost use Rattle.rules.specs.Rows.{record_key, sound_record, with_status};
 ghost use Rattle.rules.specs.Layout.{row_at, room_of, rows_of, write};
 ghost use Rattle.rules.specs.Tables.{records_layout, current_day, sound_record_rows};
+ghost use Rattle.lookup.specs.Sought.{sought_told};
 ghost use Rattle.lookup.specs.Lookup.{place_in, record_sought};
 ghost use Rattle.tables.specs.Parent.{ParentAt};
 
-use lookup::{Found, Sought};
+use lookup::{Absent, Present};
 use rules::Record;
-use rules::layout::{DAY_CELL, MOST_RECORDS, RECORD_WIDTH, RECORDS_HEADER, STATUS_CELL};
+use rules::layout::{DAY_CELL, RECORD_WIDTH, RECORDS_HEADER, STATUS_CELL};
 use scan::rows;
 
 pub fn count(cells: &[i64]) -> usize
     requires { sound_record_rows cells.now ≡ true }
     ensures { result ≡ length (rows_of records_layout cells.now) }
 {
-    cells[0] as usize
+    scan::soundness::count::<Record>(cells)
 }
 
 // The current day (document 02, K8), which new rows take.
@@ -32,13 +33,13 @@ pub fn today(cells: &[i64]) -> i64
 pub fn room(cells: &[i64]) -> usize
     ensures { result ≡ room_of records_layout cells.now }
 {
-    scan::soundness::room_for(RECORDS_HEADER, RECORD_WIDTH, MOST_RECORDS, cells.len())
+    scan::soundness::room::<Record>(cells)
 }
 
 // The lookup (document 02, K2): what the table has of an id and suffix.
-pub fn look_up(cells: &[i64], id: i64, suffix: i64) -> Sought
+pub fn look_up(cells: &[i64], id: i64, suffix: i64) -> Result<Present, Absent>
     requires { sound_record_rows cells.now ≡ true }
-    ensures { result ≡ record_sought cells.now id suffix }
+    ensures { sought_told result ≡ record_sought cells.now id suffix }
 {
     lookup::look_up(
         cells,
@@ -59,7 +60,7 @@ pub fn read_record(cells: &[i64], row: usize) -> Record
 }
 
 // The parent of the record in row `row`: it stands no later than the record does.
-pub fn find_parent(cells: &[i64], row: usize, r: Record) -> Found
+pub fn find_parent(cells: &[i64], row: usize, r: Record) -> Result<usize, usize>
     requires { (sound_record_rows cells.now ≡ true) × (row < length (rows_of records_layout cells.now)) × (r ≡ row_at records_layout cells.now row) }
     ensures { ParentAt cells.now r result }
 {

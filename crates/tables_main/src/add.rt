@@ -1,7 +1,7 @@
 // Rows added and changed where the tables and the row allow it: each answers whether it was.
 ghost use Rattle.std.specs.Prelude.{◌<◌, ◌≤◌, ◌^◌};
 
-use lookup::{Found, Sought};
+use lookup::{Absent, Present};
 use rules::codes::ADJUSTED;
 use rules::{Position, Record};
 use scan::soundness as scanned;
@@ -10,22 +10,14 @@ use std::io::Write;
 use tables::{positions, records};
 
 // Says whether a row was added or changed.
-pub fn tell<W: Write>(to: &mut W, yes: bool) -> io::Result<()> {
-    if yes {
-        printing::line(to, b"done")
-    } else {
-        printing::line(to, b"refused")
-    }
+pub fn tell<W: Write>(to: &mut W, done: bool) -> io::Result<()> {
+    let said = if done { "done" } else { "refused" };
+    printing::line(to, said.as_bytes())
 }
 
 // An original record of this key and price, with a quantity of 1.
 fn original(id: i64, suffix: i64, price: i64) -> Record {
-    let mut status = 0;
-    let mut quantity = 1;
-    if 0 < suffix {
-        status = 2;
-        quantity = -1;
-    }
+    let (status, quantity) = if 0 < suffix { (2, -1) } else { (0, 1) };
     Record {
         id,
         suffix,
@@ -44,15 +36,13 @@ fn original(id: i64, suffix: i64, price: i64) -> Record {
     }
 }
 
+#[tactic(auto, using(crate::proofs::Looked::rows_sound))]
 pub fn record(cells: &mut [i64], id: i64, suffix: i64, price: i64) -> bool {
     let r = original(id, suffix, price);
-    if !scanned::records_sound(cells) {
+    if !scanned::records_sound(cells) || !scanned::sound_record(r) {
         return false;
     }
-    if !scanned::sound_record(r) {
-        return false;
-    }
-    let Sought::Absent(place, greatest) = records::look_up(cells, r.id, r.suffix) else {
+    let Err(Absent { place, .. }) = records::look_up(cells, r.id, r.suffix) else {
         return false;
     };
     if records::room(cells) <= records::count(cells) {
@@ -67,22 +57,21 @@ pub fn down(cells: &mut [i64], top: usize) -> usize
     requires { top < 2 ^ 63 }
     ensures { result ≤ top }
 {
-    let mut left = top;
     let mut done = 0;
-    while 0 < left {
-        if record(&mut *cells, left as i64, 0, 1) {
+    for id in (1..=top).rev() {
+        if record(&mut *cells, id as i64, 0, 1) {
             done += 1;
         }
-        left -= 1;
     }
     done
 }
 
+#[tactic(auto, using(crate::proofs::Looked::rows_sound))]
 pub fn adjust(cells: &mut [i64], id: i64, suffix: i64) -> bool {
     if !scanned::records_sound(cells) {
         return false;
     }
-    let Sought::Present(row, greatest, next) = records::look_up(cells, id, suffix) else {
+    let Ok(Present { row, .. }) = records::look_up(cells, id, suffix) else {
         return false;
     };
     let r = records::read_record(cells, row);
@@ -93,6 +82,7 @@ pub fn adjust(cells: &mut [i64], id: i64, suffix: i64) -> bool {
     true
 }
 
+// The seven figures of a row, in a row's order: a `Position` would have each call name them all.
 pub fn position(
     cells: &mut [i64],
     account: i64,
@@ -112,19 +102,12 @@ pub fn position(
         quantity,
         value,
     };
-    if !scanned::positions_sound(cells) {
+    if !scanned::positions_sound(cells) || !scanned::sound_position(p) {
         return false;
     }
-    if !scanned::sound_position(p) {
-        return false;
-    }
-    let n = positions::count(cells);
-    let room = positions::room(cells);
     let found = positions::find_position(cells, account, series);
-    if let Found::Absent(_) = found {
-        if room <= n {
-            return false;
-        }
+    if found.is_err() && positions::room(cells) <= positions::count(cells) {
+        return false;
     }
     positions::write_position(cells, found, p);
     true

@@ -4,32 +4,36 @@
 mod add;
 mod damage;
 
-use lookup::{Greatest, Sought};
+use lookup::{Absent, Present};
+use rules::layout::{POSITIONS_HEADER, RECORDS_HEADER};
 use std::io;
 use std::io::Write;
 use tables::records;
 
-fn tell_greatest<W: Write>(to: &mut W, greatest: Greatest) -> io::Result<()> {
-    match greatest {
-        Greatest::Suffix(s) => printing::value(to, b"greatest suffix ", s),
-        Greatest::Nothing => printing::line(to, b"no record of that id"),
-    }
-}
-
 // What the lookup says of a key in a sound records table.
+#[tactic(auto, using(crate::proofs::Looked::rows_sound))]
 fn ask<W: Write>(to: &mut W, cells: &[i64], id: i64, suffix: i64) -> io::Result<()> {
     if !scan::soundness::records_sound(cells) {
         return printing::line(to, b"not sound");
     }
     match records::look_up(cells, id, suffix) {
-        Sought::Present(row, greatest, next) => {
-            printing::value(to, b"row ", row as i64)?;
-            printing::value(to, b"greatest suffix ", greatest)?;
-            printing::value(to, b"the next suffix belongs at row ", next as i64)
+        Ok(
+            Present {
+                row,
+                greatest,
+                next,
+            },
+        ) => {
+            writeln!(to, "row {row}")?;
+            writeln!(to, "greatest suffix {greatest}")?;
+            writeln!(to, "the next suffix belongs at row {next}")
         }
-        Sought::Absent(place, greatest) => {
-            printing::value(to, b"absent, belongs at row ", place as i64)?;
-            tell_greatest(to, greatest)
+        Err(Absent { place, greatest }) => {
+            writeln!(to, "absent, belongs at row {place}")?;
+            match greatest {
+                Some(suffix) => writeln!(to, "greatest suffix {suffix}"),
+                None => printing::line(to, b"no record of that id"),
+            }
         }
     }
 }
@@ -37,9 +41,7 @@ fn ask<W: Write>(to: &mut W, cells: &[i64], id: i64, suffix: i64) -> io::Result<
 // No row, then one, then three, added in an order that is not the keys'; a key that is there, and a full room, are refused.
 fn few_rows<W: Write>(to: &mut W) -> io::Result<()> {
     printing::line(to, b"few records, room for three")?;
-    let mut cells = [-1; 49];
-    cells[0] = 0;
-    cells[1] = 0;
+    let mut cells: [i64; 49] = printing::no_rows(RECORDS_HEADER);
     ask(to, &cells, 5, 0)?;
     add::tell(to, add::record(&mut cells, 5, 0, 10))?;
     ask(to, &cells, 5, 0)?;
@@ -58,9 +60,7 @@ fn few_rows<W: Write>(to: &mut W) -> io::Result<()> {
 // An id whose suffixes are 2, 3 and 9, between two others: each of its keys, those before, between and after them, and an id that lies between and has none.
 fn gaps<W: Write>(to: &mut W) -> io::Result<()> {
     printing::line(to, b"suffixes 2, 3 and 9 of id 7")?;
-    let mut cells = [-1; 72];
-    cells[0] = 0;
-    cells[1] = 0;
+    let mut cells: [i64; 72] = printing::no_rows(RECORDS_HEADER);
     add::tell(to, add::record(&mut cells, 7, 9, 10))?;
     add::tell(to, add::record(&mut cells, 5, 0, 11))?;
     add::tell(to, add::record(&mut cells, 7, 2, 12))?;
@@ -78,11 +78,9 @@ fn gaps<W: Write>(to: &mut W) -> io::Result<()> {
 // A room of 4,096 rows, filled from the greatest id down, in a slice with space for more.
 fn full_room<W: Write>(to: &mut W) -> io::Result<()> {
     printing::line(to, b"4,096 records, added from the greatest id down")?;
-    let mut cells = [-1; 57_400];
-    cells[0] = 0;
-    cells[1] = 0;
+    let mut cells: [i64; 57_400] = printing::no_rows(RECORDS_HEADER);
     let n = add::down(&mut cells, 4_097);
-    printing::value(to, b"added ", n as i64)?;
+    writeln!(to, "added {n}")?;
     ask(to, &cells, 1, 0)?;
     ask(to, &cells, 2, 0)?;
     ask(to, &cells, 4_097, 0)?;
@@ -93,8 +91,7 @@ fn full_room<W: Write>(to: &mut W) -> io::Result<()> {
 // Positions: made where absent, written anew where present; a total out of range is refused.
 fn few_positions<W: Write>(to: &mut W) -> io::Result<()> {
     printing::line(to, b"positions, room for two")?;
-    let mut cells = [-1; 17];
-    cells[0] = 0;
+    let mut cells: [i64; 17] = printing::no_rows(POSITIONS_HEADER);
     add::tell(to, add::position(&mut cells, 2, 1, 100, 0, 0, 100, 500))?;
     add::tell(
         to,
@@ -112,9 +109,7 @@ fn few_positions<W: Write>(to: &mut W) -> io::Result<()> {
 // Tables that fail test 1, one damage each.
 fn damaged<W: Write>(to: &mut W) -> io::Result<()> {
     printing::line(to, b"damaged records")?;
-    let mut cells = [-1; 44];
-    cells[0] = 0;
-    cells[1] = 0;
+    let mut cells: [i64; 44] = printing::no_rows(RECORDS_HEADER);
     add::tell(to, add::record(&mut cells, 5, 0, 10))?;
     add::tell(to, add::record(&mut cells, 5, 1, 11))?;
     damage::each(to, &mut cells)?;

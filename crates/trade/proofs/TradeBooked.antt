@@ -15,7 +15,7 @@ use Rattle.rules.specs.Tables.{positions_layout}
 use Rattle.rules.specs.Trade.{trade_figures, open_against, smaller, closed_by, long_booked, short_booked, is_closing_error}
 use Rattle.rules.specs.declared.Position.{Position}
 use Rattle.keys.proofs.Split.{and_left, and_right}
-use Rattle.soundness.proofs.FigureRanges.{quantity-range}
+use Rattle.soundness.proofs.FigureRanges.{magnitude-range, quantity-range}
 use Rattle.soundness.proofs.ReadPosition.{read-key}
 use Rattle.verdict.specs.MovedReady.{MovedReady}
 use Rattle.verdict.proofs.Moves.{closed-range, trade-moves}
@@ -36,6 +36,17 @@ pub figures-price : (id account series side quantity price : ℤ) → trade_figu
 unfolding trade_figures
 figures-price id account series side quantity price h =
     and_right (valid_id id && valid_account account && valid_series series && valid_side side && valid_quantity quantity) (valid_price price) h
+
+pub quantity_fits : (q : ℤ) → valid_quantity q ≡ true → SFits w64 q
+quantity_fits q h =
+    let range : (pos 1 ≤ℤ q) × (q ≤ℤ pos most_quantity) = quantity-range q h in
+    omega zarith
+
+pub price_fits : (z : ℤ) → valid_price z ≡ true → SFits w64 z
+unfolding valid_price
+price_fits z h =
+    let range : (neg_ℤ (pos 1000000000000) ≤ℤ z) × (z ≤ℤ pos 1000000000000) = magnitude-range 1000000000000 z h in
+    omega (zarith, neg-lin (pos 1000000000000))
 
 -- ---- what is closed
 

@@ -18,6 +18,11 @@ module _ (q : ℤ) (small : magnitude_at_most 1000000 q ≡ true) where
       let range : (neg_ℤ (pos 1000000) ≤ℤ q) × (q ≤ℤ pos 1000000) = magnitude-range 1000000 q small in
       omega (zarith, minus-lin (pos 0) q)
 
+  pub neg-fits : SFits w64 (neg_ℤ q)
+  neg-fits =
+      let range : (neg_ℤ (pos 1000000) ≤ℤ q) × (q ≤ℤ pos 1000000) = magnitude-range 1000000 q small in
+      omega (zarith, neg-lin q)
+
   pub negated-small : magnitude_at_most 1000000 (neg_ℤ q) ≡ true
   negated-small =
       let range : (neg_ℤ (pos 1000000) ≤ℤ q) × (q ≤ℤ pos 1000000) = magnitude-range 1000000 q small in

@@ -9,7 +9,7 @@ use Rattle.requests.specs.KnownRecord.{KnownRecord}
 use Rattle.requests.specs.declared.Held.{Held}
 use Rattle.requests.specs.declared.Named.{Named}
 use Rattle.verdict.specs.Moving.{moving_verdict}
-use Rattle.verdict.specs.declared.Verdict.TheVariants.{Accepted}
+use Rattle.verdict.specs.Verdict.{Accepted}
 
 pub record MovingReady (records positions : List ℤ) (named : Named) (old new : Held) (id suffix from to series inverse_kind new_kind : ℤ) : Type 0 where
   pub records-sound : sound_records records ≡ true

@@ -7,89 +7,64 @@ ghost use Rattle.rules.specs.Rows.{sound_position, moved, inverse_record, adjust
 ghost use Rattle.rules.specs.Request as Request;
 ghost use Rattle.rules.specs.Tables.{sound_record_rows, sound_records, sound_positions};
 ghost use Rattle.rules.specs.Handle.{answered};
+ghost use Rattle.rules.specs.Reasons.{answer_of, confirmed_by};
 ghost use Rattle.rules.specs.Transfer.{transfer_figures, in_long, in_short, in_side, holds_too_little};
 ghost use Rattle.requests.specs.KnownPosition.{KnownPosition};
 ghost use Rattle.requests.specs.KnownRecord.{KnownRecord};
 ghost use Rattle.verdict.specs.Moving.{moving_effects, moving_verdict, records_after, positions_after};
-ghost use Rattle.verdict.specs.Verdict.{verdict_on, accepted_on};
+ghost use Rattle.verdict.specs.Verdict.{Accepted, judged, verdict_on, accepted_on};
 ghost use Rattle.verdict.specs.HandledSoundly.{HandledSoundly};
-ghost use Rattle.verdict.specs.declared.Verdict.TheVariants.{Accepted};
 ghost use Rattle.transfer.specs.MovingReady.{MovingReady};
 
-use lookup::Sought;
 use requests::{Held, Named};
 use rules::codes::{ADJUSTABLE, GREATEST_SUFFIX, TRANSFER};
-use rules::{Position, Record, Reply};
+use rules::refusals::{Confirmation, Reason, Refusal};
+use rules::{Position, Record};
 use tables::{positions, records};
-use verdict::Verdict;
 
+#[tactic(auto, unfolding(rules::specs::Transfer::transfer_figures))]
 pub fn figures_valid(id: i64, suffix: i64, from: i64, to: i64, series: i64) -> bool
     ensures { result ≡ transfer_figures id suffix from to series }
 {
-    if !figures::valid_id(id) {
-        return false;
-    }
-    if !figures::valid_suffix(suffix) {
-        return false;
-    }
-    if !figures::valid_account(from) {
-        return false;
-    }
-    if !figures::valid_account(to) {
-        return false;
-    }
-    if !figures::valid_series(series) {
-        return false;
-    }
-    from != to
+    figures::valid_id(id)
+        && figures::valid_suffix(suffix)
+        && figures::valid_account(from)
+        && figures::valid_account(to)
+        && figures::valid_series(series)
+        && from != to
 }
 
-// An amount in the long of a buy, in the short of a sell.
-fn in_long(side: i64, amount: i64) -> i64
-    ensures { result ≡ in_long side amount }
+// An amount as booked to long and to short: in the cell of its side, 0 in the other.
+#[tactic(auto, unfolding(rules::specs::Transfer::in_long, rules::specs::Transfer::in_short))]
+fn in_cells(side: i64, amount: i64) -> (i64, i64)
+    ensures { result ≡ (in_long side amount, in_short side amount) }
 {
-    if figures::is_buy(side) { amount } else { 0 }
-}
-
-fn in_short(side: i64, amount: i64) -> i64
-    ensures { result ≡ in_short side amount }
-{
-    if figures::is_buy(side) { 0 } else { amount }
+    if figures::is_buy(side) {
+        (amount, 0)
+    } else {
+        (0, amount)
+    }
 }
 
 // 12: the old account's long (buy) or short (sell) is below the quantity.
+#[tactic(auto, unfolding(rules::specs::Transfer::holds_too_little))]
 fn holds_too_little(r: Record, p: Position) -> bool
     ensures { result ≡ holds_too_little r p }
 {
     if figures::is_buy(r.side) {
-        return p.long < r.quantity;
+        p.long < r.quantity
+    } else {
+        p.short < r.quantity
     }
-    p.short < r.quantity
 }
 
-// A position with an amount more in the side's figure, and in the totals.
-fn shifted(p: Position, side: i64, amount: i64, price: i64) -> Position
-    requires { (sound_position p ≡ true) × (magnitude_at_most 1000000 amount ≡ true) × (valid_price price ≡ true) }
-    ensures { result ≡ moved p (in_side side amount price) }
+// A position with an amount more in the figure of the record's side, and in the totals, at the record's price.
+fn shifted(p: Position, r: Record, amount: i64) -> Position
+    requires { (sound_position p ≡ true) × (magnitude_at_most 1000000 amount ≡ true) × (valid_price r.price ≡ true) }
+    ensures { result ≡ moved p (in_side r.side amount r.price) }
 {
-    let long = in_long(side, amount);
-    let short = in_short(side, amount);
-    requests::moved(p, requests::in_booked(side, amount, price, long, short))
-}
-
-// The old account's position without the record's quantity, and the new account's with it.
-fn taken_from(p: Position, r: Record) -> Position
-    requires { (sound_position p ≡ true) × (magnitude_at_most 1000000 r.quantity ≡ true) × (valid_price r.price ≡ true) }
-    ensures { result ≡ moved p (in_side r.side (neg_ℤ r.quantity) r.price) }
-{
-    shifted(p, r.side, -r.quantity, r.price)
-}
-
-fn given_to(p: Position, r: Record) -> Position
-    requires { (sound_position p ≡ true) × (magnitude_at_most 1000000 r.quantity ≡ true) × (valid_price r.price ≡ true) }
-    ensures { result ≡ moved p (in_side r.side r.quantity r.price) }
-{
-    shifted(p, r.side, r.quantity, r.price)
+    let (long, short) = in_cells(r.side, amount);
+    requests::moved(p, requests::in_booked(r.side, amount, r.price, long, short))
 }
 
 // The inverse row in the old account, and the row that arrives in the new one, each of a type.
@@ -97,17 +72,14 @@ pub fn inverse_row(today: i64, r: Record, next: i64, kind: i64) -> Record
     requires { magnitude_at_most 1000000 r.quantity ≡ true }
     ensures { result ≡ inverse_record today r next kind (in_long r.side (neg_ℤ r.quantity)) (in_short r.side (neg_ℤ r.quantity)) (pos 0) }
 {
-    let left = -r.quantity;
-    let long = in_long(r.side, left);
-    let short = in_short(r.side, left);
+    let (long, short) = in_cells(r.side, -r.quantity);
     requests::inverse_record(today, r, next, kind, long, short, 0)
 }
 
 pub fn arrived_row(today: i64, r: Record, suffix: i64, to: i64, kind: i64) -> Record
     ensures { result ≡ adjustable_record today r suffix kind to r.quantity (in_long r.side r.quantity) (in_short r.side r.quantity) }
 {
-    let long = in_long(r.side, r.quantity);
-    let short = in_short(r.side, r.quantity);
+    let (long, short) = in_cells(r.side, r.quantity);
     requests::adjustable_record(today, r, suffix, kind, to, r.quantity, long, short)
 }
 
@@ -123,20 +95,20 @@ pub fn verdict(
     from: i64,
     to: i64,
     series: i64,
-) -> Verdict
-    requires records_value { (sound_record_rows records.now ≡ true) × (sound_positions positions.now ≡ true) }
-    requires series_value { (transfer_figures id suffix from to series ≡ true) × KnownRecord records.now id suffix named × KnownPosition positions.now from series old × KnownPosition positions.now to series new }
-    ensures { result ≡ verdict_on records.now positions.now (Request.transfer id suffix from to series) }
+) -> Result<(), Reason>
+    requires tables_sound { (sound_record_rows records.now ≡ true) × (sound_positions positions.now ≡ true) }
+    requires looked_up { (transfer_figures id suffix from to series ≡ true) × KnownRecord records.now id suffix named × KnownPosition positions.now from series old × KnownPosition positions.now to series new }
+    ensures { judged result ≡ verdict_on records.now positions.now (Request.transfer id suffix from to series) }
 {
     let r = named.record;
     if requests::is_elsewhere(r, from, series) {
-        return Verdict::Refused(6, 0);
+        return Err(Reason::Elsewhere);
     }
     if r.status != ADJUSTABLE {
-        return Verdict::Refused(requests::status_refusal(r.status), 0);
+        return Err(requests::status_refusal(r.status));
     }
     if figures::is_to_close(r.side) {
-        return Verdict::Refused(8, 0);
+        return Err(Reason::ToClose);
     }
     verdict_on_positions(
         records, positions, named, old, new, id, suffix, from, to, series,
@@ -155,34 +127,36 @@ pub fn verdict_on_positions(
     from: i64,
     to: i64,
     series: i64,
-) -> Verdict
-    requires records_value { (sound_record_rows records.now ≡ true) × (sound_positions positions.now ≡ true) }
-    requires known_record { KnownRecord records.now id suffix named × KnownPosition positions.now from series old × KnownPosition positions.now to series new }
-    ensures { result ≡ moving_verdict records.now positions.now named.record id from to series }
+) -> Result<(), Reason>
+    requires tables_sound { (sound_record_rows records.now ≡ true) × (sound_positions positions.now ≡ true) }
+    requires looked_up { KnownRecord records.now id suffix named × KnownPosition positions.now from series old × KnownPosition positions.now to series new }
+    ensures { judged result ≡ moving_verdict records.now positions.now named.record id from to series }
 {
     let r = named.record;
     if holds_too_little(r, old.position) {
-        return Verdict::Refused(12, 0);
+        return Err(Reason::HoldsTooLittle);
     }
     if GREATEST_SUFFIX < named.next + 1 {
-        return Verdict::Refused(13, 0);
+        return Err(Reason::NoSuffix);
     }
     if requests::lacks_records_room(records, 2) {
-        return Verdict::Refused(14, 0);
+        return Err(Reason::NoRoom);
     }
     let old_found = old.found;
     let new_found = new.found;
     let absent = requests::absent_row(old_found) + requests::absent_row(new_found);
     if requests::lacks_positions_room(positions, absent) {
-        return Verdict::Refused(15, 0);
+        return Err(Reason::NoPositionsRoom);
     }
-    if !scan::soundness::sound_position(taken_from(old.position, r)) {
-        return Verdict::Refused(16, 0);
+    let left = shifted(old.position, r, -r.quantity);
+    if !scan::soundness::sound_position(left) {
+        return Err(Reason::PositionOutOfRange);
     }
-    if !scan::soundness::sound_position(given_to(new.position, r)) {
-        return Verdict::Refused(16, 0);
+    let reached = shifted(new.position, r, r.quantity);
+    if !scan::soundness::sound_position(reached) {
+        return Err(Reason::PositionOutOfRange);
     }
-    Verdict::Accepted
+    Ok(())
 }
 
 // The record adjusted, the two rows that come out of it, and both positions: of a transfer, and of the step that completes a give-up. `leaving` and `arriving` are the types of the
@@ -213,8 +187,10 @@ pub fn book_moved(
     let old_found = old.found;
     let new_found = new.found;
     requests::adjust_named(records, id, suffix, named, inverse, arrived, &quantity);
-    positions::write_position(&mut *positions, old_found, taken_from(old.position, r));
-    positions::write_position(positions, new_found, given_to(new.position, r));
+    let taken = shifted(old.position, r, -r.quantity);
+    let given = shifted(new.position, r, r.quantity);
+    positions::write_position(&mut *positions, old_found, taken);
+    positions::write_position(positions, new_found, given);
 }
 
 pub fn book(
@@ -228,15 +204,15 @@ pub fn book(
     from: i64,
     to: i64,
     series: i64,
-) -> Reply
-    requires records_value { (sound_records records.old ≡ true) × (sound_positions positions.old ≡ true) × (verdict_on records.old positions.old (Request.transfer id suffix from to series) ≡ Accepted) }
-    requires known_record { KnownRecord records.old id suffix named × KnownPosition positions.old from series old × KnownPosition positions.old to series new }
-    ensures { answered result records.new positions.new ≡ accepted_on records.old positions.old (Request.transfer id suffix from to series) }
+) -> Confirmation
+    requires accepted { (sound_records records.old ≡ true) × (sound_positions positions.old ≡ true) × (verdict_on records.old positions.old (Request.transfer id suffix from to series) ≡ Accepted) }
+    requires looked_up { KnownRecord records.old id suffix named × KnownPosition positions.old from series old × KnownPosition positions.old to series new }
+    ensures { answered (confirmed_by result) records.new positions.new ≡ accepted_on records.old positions.old (Request.transfer id suffix from to series) }
 {
     book_moved(
         records, positions, named, old, new, id, suffix, from, to, series, TRANSFER, TRANSFER,
     );
-    Reply::Booked {
+    Confirmation::Booked {
         rows: 2,
         residual: 0,
     }
@@ -250,25 +226,23 @@ pub fn on_sound(
     from: i64,
     to: i64,
     series: i64,
-) -> Reply
+) -> Result<Confirmation, Refusal>
     requires { (sound_records records.old ≡ true) × (sound_positions positions.old ≡ true) }
-    ensures { HandledSoundly records.old positions.old (Request.transfer id suffix from to series) (answered result records.new positions.new) }
+    ensures { HandledSoundly records.old positions.old (Request.transfer id suffix from to series) (answered (answer_of result) records.new positions.new) }
 {
     if !figures_valid(id, suffix, from, to, series) {
-        return Reply::Refused(3, 0);
+        return Err(Refusal::from(Reason::OutOfRange));
     }
-    let Sought::Present(row, greatest, next) = records::look_up(records, id, suffix) else {
-        return Reply::Refused(5, 0);
+    let Ok(there) = records::look_up(records, id, suffix) else {
+        return Err(Refusal::from(Reason::NoRecord));
     };
-    let named = requests::record_named(records, id, suffix, row, greatest, next);
+    let named = requests::record_named(records, id, suffix, there);
     let old = requests::position_held(positions, from, series);
     let new = requests::position_held(positions, to, series);
-    match verdict(
+    verdict(
         records, positions, named, old, new, id, suffix, from, to, series,
-    ) {
-        Verdict::Refused(number, place) => Reply::Refused(number, place),
-        Verdict::Accepted => book(
-            records, positions, named, old, new, id, suffix, from, to, series,
-        ),
-    }
+    )?;
+    Ok(book(
+        records, positions, named, old, new, id, suffix, from, to, series,
+    ))
 }

@@ -28,74 +28,76 @@ pub struct Coded {
     pub third: i64,
 }
 
-fn code_of(r: Reply) -> Coded
-    ensures { code_from result.kind result.first result.second result.third ≡ code_of r }
-{
-    match r {
-        Reply::Booked { rows, residual } => Coded {
-            kind: 0,
-            first: rows,
-            second: residual,
-            third: 0,
-        },
-        Reply::ClosingError { excess } => Coded {
-            kind: 1,
-            first: excess,
-            second: 0,
-            third: 0,
-        },
-        Reply::Lineage { price, links } => Coded {
-            kind: 2,
-            first: price,
-            second: links,
-            third: 0,
-        },
-        Reply::Refused(number, place) => Coded {
-            kind: 3,
-            first: number,
-            second: place,
-            third: 0,
-        },
-        Reply::Stopped {
-            booked,
-            number,
-            place,
-        } => Coded {
-            kind: 4,
-            first: booked,
-            second: number,
-            third: place,
-        },
-        Reply::Written(bytes) => Coded {
-            kind: 5,
-            first: bytes,
-            second: 0,
-            third: 0,
-        },
-        Reply::Replayed(lines) => Coded {
-            kind: 6,
-            first: lines,
-            second: 0,
-            third: 0,
-        },
-        Reply::BadLine(line) => Coded {
-            kind: 7,
-            first: line,
-            second: 0,
-            third: 0,
-        },
-        Reply::LineRefused(line, number, place) => Coded {
-            kind: 8,
-            first: line,
-            second: number,
-            third: place,
-        },
-        Reply::Listed(records) => Coded {
-            kind: 9,
-            first: records,
-            second: 0,
-            third: 0,
-        },
+impl From<Reply> for Coded {
+    ghost from_gives = { λ r c. code_from c.kind c.first c.second c.third ≡ code_of r };
+
+    fn from(r: Reply) -> Coded {
+        match r {
+            Reply::Booked { rows, residual } => Coded {
+                kind: 0,
+                first: rows,
+                second: residual,
+                third: 0,
+            },
+            Reply::ClosingError { excess } => Coded {
+                kind: 1,
+                first: excess,
+                second: 0,
+                third: 0,
+            },
+            Reply::Lineage { price, links } => Coded {
+                kind: 2,
+                first: price,
+                second: links,
+                third: 0,
+            },
+            Reply::Refused(number, place) => Coded {
+                kind: 3,
+                first: number,
+                second: place,
+                third: 0,
+            },
+            Reply::Stopped {
+                booked,
+                number,
+                place,
+            } => Coded {
+                kind: 4,
+                first: booked,
+                second: number,
+                third: place,
+            },
+            Reply::Written(bytes) => Coded {
+                kind: 5,
+                first: bytes,
+                second: 0,
+                third: 0,
+            },
+            Reply::Replayed(lines) => Coded {
+                kind: 6,
+                first: lines,
+                second: 0,
+                third: 0,
+            },
+            Reply::BadLine(line) => Coded {
+                kind: 7,
+                first: line,
+                second: 0,
+                third: 0,
+            },
+            Reply::LineRefused(line, number, place) => Coded {
+                kind: 8,
+                first: line,
+                second: number,
+                third: place,
+            },
+            Reply::Listed(records) => Coded {
+                kind: 9,
+                first: records,
+                second: 0,
+                third: 0,
+            },
+        }
     }
 }
 
@@ -112,7 +114,7 @@ pub extern "C" fn velichundam_trade(
 ) -> Coded
     ensures { handed_back result.kind result.first result.second result.third records.new positions.new ≡ in_numbers (handle (tables_of records.old positions.old) (Request.trade id account series side quantity price)) }
 {
-    code_of(book::trade(
+    Coded::from(book::trade(
         records, positions, id, account, series, side, quantity, price,
     ))
 }
@@ -127,7 +129,7 @@ pub extern "C" fn velichundam_trades(
 ) -> Coded
     ensures { handed_back_with result.kind result.first result.second result.third excess.new records.new positions.new ≡ in_numbers_with (left_by excess.old (handle_call (tables_of records.old positions.old) (Call.trades trades.now (length excess.old)))) }
 {
-    code_of(book::trades(records, positions, trades, excess))
+    Coded::from(book::trades(records, positions, trades, excess))
 }
 
 #[unsafe(no_mangle)]
@@ -142,7 +144,7 @@ pub extern "C" fn velichundam_separate(
 ) -> Coded
     ensures { handed_back result.kind result.first result.second result.third records.new positions.new ≡ in_numbers (handle (tables_of records.old positions.old) (Request.separate id suffix account series parts.now)) }
 {
-    code_of(book::separate(records, positions, id, suffix, account, series, parts))
+    Coded::from(book::separate(records, positions, id, suffix, account, series, parts))
 }
 
 #[unsafe(no_mangle)]
@@ -157,7 +159,7 @@ pub extern "C" fn velichundam_transfer(
 ) -> Coded
     ensures { handed_back result.kind result.first result.second result.third records.new positions.new ≡ in_numbers (handle (tables_of records.old positions.old) (Request.transfer id suffix from to series)) }
 {
-    code_of(book::transfer(records, positions, id, suffix, from, to, series))
+    Coded::from(book::transfer(records, positions, id, suffix, from, to, series))
 }
 
 #[unsafe(no_mangle)]
@@ -171,7 +173,7 @@ pub extern "C" fn velichundam_merge(
 ) -> Coded
     ensures { handed_back result.kind result.first result.second result.third records.new positions.new ≡ in_numbers (handle (tables_of records.old positions.old) (Request.merge id account series pairs.now)) }
 {
-    code_of(book::merge(records, positions, id, account, series, pairs))
+    Coded::from(book::merge(records, positions, id, account, series, pairs))
 }
 
 // The records table is lent to be read, so its cells stay as they were.
@@ -179,7 +181,7 @@ pub extern "C" fn velichundam_merge(
 pub extern "C" fn velichundam_lineage(records: &[i64], id: i64, suffix: i64) -> Coded
     ensures { code_from result.kind result.first result.second result.third ≡ code_of (handle (tables_of records.now []) (Request.lineage id suffix)).reply }
 {
-    code_of(book::lineage(records, id, suffix))
+    Coded::from(book::lineage(records, id, suffix))
 }
 
 // A new day; it is lent the records alone.
@@ -187,7 +189,7 @@ pub extern "C" fn velichundam_lineage(records: &[i64], id: i64, suffix: i64) -> 
 pub extern "C" fn velichundam_day(records: &mut [i64], day: i64) -> Coded
     ensures { handed_back result.kind result.first result.second result.third records.new [] ≡ in_numbers (handle (tables_of records.old []) (Request.new_day day)) }
 {
-    code_of(book::day(records, day))
+    Coded::from(book::day(records, day))
 }
 
 // The end-of-day reporting list.
@@ -195,7 +197,7 @@ pub extern "C" fn velichundam_day(records: &mut [i64], day: i64) -> Coded
 pub extern "C" fn velichundam_reportable(records: &[i64], pairs: &mut [i64]) -> Coded
     ensures { handed_back_with result.kind result.first result.second result.third pairs.new records.now [] ≡ in_numbers_with (left_by pairs.old (handle_call (tables_of records.now []) (Call.reportable (length pairs.old)))) }
 {
-    code_of(book::reportable(records, pairs))
+    Coded::from(book::reportable(records, pairs))
 }
 
 // The steps of a give-up. They alone are lent the process table.
@@ -213,7 +215,7 @@ pub extern "C" fn velichundam_give_up_open(
 ) -> Coded
     ensures { handed_back_all result.kind result.first result.second result.third records.new positions.new processes.new ≡ in_numbers (handle (all_tables records.old positions.old processes.old) (Request.give_up Open process id suffix giving taking series)) }
 {
-    code_of(book::give_up(
+    Coded::from(book::give_up(
         records,
         positions,
         processes,
@@ -241,7 +243,7 @@ pub extern "C" fn velichundam_give_up_claim(
 ) -> Coded
     ensures { handed_back_all result.kind result.first result.second result.third records.new positions.new processes.new ≡ in_numbers (handle (all_tables records.old positions.old processes.old) (Request.give_up Claim process id suffix giving taking series)) }
 {
-    code_of(book::give_up(
+    Coded::from(book::give_up(
         records,
         positions,
         processes,
@@ -269,7 +271,7 @@ pub extern "C" fn velichundam_give_up_cancel(
 ) -> Coded
     ensures { handed_back_all result.kind result.first result.second result.third records.new positions.new processes.new ≡ in_numbers (handle (all_tables records.old positions.old processes.old) (Request.give_up Cancel process id suffix giving taking series)) }
 {
-    code_of(book::give_up(
+    Coded::from(book::give_up(
         records,
         positions,
         processes,
@@ -297,7 +299,7 @@ pub extern "C" fn velichundam_give_up_refuse(
 ) -> Coded
     ensures { handed_back_all result.kind result.first result.second result.third records.new positions.new processes.new ≡ in_numbers (handle (all_tables records.old positions.old processes.old) (Request.give_up Refuse process id suffix giving taking series)) }
 {
-    code_of(book::give_up(
+    Coded::from(book::give_up(
         records,
         positions,
         processes,
@@ -325,7 +327,7 @@ pub extern "C" fn velichundam_give_up_approve_giver(
 ) -> Coded
     ensures { handed_back_all result.kind result.first result.second result.third records.new positions.new processes.new ≡ in_numbers (handle (all_tables records.old positions.old processes.old) (Request.give_up ApproveGiver process id suffix giving taking series)) }
 {
-    code_of(book::give_up(
+    Coded::from(book::give_up(
         records,
         positions,
         processes,
@@ -353,7 +355,7 @@ pub extern "C" fn velichundam_give_up_approve_taker(
 ) -> Coded
     ensures { handed_back_all result.kind result.first result.second result.third records.new positions.new processes.new ≡ in_numbers (handle (all_tables records.old positions.old processes.old) (Request.give_up ApproveTaker process id suffix giving taking series)) }
 {
-    code_of(book::give_up(
+    Coded::from(book::give_up(
         records,
         positions,
         processes,

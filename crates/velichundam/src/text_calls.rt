@@ -7,7 +7,7 @@ ghost use Rattle.rules.specs.Tables.{all_tables};
 ghost use Rattle.rules.specs.Writing.{write_request, write_trades, write_give_up};
 ghost use Rattle.velichundam.specs.HandedBack.{in_numbers, handed_back_all, in_numbers_text, handed_back_text};
 
-use crate::{Coded, code_of};
+use crate::Coded;
 
 #[unsafe(no_mangle)]
 pub extern "C" fn velichundam_write_trade(
@@ -21,7 +21,9 @@ pub extern "C" fn velichundam_write_trade(
 ) -> Coded
     ensures { handed_back_text result.kind result.first result.second result.third text.new ≡ in_numbers_text (write_request (Request.trade id account series side quantity price) text.old) }
 {
-    code_of(journal_writing::line::write_trade(text, id, account, series, side, quantity, price))
+    Coded::from(journal_writing::line::write_trade(
+        text, id, account, series, side, quantity, price,
+    ))
 }
 
 // A line for each trade.
@@ -29,7 +31,7 @@ pub extern "C" fn velichundam_write_trade(
 pub extern "C" fn velichundam_write_trades(text: &mut [u8], trades: &[i64]) -> Coded
     ensures { handed_back_text result.kind result.first result.second result.third text.new ≡ in_numbers_text (write_trades trades.now text.old) }
 {
-    code_of(journal_writing::trades::write_trades(text, trades))
+    Coded::from(journal_writing::trades::write_trades(text, trades))
 }
 
 #[unsafe(no_mangle)]
@@ -43,7 +45,7 @@ pub extern "C" fn velichundam_write_separation(
 ) -> Coded
     ensures { handed_back_text result.kind result.first result.second result.third text.new ≡ in_numbers_text (write_request (Request.separate id suffix account series parts.now) text.old) }
 {
-    code_of(journal_writing::line::write_separation(text, id, suffix, account, series, parts))
+    Coded::from(journal_writing::line::write_separation(text, id, suffix, account, series, parts))
 }
 
 #[unsafe(no_mangle)]
@@ -57,14 +59,14 @@ pub extern "C" fn velichundam_write_transfer(
 ) -> Coded
     ensures { handed_back_text result.kind result.first result.second result.third text.new ≡ in_numbers_text (write_request (Request.transfer id suffix from to series) text.old) }
 {
-    code_of(journal_writing::line::write_transfer(text, id, suffix, from, to, series))
+    Coded::from(journal_writing::line::write_transfer(text, id, suffix, from, to, series))
 }
 
 #[unsafe(no_mangle)]
 pub extern "C" fn velichundam_write_day(text: &mut [u8], day: i64) -> Coded
     ensures { handed_back_text result.kind result.first result.second result.third text.new ≡ in_numbers_text (write_request (Request.new_day day) text.old) }
 {
-    code_of(journal_writing::line::write_day(text, day))
+    Coded::from(journal_writing::line::write_day(text, day))
 }
 
 #[unsafe(no_mangle)]
@@ -77,7 +79,7 @@ pub extern "C" fn velichundam_write_merge(
 ) -> Coded
     ensures { handed_back_text result.kind result.first result.second result.third text.new ≡ in_numbers_text (write_request (Request.merge id account series pairs.now) text.old) }
 {
-    code_of(journal_writing::line::write_merge(text, id, account, series, pairs))
+    Coded::from(journal_writing::line::write_merge(text, id, account, series, pairs))
 }
 
 // The step's letter as its number.
@@ -94,7 +96,7 @@ pub extern "C" fn velichundam_write_give_up(
 ) -> Coded
     ensures { handed_back_text result.kind result.first result.second result.third text.new ≡ in_numbers_text (write_give_up step process id suffix giving taking series text.old) }
 {
-    code_of(journal_writing::line::write_give_up(
+    Coded::from(journal_writing::line::write_give_up(
         text, step, process, id, suffix, giving, taking, series,
     ))
 }
@@ -108,5 +110,5 @@ pub extern "C" fn velichundam_replay(
 ) -> Coded
     ensures { handed_back_all result.kind result.first result.second result.third records.new positions.new processes.new ≡ in_numbers (handle_call (all_tables records.old positions.old processes.old) (Call.replay text.now)) }
 {
-    code_of(book::replay(records, positions, processes, text))
+    Coded::from(book::replay(records, positions, processes, text))
 }

@@ -14,7 +14,7 @@ use Rattle.rules.proofs.Computed.{Computed}
 use Rattle.cells.proofs.SoundBookCells.{books-records-rise, books-records-sound, books-records-fit, books-days-sound, books-positions-rise, books-positions-sound, books-positions-fit, books-processes-rise, books-processes-sound, books-processes-fit}
 use Rattle.soundness.specs.SoundBooks.{SoundBooks, plan_on, Accepts}
 use Rattle.verdict.specs.Verdict.{verdict_of, verdict_on}
-use Rattle.verdict.specs.declared.Verdict.TheVariants.{Accepted}
+use Rattle.verdict.specs.Verdict.{Accepted}
 
 -- The process table that stands where none is lent.
 pub no-processes-sound : sound_processes no_processes ≡ true

@@ -19,13 +19,11 @@ use Rattle.rules.specs.GiveUp.{give_up_plan}
 use Rattle.rules.specs.Tables.{Tables, books_of, sound_records, sound_positions, sound_processes, tables_of}
 use Rattle.rules.specs.Handle.{Answer, answer, handle, plan_of, plan_tables, refusals, sound_processes_test, soundness_tests, answered, answered_by}
 use Rattle.rules.specs.declared.Reply.{Reply}
-use Rattle.rules.specs.declared.Reply.TheVariants as Reply
 use Rattle.keys.proofs.Split.{clash}
 use Rattle.soundness.specs.SoundBooks.{plan_on}
 use Rattle.soundness.specs.SoundTables.{SoundTables}
 use Rattle.verdict.specs.Verdict.{plan_for, verdict_of, verdict_on_tables, is_booking, verdict_in, accepted_in, verdict_on, accepted_on}
-use Rattle.verdict.specs.declared.Verdict.{Verdict}
-use Rattle.verdict.specs.declared.Verdict.TheVariants as Verdict
+use Rattle.verdict.specs.Verdict.{Verdict}
 use Rattle.verdict.proofs.Acceptance.{no-processes-sound}
 
 -- Tests that refuse do so before any others.

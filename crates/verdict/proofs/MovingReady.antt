@@ -31,7 +31,7 @@ use Rattle.soundness.proofs.SoundRecord.{record-sound}
 use Rattle.soundness.proofs.SoundRows.{open-quantity}
 use Rattle.soundness.proofs.Transfer.{transfer-effects-facts}
 use Rattle.verdict.specs.Moving.{moving_effects, moving_verdict, positions_after}
-use Rattle.verdict.specs.declared.Verdict.TheVariants.{Accepted}
+use Rattle.verdict.specs.Verdict.{Accepted}
 use Rattle.verdict.proofs.Acceptance.{none-accepted}
 use Rattle.verdict.proofs.Moving.{moving_inverse, moving_arrived, moving_old, moving_new, moving-types}
 use Rattle.verdict.proofs.Puts.{put_one, put-one, put-none, put_next}

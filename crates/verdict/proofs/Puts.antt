@@ -1,6 +1,6 @@
 -- Rows put into a table as cells, over any lawful layout and key: the table written with the rows after the puts. One put after others is the puts of all;
 -- the room stays as it was while the rows fit. Assumes nothing.
-use Prim.Native.Nat.{◌+◌, ◌≤◌}
+use Prim.Native.Nat.{◌≤◌}
 use mathlib.Core.Path.{◌≡◌, sym, ◌∙◌, ap}
 use mathlib.Core.Bool.{true}
 use mathlib.Core.List.{List, [], ◌∷◌, ◌++◌}

@@ -13,8 +13,8 @@ use Rattle.rules.specs.Merge.{first_status_refusal}
 use Rattle.rules.specs.Refusal.{Test, any_of, first_place, first_refusal}
 use Rattle.rules.specs.declared.Record.{Record}
 use Rattle.verdict.specs.Verdict.{verdict_of}
-use Rattle.verdict.specs.declared.Verdict.{Verdict}
-use Rattle.verdict.specs.declared.Verdict.TheVariants.{Accepted, Refused}
+use Rattle.verdict.specs.Verdict.{Verdict}
+use Rattle.verdict.specs.Verdict.{Accepted, Refused}
 
 -- A test with the number that a list calls it by. It is the test's own, but of the status test, whose number is 7 or 17.
 pub record Listed : Type 0 where

@@ -30,7 +30,7 @@ use Rattle.soundness.proofs.NamedRecord.{next_of}
 use Rattle.soundness.proofs.Separation.{separation-facts}
 use Rattle.cells.proofs.SoundCells.{record-rows-sound}
 use Rattle.verdict.specs.Verdict.{verdict_on, accepted_on}
-use Rattle.verdict.specs.declared.Verdict.TheVariants.{Accepted}
+use Rattle.verdict.specs.Verdict.{Accepted}
 use Rattle.verdict.proofs.Acceptance.{sound-books, accepted-accepts}
 use Rattle.verdict.proofs.Puts.{put_all}
 use Rattle.verdict.proofs.Ready.{Ready, ready}

@@ -19,7 +19,7 @@ use Rattle.soundness.specs.SoundBooks.{Accepts}
 use Rattle.soundness.proofs.Trade.{trade-passed, trade-facts}
 use Rattle.verdict.specs.MovedReady.{MovedReady}
 use Rattle.verdict.specs.Verdict.{verdict_on, accepted_on}
-use Rattle.verdict.specs.declared.Verdict.TheVariants.{Accepted}
+use Rattle.verdict.specs.Verdict.{Accepted}
 use Rattle.verdict.proofs.Acceptance.{sound-books, accepted-accepts}
 use Rattle.verdict.proofs.Puts.{put_one, put-none}
 use Rattle.verdict.proofs.Ready.{Ready, ready, InsertReady, insert-ready, PutReady, put-ready}

@@ -25,7 +25,7 @@ use Rattle.soundness.proofs.SoundRows.{adjustable-open}
 use Rattle.soundness.proofs.Transfer.{TransferPassed, transfer-passed}
 use Rattle.verdict.specs.Verdict.{verdict_on, accepted_on}
 use Rattle.verdict.specs.Moving.{moving_effects, moving_verdict, records_after, positions_after}
-use Rattle.verdict.specs.declared.Verdict.TheVariants.{Accepted}
+use Rattle.verdict.specs.Verdict.{Accepted}
 use Rattle.verdict.proofs.Acceptance.{accepted-accepts}
 use Rattle.verdict.proofs.Moving.{moving_tests, moving-first, moving-tests}
 use Rattle.verdict.proofs.MovingReady.{Movable}

@@ -12,7 +12,7 @@ use Rattle.rules.specs.Layout.{rows_of, write}
 use Rattle.rules.specs.Tables.{current_day, tables_of, books_of, records_layout, positions_layout}
 use Rattle.rules.specs.declared.Record.{Record}
 use Rattle.verdict.specs.Verdict.{verdict_of}
-use Rattle.verdict.specs.declared.Verdict.{Verdict}
+use Rattle.verdict.specs.Verdict.{Verdict}
 
 -- The record r of an id moved between two accounts of a series, with rows of these types.
 abbrev pub moving_effects : (inverse_kind new_kind : ℤ) → (rs ps : List ℤ) → Record → (id from to series : ℤ) → Effects

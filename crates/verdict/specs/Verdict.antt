@@ -1,5 +1,5 @@
--- The verdict on a request, as the code gives it: accepted, or the first refusal with its number and place.
-use Rattle.std.specs.Prelude.{ℕ, Bool, true, false, cond, not, List, [], ◌∷◌, ℤ, pos}
+-- The verdict on a request: accepted, or the first refusal with its number and place.
+use Rattle.std.specs.Prelude.{ℕ, Bool, true, false, cond, not, List, [], ◌∷◌, ℤ, pos, Result, Ok, Err}
 use Rattle.std.proofs.Math.Option.{Option, none, some}
 use Rattle.rules.specs.Keyed.{find, is_some}
 use Rattle.rules.specs.Rows.{key_of, position_key}
@@ -10,8 +10,22 @@ use Rattle.rules.specs.Plan.{Plan, plan_tests, plan_reply}
 use Rattle.rules.specs.Layout.{rows_of}
 use Rattle.rules.specs.Tables.{Tables, tables_of, books_of, positions_layout, sound_records, sound_positions}
 use Rattle.rules.specs.Handle.{Answer, answered_by, plan_of, plan_tables}
-use Rattle.verdict.specs.declared.Verdict.{Verdict}
-use Rattle.verdict.specs.declared.Verdict.TheVariants.{Accepted, Refused}
+use Rattle.rules.specs.Reasons.{number_of}
+use Rattle.rules.specs.declared.refusals.Reason.{Reason}
+use Rattle.rules.specs.declared.refusals.Refusal.{Refusal}
+
+pub data Verdict : Type 0 where
+  Accepted : Verdict
+  Refused : (number place : ℤ) → Verdict
+
+-- What the code's result says: of a request whose refusals have no place, and of one that may have.
+abbrev pub judged : Result (Unit {0}) Reason → Verdict
+judged (Ok _) = Accepted
+judged (Err r) = Refused (number_of r) (pos 0)
+
+abbrev pub judged_at : Result (Unit {0}) Refusal → Verdict
+judged_at (Ok _) = Accepted
+judged_at (Err e) = Refused (number_of e.reason) e.place
 
 abbrev pub plan_for : List ℤ → List ℤ → Request → Plan
 plan_for records positions r = plan_of (view_of (books_of (tables_of records positions))) r

@@ -1,117 +1,132 @@
 // The calls, each printed: its figures and its list, the answer, and both tables as it leaves them.
 
+ghost use Rattle.std.specs.Prelude.{◌≤◌};
+
+use rules::Reply;
+use rules::layout::{POSITIONS_HEADER, RECORDS_HEADER};
 use std::io;
 use std::io::Write;
 
-pub fn trade<W: Write>(
-    out: &mut W,
-    records: &mut [i64],
-    positions: &mut [i64],
-    id: i64,
-    account: i64,
-    series: i64,
-    side: i64,
-    quantity: i64,
-    price: i64,
-) -> io::Result<()> {
-    showing::request(
-        out,
-        b"trade",
-        &[id, account, series, side, quantity, price],
-        &[],
-    )?;
-    let r = book::trade(
-        &mut *records,
-        &mut *positions,
-        id,
-        account,
-        series,
-        side,
-        quantity,
-        price,
-    );
-    showing::reply(out, r)?;
-    showing::tables(out, records, positions)
+// The lent tables, in fixed memory.
+#[derive(Drop)]
+pub struct Tables<const R: usize, const P: usize> {
+    pub records: [i64; R],
+    pub positions: [i64; P],
 }
 
-pub fn trades<W: Write>(
-    out: &mut W,
-    records: &mut [i64],
-    positions: &mut [i64],
-    figures: &[i64],
-    excess: &mut [i64],
-) -> io::Result<()> {
-    showing::request(out, b"batch", &[], figures)?;
-    let r = book::trades(&mut *records, &mut *positions, figures, &mut *excess);
-    showing::reply(out, r)?;
-    showing::excesses(out, excess)?;
-    showing::tables(out, records, positions)
-}
+impl<const R: usize, const P: usize> Tables<R, P> {
+    // Tables that hold no row.
+    pub fn new() -> Self
+        requires records { 2 ≤ R }
+        requires positions { 1 ≤ P }
+    {
+        Tables {
+            records: printing::no_rows(RECORDS_HEADER),
+            positions: printing::no_rows(POSITIONS_HEADER),
+        }
+    }
 
-pub fn separate<W: Write>(
-    out: &mut W,
-    records: &mut [i64],
-    positions: &mut [i64],
-    id: i64,
-    suffix: i64,
-    account: i64,
-    series: i64,
-    parts: &[i64],
-) -> io::Result<()> {
-    showing::request(out, b"separation", &[id, suffix, account, series], parts)?;
-    let r = book::separate(
-        &mut *records,
-        &mut *positions,
-        id,
-        suffix,
-        account,
-        series,
-        parts,
-    );
-    showing::reply(out, r)?;
-    showing::tables(out, records, positions)
-}
+    // The name of an example, and its tables at the start.
+    pub fn start<W: Write>(&self, out: &mut W, name: &str) -> io::Result<()> {
+        showing::start(out, name.as_bytes(), &self.records, &self.positions)
+    }
 
-pub fn transfer<W: Write>(
-    out: &mut W,
-    records: &mut [i64],
-    positions: &mut [i64],
-    id: i64,
-    suffix: i64,
-    from: i64,
-    to: i64,
-    series: i64,
-) -> io::Result<()> {
-    showing::request(out, b"transfer", &[id, suffix, from, to, series], &[])?;
-    let r = book::transfer(&mut *records, &mut *positions, id, suffix, from, to, series);
-    showing::reply(out, r)?;
-    showing::tables(out, records, positions)
-}
+    fn answer<W: Write>(&self, out: &mut W, r: Reply) -> io::Result<()> {
+        showing::reply(out, r)?;
+        showing::tables(out, &self.records, &self.positions)
+    }
 
-pub fn merge<W: Write>(
-    out: &mut W,
-    records: &mut [i64],
-    positions: &mut [i64],
-    id: i64,
-    account: i64,
-    series: i64,
-    pairs: &[i64],
-) -> io::Result<()> {
-    showing::request(out, b"merge", &[id, account, series], pairs)?;
-    let r = book::merge(&mut *records, &mut *positions, id, account, series, pairs);
-    showing::reply(out, r)?;
-    showing::tables(out, records, positions)
-}
+    pub fn trade<W: Write>(&mut self, out: &mut W, figures: [i64; 6]) -> io::Result<()> {
+        showing::request(out, b"trade", &figures, &[])?;
+        let [id, account, series, side, quantity, price] = figures;
+        let r = book::trade(
+            &mut self.records,
+            &mut self.positions,
+            id,
+            account,
+            series,
+            side,
+            quantity,
+            price,
+        );
+        self.answer(out, r)
+    }
 
-// It is lent no positions; they are shown as they stand.
-pub fn lineage<W: Write>(
-    out: &mut W,
-    records: &[i64],
-    positions: &[i64],
-    id: i64,
-    suffix: i64,
-) -> io::Result<()> {
-    showing::request(out, b"lineage", &[id, suffix], &[])?;
-    showing::reply(out, book::lineage(records, id, suffix))?;
-    showing::tables(out, records, positions)
+    pub fn trades<W: Write>(
+        &mut self,
+        out: &mut W,
+        figures: &[i64],
+        excess: &mut [i64],
+    ) -> io::Result<()> {
+        showing::request(out, b"batch", &[], figures)?;
+        let r = book::trades(
+            &mut self.records,
+            &mut self.positions,
+            figures,
+            &mut *excess,
+        );
+        showing::reply(out, r)?;
+        showing::excesses(out, excess)?;
+        showing::tables(out, &self.records, &self.positions)
+    }
+
+    pub fn separate<W: Write>(
+        &mut self,
+        out: &mut W,
+        figures: [i64; 4],
+        parts: &[i64],
+    ) -> io::Result<()> {
+        showing::request(out, b"separation", &figures, parts)?;
+        let [id, suffix, account, series] = figures;
+        let r = book::separate(
+            &mut self.records,
+            &mut self.positions,
+            id,
+            suffix,
+            account,
+            series,
+            parts,
+        );
+        self.answer(out, r)
+    }
+
+    pub fn transfer<W: Write>(&mut self, out: &mut W, figures: [i64; 5]) -> io::Result<()> {
+        showing::request(out, b"transfer", &figures, &[])?;
+        let [id, suffix, from, to, series] = figures;
+        let r = book::transfer(
+            &mut self.records,
+            &mut self.positions,
+            id,
+            suffix,
+            from,
+            to,
+            series,
+        );
+        self.answer(out, r)
+    }
+
+    pub fn merge<W: Write>(
+        &mut self,
+        out: &mut W,
+        figures: [i64; 3],
+        pairs: &[i64],
+    ) -> io::Result<()> {
+        showing::request(out, b"merge", &figures, pairs)?;
+        let [id, account, series] = figures;
+        let r = book::merge(
+            &mut self.records,
+            &mut self.positions,
+            id,
+            account,
+            series,
+            pairs,
+        );
+        self.answer(out, r)
+    }
+
+    // It is lent no positions; they are shown as they stand.
+    pub fn lineage<W: Write>(&self, out: &mut W, id: i64, suffix: i64) -> io::Result<()> {
+        showing::request(out, b"lineage", &[id, suffix], &[])?;
+        self.answer(out, book::lineage(&self.records, id, suffix))
+    }
 }

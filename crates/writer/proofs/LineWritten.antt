@@ -7,9 +7,17 @@ use lib.IntN.{ℤ}
 use lib.ListN.{length, length-append}
 use Rattle.rules.specs.declared.Heading.{Heading}
 use Rattle.rules.specs.Line.{heading_text, line_text}
-use Rattle.text.specs.Fields.{newline, fields_text}
+use Rattle.text.specs.Fields.{tab, newline, fields_text}
 use Rattle.text.proofs.WrittenLaws.{Wrote, wrote-in-turn}
 use Rattle.writer.proofs.NumberTexts.{fields-append}
+
+-- A give-up's three bytes.
+pub give-up : (at next after end a b letter : ℕ) (text t u v : List ℕ) → at + 3 ≤ length text → a ≡ 71 → b ≡ letter → Wrote (a ∷ []) at text next t → Wrote (tab ∷ []) next t after u
+    → Wrote (b ∷ []) after u end v
+    → Wrote (71 ∷ tab ∷ letter ∷ []) at text end v
+give-up at next after end a b letter text t u v room e f p q r =
+    let two : Wrote (a ∷ tab ∷ []) at text after u = wrote-in-turn (a ∷ []) (tab ∷ []) at next after text t u (omega arith) p q in
+    rw (← e, ← f) (wrote-in-turn (a ∷ tab ∷ []) (b ∷ []) at after end text u v room two r)
 
 module _ (heading : Heading) (a b : List ℤ) where
   line-parts : line_text heading (a ++ b) ≡ ((heading_text heading ++ fields_text a) ++ fields_text b) ++ (newline ∷ [])

@@ -1,20 +1,10 @@
 // Numbers and fields put into a text at a place, and how many bytes they take. Who writes sums the widths first, so that a text too short stays as it was.
-ghost use Rattle.std.specs.Prelude.{◌+◌, ◌*◌, ◌≤◌, ◌≡◌, [], ◌∷◌, nat_abs, length};
+ghost use Rattle.std.specs.Prelude.{◌+◌, ◌*◌, ◌≤◌, ◌≡◌, [], ◌∷◌, length};
 ghost use Rattle.text.specs.Decimal.{digits_of, number_text};
 ghost use Rattle.text.specs.Fields.{fields_text};
 ghost use Rattle.text.specs.Written.{written};
 
-// The number without its sign.
-fn magnitude(z: i64) -> u64
-    ensures { result ≡ nat_abs z }
-{
-    if z < 0 {
-        (-(z + 1)) as u64 + 1
-    } else {
-        z as u64
-    }
-}
-
+// No index is counted, and checked_ilog10 with its case for 0 would be no plainer.
 fn digits_width(n: u64) -> usize
     ensures { (result ≡ length (digits_of n)) × (result ≤ 20) }
 {
@@ -31,8 +21,7 @@ fn digits_width(n: u64) -> usize
 pub fn number_width(z: i64) -> usize
     ensures { (result ≡ length (number_text z)) × (result ≤ 21) }
 {
-    let width = digits_width(magnitude(z));
-    if z < 0 { width + 1 } else { width }
+    digits_width(z.unsigned_abs()) + usize::from(z < 0)
 }
 
 // How many bytes fields take, each with its tab.
@@ -41,11 +30,8 @@ pub fn fields_width(figures: &[i64]) -> usize
     ensures { (result ≡ length (fields_text figures.now)) × (result ≤ 22 * length figures.now) }
 {
     let mut width = 0;
-    let mut i = 0;
-    while i < figures.len() {
-        let figure = figures[i];
+    for &figure in figures {
         width += 1 + number_width(figure);
-        i += 1;
     }
     width
 }
@@ -65,22 +51,21 @@ fn write_digits(text: &mut [u8], at: usize, n: u64) -> usize
     ensures { (result ≡ at + length (digits_of n)) × (text.new ≡ written (digits_of n) at text.old) }
 {
     if n < 10 {
-        return write_byte(text, at, 48 + (n as u8));
+        return write_byte(text, at, b'0' + (n as u8));
     }
     let last = write_digits(&mut *text, at, n / 10);
-    write_byte(text, last, 48 + ((n % 10) as u8))
+    write_byte(text, last, b'0' + ((n % 10) as u8))
 }
 
 pub fn write_number(text: &mut [u8], at: usize, z: i64) -> usize
     requires { at + length (number_text z) ≤ length text.old }
     ensures { (result ≡ at + length (number_text z)) × (text.new ≡ written (number_text z) at text.old) }
 {
-    let negative = z < 0;
-    if negative {
-        let after = write_byte(&mut *text, at, 45);
-        return write_digits(text, after, magnitude(z));
+    if z < 0 {
+        let after = write_byte(&mut *text, at, b'-');
+        return write_digits(text, after, z.unsigned_abs());
     }
-    write_digits(text, at, magnitude(z))
+    write_digits(text, at, z.unsigned_abs())
 }
 
 // Fields that follow another one, each after its tab.
@@ -89,12 +74,9 @@ pub fn write_fields(text: &mut [u8], at: usize, figures: &[i64]) -> usize
     ensures { (result ≡ at + length (fields_text figures.now)) × (text.new ≡ written (fields_text figures.now) at text.old) }
 {
     let mut next = at;
-    let mut i = 0;
-    while i < figures.len() {
-        let figure = figures[i];
-        let after = write_byte(&mut *text, next, 9);
+    for &figure in figures {
+        let after = write_byte(&mut *text, next, b'\t');
         next = write_number(&mut *text, after, figure);
-        i += 1;
     }
     next
 }

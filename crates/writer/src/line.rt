@@ -1,5 +1,6 @@
 // A line of a journal: its heading, its figures in two lists, one after the other, and the newline.
 ghost use Rattle.std.specs.Prelude.{◌+◌, ◌*◌, ◌≤◌, ◌≡◌, ◌++◌, length};
+ghost use Rattle.text.specs.Scan.{first};
 ghost use Rattle.text.specs.Written.{written};
 ghost use Rattle.rules.specs.Line.{step_letter, heading_text, line_text};
 
@@ -9,13 +10,20 @@ use rules::{Heading, Step};
 fn step_letter(step: Step) -> u8
     ensures { result ≡ step_letter step }
 {
-    match step {
-        Step::Open => 79,
-        Step::Claim => 67,
-        Step::Cancel => 88,
-        Step::Refuse => 82,
-        Step::ApproveGiver => 71,
-        Step::ApproveTaker => 84,
+    step as u8
+}
+
+// The letter of the request's kind.
+fn letter(heading: Heading) -> u8
+    ensures { result ≡ first (heading_text heading) }
+{
+    match heading {
+        Heading::Trade => b'T',
+        Heading::Separation => b'S',
+        Heading::Transfer => b'A',
+        Heading::Merge => b'M',
+        Heading::GiveUp(_) => b'G',
+        Heading::Day => b'D',
     }
 }
 
@@ -23,12 +31,8 @@ fn heading_width(heading: Heading) -> usize
     ensures { (result ≡ length (heading_text heading)) × (result ≤ 3) }
 {
     match heading {
-        Heading::Trade => 1,
-        Heading::Separation => 1,
-        Heading::Transfer => 1,
-        Heading::Merge => 1,
         Heading::GiveUp(_) => 3,
-        Heading::Day => 1,
+        _ => 1,
     }
 }
 
@@ -44,19 +48,12 @@ fn write_heading(text: &mut [u8], at: usize, heading: Heading) -> usize
     requires { at + length (heading_text heading) ≤ length text.old }
     ensures { (result ≡ at + length (heading_text heading)) × (text.new ≡ written (heading_text heading) at text.old) }
 {
-    match heading {
-        Heading::Trade => fields::write_byte(text, at, 84),
-        Heading::Separation => fields::write_byte(text, at, 83),
-        Heading::Transfer => fields::write_byte(text, at, 65),
-        Heading::Merge => fields::write_byte(text, at, 77),
-        Heading::GiveUp(step) => {
-            let letter = step_letter(step);
-            let tab = fields::write_byte(&mut *text, at, 71);
-            let after = fields::write_byte(&mut *text, tab, 9);
-            fields::write_byte(text, after, letter)
-        }
-        Heading::Day => fields::write_byte(text, at, 68),
-    }
+    let next = fields::write_byte(&mut *text, at, letter(heading));
+    let Heading::GiveUp(step) = heading else {
+        return next;
+    };
+    let after = fields::write_byte(&mut *text, next, b'\t');
+    fields::write_byte(text, after, step_letter(step))
 }
 
 // Answers the place after the line.
@@ -73,5 +70,5 @@ pub fn write_line(
     let first = write_heading(&mut *text, at, heading);
     let second = fields::write_fields(&mut *text, first, figures);
     let end = fields::write_fields(&mut *text, second, more);
-    fields::write_byte(text, end, 10)
+    fields::write_byte(text, end, b'\n')
 }

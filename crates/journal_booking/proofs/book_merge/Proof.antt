@@ -1,6 +1,6 @@
 -- `book_merge` meets its contract: the figures as they are read, and the list after them, handed to the request's own call. Assumes nothing.
 use Prim.Native.Nat.{ℕ, ◌-◌}
-use mathlib.Core.Path.{subst}
+use mathlib.Core.Path.{refl, subst}
 use mathlib.Core.List.{List}
 use borrow.Author.Rules.{rules, sfits_of}
 use lib.IntN.{ℤ, pos}
@@ -9,6 +9,7 @@ use mir.Facts.{to_z-of_z}
 use mir.Syntax.{w64}
 use mir.Val.{SFits}
 use Rattle.rules.specs.Request.{merge}
+use Rattle.rules.specs.Reasons.{answer_of}
 use Rattle.rules.specs.Reader.{request_named}
 use Rattle.rules.specs.Handle.{answered}
 use Rattle.verdict.specs.HandledSoundly.{HandledSoundly}
@@ -44,7 +45,7 @@ module _ (c : tie.After-on_sound) where
   -- What the request's own call promises, of this list.
   abbrev Handled : List ℤ → Type 0
   Handled rest =
-      HandledSoundly (s p).args.records.now (s p).args.positions.now (merge (figure p 0) (figure p 1) (figure p 2) rest) (answered c.on_sound.result c.on_sound.new.records c.on_sound.new.positions)
+      HandledSoundly (s p).args.records.now (s p).args.positions.now (merge (figure p 0) (figure p 1) (figure p 2) rest) (answered (answer_of c.on_sound.result) c.on_sound.new.records c.on_sound.new.positions)
 
   lent : Handled (take (length (figures p) - 3) (drop 3 (figures p)))
   lent = simp (to_z-of_z (id-fits p), to_z-of_z (account-fits p), to_z-of_z (series-fits p)) at c.on_sound.ensures
@@ -54,7 +55,7 @@ module _ (c : tie.After-on_sound) where
 
 returns : tie.Need-returns
 unfolding request_named
-returns c = let a : tie.After-on_sound = c.before.before.before in two-booked (s (p a)).requires.1 (handled a) c.verdict_of.ensures
+returns c = let a : tie.After-on_sound = c.before.before in two-booked (s (p a)).requires.1 (handled a) refl
 
 pub book_merge_spec : {M : Type 1} → statement M
 book_merge_spec =
@@ -66,7 +67,6 @@ book_merge_spec =
     (λ c. search rules)
     (λ c. search rules)
     (λ c. search rules)
-    (λ c κs. search rules)
     (λ c κs. search rules)
     (λ c. search rules)
     (λ c. search rules)

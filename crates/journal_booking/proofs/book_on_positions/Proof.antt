@@ -3,11 +3,12 @@ use mathlib.Core.Path.{refl, sym, subst}
 use borrow.Author.Rules.{rules}
 use borrow.Author.Tests.{eqb-true, leb-true}
 use Rattle.rules.specs.Request.{is_step}
+use Rattle.rules.specs.Reasons.{answer_of}
 use Rattle.rules.specs.Reader.{has_its_figures, request_named}
 use Rattle.rules.specs.Tables.{all_tables}
 use Rattle.rules.specs.declared.Heading.{Heading}
 use Rattle.rules.specs.declared.Heading.TheVariants.{Trade, Separation, Transfer, Merge, GiveUp, Day}
-use Rattle.journal_booking.specs.RequestBooked.{RequestBooked}
+use Rattle.journal_booking.specs.RequestBooked.{RequestBooked, verdict_of_reply}
 use Rattle.journal_booking.proofs.Booked.{line-beside, day-beside, its-figures}
 use Rattle.journal_booking.proofs.book_on_positions.Statement.{statement}
 use Rattle.journal_booking.proofs.book_on_positions.Tie as tie
@@ -85,7 +86,7 @@ returns-5 c =
     let h : tie.In-GiveUp = b.before.before.before.before in
     let s : tie.Start = h.before in
     subst
-    (λ (k : Heading). RequestBooked (all_tables s.args.records.now s.args.positions.now s.args.processes.now) (request_named k s.args.figures.now) b.book_step.result
+    (λ (k : Heading). RequestBooked (all_tables s.args.records.now s.args.positions.now s.args.processes.now) (request_named k s.args.figures.now) (verdict_of_reply (answer_of b.book_step.result))
     (all_tables b.book_step.new.records b.book_step.new.positions b.book_step.new.processes))
     (sym h.in-GiveUp.is) b.book_step.ensures
 

@@ -1,5 +1,6 @@
 -- `book_trade` meets its contract: the figures as they are read, handed to the request's own call. Assumes nothing.
 use Prim.Native.Nat.{ℕ}
+use mathlib.Core.Path.{refl}
 use borrow.Author.Rules.{rules, sfits_of}
 use lib.IntN.{ℤ, pos}
 use lib.ListN.{get_or}
@@ -40,8 +41,8 @@ module _ (c : tie.After-price-1) where
 returns : tie.Need-returns
 unfolding request_named
 returns c =
-    let p : tie.After-price-1 = c.before.before.before.before.before.before in
-    two-booked (s p).requires.1 (simp (to_z-of_z (id-fits p), to_z-of_z (account-fits p), to_z-of_z (series-fits p), to_z-of_z (side-fits p), to_z-of_z (quantity-fits p), to_z-of_z (price-fits p)) at c.on_sound.ensures) c.verdict_of.ensures
+    let p : tie.After-price-1 = c.before.before.before.before.before in
+    two-booked (s p).requires.1 (simp (to_z-of_z (id-fits p), to_z-of_z (account-fits p), to_z-of_z (series-fits p), to_z-of_z (side-fits p), to_z-of_z (quantity-fits p), to_z-of_z (price-fits p)) at c.on_sound.ensures) refl
 
 pub book_trade_spec : {M : Type 1} → statement M
 book_trade_spec =
@@ -53,7 +54,6 @@ book_trade_spec =
     (λ c. search rules)
     (λ c. search rules)
     (λ c. search rules)
-    (λ c κs. search rules)
     (λ c κs. search rules)
     (λ c. search rules)
     (λ c. search rules)

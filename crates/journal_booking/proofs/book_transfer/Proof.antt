@@ -1,5 +1,6 @@
 -- `book_transfer` meets its contract: the figures as they are read, handed to the request's own call. Assumes nothing.
 use Prim.Native.Nat.{ℕ}
+use mathlib.Core.Path.{refl}
 use borrow.Author.Rules.{rules, sfits_of}
 use lib.IntN.{ℤ, pos}
 use lib.ListN.{get_or}
@@ -37,8 +38,8 @@ module _ (c : tie.After-series-1) where
 returns : tie.Need-returns
 unfolding request_named
 returns c =
-    let p : tie.After-series-1 = c.before.before.before.before.before.before in
-    two-booked (s p).requires.1 (simp (to_z-of_z (id-fits p), to_z-of_z (suffix-fits p), to_z-of_z (from-fits p), to_z-of_z (to-fits p), to_z-of_z (series-fits p)) at c.on_sound.ensures) c.verdict_of.ensures
+    let p : tie.After-series-1 = c.before.before.before.before.before in
+    two-booked (s p).requires.1 (simp (to_z-of_z (id-fits p), to_z-of_z (suffix-fits p), to_z-of_z (from-fits p), to_z-of_z (to-fits p), to_z-of_z (series-fits p)) at c.on_sound.ensures) refl
 
 pub book_transfer_spec : {M : Type 1} → statement M
 book_transfer_spec =
@@ -49,7 +50,6 @@ book_transfer_spec =
     (λ c. search rules)
     (λ c. search rules)
     (λ c. search rules)
-    (λ c κs. search rules)
     (λ c κs. search rules)
     (λ c. search rules)
     (λ c. search rules)

@@ -11,7 +11,7 @@ use mir.Val.{SFits}
 use Rattle.rules.specs.Keyed.{Key, same}
 use Rattle.rules.specs.Rows.{key_of}
 use Rattle.lookup.specs.Lookup.{key_at, row_place}
-use Rattle.lookup.specs.declared.Found.TheVariants as Found
+use Rattle.lookup.specs.Found as Found
 use Rattle.lookup.proofs.Halving.{row_within, place-at-most}
 use Rattle.lookup.proofs.RowBefore.{found_at, absent-before, absent-first}
 use Rattle.lookup.proofs.find_row.Statement.{statement}

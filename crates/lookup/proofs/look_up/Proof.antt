@@ -2,7 +2,6 @@
 -- up to there. The row at the end has another id, as its second figure was read and so is an i64. Assumes nothing.
 use Prim.Native.Nat.{ℕ, suc, ◌+◌, ◌-◌, ◌*◌, ◌≤◌, ◌<◌}
 use mathlib.Core.Path.{◌≡◌, sym, ap, subst, ◌∙◌}
-use mathlib.Core.Logic.{⊎_elim}
 use native.Mathlib.Omega.{arith}
 use borrow.Author.Rules.{rules, sfits_of}
 use lib.IntN.{ℤ, pos}
@@ -13,8 +12,9 @@ use mir.Val.{SFits, of_z}
 use Rattle.integers.proofs.Bits.{of_z-inj}
 use Rattle.rules.specs.Rows.{key_of}
 use Rattle.lookup.specs.Lookup.{row_place, row_found}
-use Rattle.lookup.specs.declared.Greatest.TheVariants.{Suffix, Nothing}
-use Rattle.lookup.specs.declared.Sought.TheVariants as Sought
+use Rattle.lookup.specs.Found.{found_told}
+use Rattle.lookup.specs.Greatest.{Suffix, Nothing}
+use Rattle.lookup.specs.Sought as Sought
 use Rattle.lookup.proofs.Halving.{row_within, place-at-most}
 use Rattle.lookup.proofs.RowBefore.{last_key}
 use Rattle.lookup.proofs.LookedUp.{front-searchable, said-first, said-nothing, said-present, said-absent}
@@ -76,16 +76,16 @@ module _ (c : tie.Else-end-eq0) where
   abbrev second : ℤ
   second = get_or start.args.cells.now (start.args.header + row * start.args.width + 1) (pos 0)
 
-first_fits : (c : tie.After-t24-1) → SFits w64 (first c.before.before)
-first_fits c = sfits_of c.t24-1.given
+first_fits : (c : tie.After-first-1) → SFits w64 (first c.before.before)
+first_fits c = sfits_of c.first-1.given
 
-returns-2 : tie.Need-returns-then-cells-last
+returns-2 : tie.Need-returns-then-first-major
 returns-2 c =
     let e : tie.Else-end-eq0 = c.before.before.before in
     let s : tie.Start = start e in
     ap (λ (n : ℕ). Sought.Absent n Nothing) (placed e.before.before)
     ∙ sym (said-nothing s.args.cells.now s.args.header s.args.width s.args.count s.requires s.args.major s.args.minor (read e.before) (row e) (row_before e)
-    (λ same. c.if-cells-last.true (ap (of_z w64) same)))
+    (λ same. c.if-first-major.true (ap (of_z w64) same)))
 
 -- The row with the key among the rows up to the end.
 module _ (c : tie.After-find_by_distance) where
@@ -96,12 +96,12 @@ module _ (c : tie.After-find_by_distance) where
   s = start there
 
   own : first there ≡ s.args.major
-  own = of_z-inj (first_fits c.before.before) s.ranges.major c.if-cells-last.false
+  own = of_z-inj (first_fits c.before.before) s.ranges.major c.if-first-major.false
 
   greatest-fits : SFits w64 (second there)
   greatest-fits = sfits_of c.greatest-1.given
 
-  found : c.find_by_distance.result ≡ row_found s.args.header s.args.width (key_of s.args.major s.args.minor) (end_of s) s.args.cells.now
+  found : found_told c.find_by_distance.result ≡ row_found s.args.header s.args.width (key_of s.args.major s.args.minor) (end_of s) s.args.cells.now
   found =
       (simp (to_z-of_z s.ranges.major, to_z-of_z s.ranges.minor) at c.find_by_distance.ensures)
       ∙ ap (λ (n : ℕ). row_found s.args.header s.args.width (key_of s.args.major s.args.minor) n s.args.cells.now) (placed there.before.before)
@@ -112,26 +112,26 @@ find-by-distance-requires c κs =
     let s : tie.Start = start e in
     (front-searchable s.args.header s.args.width s.args.count e.place_of-end.result s.args.cells.now (end-within e) s.requires, omega (arith, row_before e, placed e.before.before))
 
-returns-3 : tie.Need-returns-in-Row
+returns-3 : tie.Need-returns-in-Ok
 returns-3 c =
     let f : tie.After-find_by_distance = c.before in
     let e : tie.Else-end-eq0 = there f in
     let s : tie.Start = s f in
-    let i : ℕ = c.in-Row.row in
+    let i : ℕ = c.in-Ok.row in
     ap (λ (g : ℤ). Sought.Present i g e.place_of-end.result) (to_z-of_z (greatest-fits f))
     ∙ ap (Sought.Present i (second e)) (placed e.before.before)
     ∙ sym (said-present s.args.cells.now s.args.header s.args.width s.args.count s.requires s.args.major s.args.minor (read e.before) (row e) (row_before e) (own f)
-    i (sym c.in-Row.is ∙ found f))
+    i (ap found_told (sym c.in-Ok.is) ∙ found f))
 
-returns-4 : tie.Need-returns-in-Absent
+returns-4 : tie.Need-returns-in-Err
 returns-4 c =
     let f : tie.After-find_by_distance = c.before in
     let e : tie.Else-end-eq0 = there f in
     let s : tie.Start = s f in
-    let place : ℕ = c.in-Absent.place in
+    let place : ℕ = c.in-Err.at in
     ap (λ (g : ℤ). Sought.Absent place (Suffix g)) (to_z-of_z (greatest-fits f))
     ∙ sym (said-absent s.args.cells.now s.args.header s.args.width s.args.count s.requires s.args.major s.args.minor (read e.before) (row e) (row_before e) (own f)
-    place (sym c.in-Absent.is ∙ found f))
+    place (ap found_told (sym c.in-Err.is) ∙ found f))
 
 pub look_up_spec : {M : Type 1} → statement M
 look_up_spec =

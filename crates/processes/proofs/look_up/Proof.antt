@@ -7,6 +7,7 @@ use Rattle.rules.specs.Rows.{key_of}
 use Rattle.rules.specs.ProcessRows.{process_key, sound_process}
 use Rattle.rules.specs.Tables.{processes_layout}
 use Rattle.cells.proofs.Count.{length-rows_of}
+use Rattle.lookup.specs.Sought.{sought_told}
 use Rattle.lookup.specs.Lookup.{row_sought}
 use Rattle.lookup.proofs.TableLookup.{table-searchable}
 use Rattle.processes.proofs.ProcessTable.{processes-first, processes-by-key}
@@ -21,7 +22,7 @@ look-up-requires c κs =
 returns : tie.Need-returns
 returns c =
     let s : tie.Start = c.before.before in
-    let answer : c.look_up.result ≡ row_sought processes_layout.header processes_layout.width (key_of s.args.process s.args.id) c.count.result s.args.cells.now = simp (to_z-of_z s.ranges.process, to_z-of_z s.ranges.id) at c.look_up.ensures in
+    let answer : sought_told c.look_up.result ≡ row_sought processes_layout.header processes_layout.width (key_of s.args.process s.args.id) c.count.result s.args.cells.now = simp (to_z-of_z s.ranges.process, to_z-of_z s.ranges.id) at c.look_up.ensures in
     answer ∙ ap (λ (n : ℕ). row_sought processes_layout.header processes_layout.width (key_of s.args.process s.args.id) n s.args.cells.now) (c.count.ensures ∙ length-rows_of processes_layout s.args.cells.now)
 
 pub look_up_spec : {M : Type 1} → statement M

@@ -17,17 +17,16 @@ use Rattle.integers.proofs.Linear.{zarith, +-lin}
 use Rattle.integers.proofs.Parts.{true-eq_z, false-eq_z}
 use Rattle.rules.specs.Figures.{valid_quantity}
 use Rattle.rules.specs.Keyed.{is_some}
-use Rattle.rules.specs.NamedRecord.{the_record, is_elsewhere, is_not_adjustable}
+use Rattle.rules.specs.NamedRecord.{the_record, is_elsewhere, is_not_adjustable, status_refusal}
 use Rattle.rules.specs.Refusal.{all_of}
 use Rattle.rules.specs.Layout.{rows_of}
 use Rattle.rules.specs.Tables.{records_layout}
 use Rattle.rules.specs.declared.Record.{Record}
 use Rattle.cells.proofs.SoundCells.{record-rows-sound}
 use Rattle.figures.proofs.Tests.{is-literal, not-literal}
-use Rattle.requests.proofs.StatusRefusal.{status-number}
 use Rattle.scan.proofs.ReadBack.{read_back}
 use Rattle.soundness.proofs.NamedRecord.{next_of}
-use Rattle.verdict.specs.declared.Verdict.TheVariants.{Refused}
+use Rattle.verdict.specs.Verdict.{Refused}
 use Rattle.verdict.proofs.Remaining.{◌past◌, stops, ends}
 use Rattle.verdict.proofs.SoundReads.{next-range}
 use Rattle.verdict.proofs.Separation.{SeparationFrom, separation-tests}
@@ -94,7 +93,7 @@ returns-2 : tie.Need-returns-then-r-ne-ADJUSTABLE
 unfolding is_not_adjustable
 returns-2 c =
     let t : tie.After-struct_told-1 = c.before.before.before in
-    ap (λ (n : ℤ). Refused n (pos 0)) (status-number (sfits_of c.status_refusal.type_inv) (status-fits t) c.status_refusal.ensures)
+    ap (λ (n : ℤ). Refused n (pos 0)) (c.status_refusal.ensures ∙ ap (λ (z : ℤ). pos (status_refusal z)) (to_z-of_z (status-fits t)))
     ∙ stops (at_7 t.before.before) (ap not (not-literal 0 (status-fits t) c.if-r-ne-ADJUSTABLE.true))
 
 -- ---- 11: the parts' sum

@@ -3,7 +3,6 @@
 use mathlib.Core.Path.{◌≡◌, sym, ◌∙◌, ap, subst}
 use mathlib.Core.Bool.{Bool, true}
 use mathlib.Core.List.{List, [], ◌∷◌}
-use mathlib.Core.Logic.{⊎_elim}
 use mathlib.Core.Option.{none}
 use borrow.Author.Rules.{rules}
 use Prim.Native.Nat.{ℕ, ◌+◌, ◌≤◌, ◌<◌}
@@ -24,7 +23,8 @@ use Rattle.rules.specs.declared.Position.{Position}
 use Rattle.rules.specs.declared.Movement.{Movement}
 use Rattle.rules.specs.declared.Reply.TheVariants.{ClosingError}
 use Rattle.lookup.specs.Lookup.{found_in, place_in}
-use Rattle.lookup.specs.declared.Found.{Found}
+use Rattle.std.specs.Prelude.{Result}
+use Rattle.lookup.specs.Found.{found_told}
 use Rattle.cells.proofs.SoundCells.{record-rows-sound}
 use Rattle.scan.proofs.ReadBack.{read_back}
 use Rattle.verdict.proofs.Puts.{put_one}
@@ -44,9 +44,9 @@ abbrev PlaceReady : List ℤ → ℕ → Record → Type 0
 PlaceReady cells place r = (sound_record_rows cells ≡ true) × (sound_record r ≡ true) × (find record_key (record_key r) (rows_of records_layout cells) ≡ none)
     × (length (rows_of records_layout cells) < room_of records_layout cells) × (place ≡ place_in records_layout (record_key r) cells)
 
-abbrev WriteReady : List ℤ → Found → Position → Type 0
+abbrev WriteReady : List ℤ → Result ℕ ℕ → Position → Type 0
 WriteReady cells found p = (sound_positions cells ≡ true) × (sound_position p ≡ true) × (length (rows_of positions_layout cells) + absent_from position_key (rows_of positions_layout cells) (p ∷ []) ≤ room_of positions_layout cells)
-    × (found ≡ found_in positions_layout (position_key p) cells)
+    × (found_told found ≡ found_in positions_layout (position_key p) cells)
 
 -- What the function is given, and what the rules make of it.
 module _ (s : tie.Start) where
@@ -57,47 +57,47 @@ module _ (s : tie.Start) where
   ps = s.args.positions.now
 
   abbrev closed_of : ℤ
-  closed_of = trade_closed ps s.args.account s.args.series s.args.side s.args.quantity
+  closed_of = trade_closed ps s.args.t.account s.args.t.series s.args.t.side s.args.t.quantity
 
   abbrev error_of : Bool
-  error_of = trade_error ps s.args.account s.args.series s.args.side s.args.quantity
+  error_of = trade_error ps s.args.t.account s.args.t.series s.args.t.side s.args.t.quantity
 
   abbrev row_of : Record
-  row_of = trade_row ps s.args.account s.args.series s.args.side s.args.quantity (current_day rs) s.args.id s.args.price
+  row_of = trade_row ps s.args.t.account s.args.t.series s.args.t.side s.args.t.quantity (current_day rs) s.args.t.id s.args.t.price
 
   abbrev left_of : Position
-  left_of = trade_position ps s.args.account s.args.series s.args.side s.args.quantity s.args.price
+  left_of = trade_position ps s.args.t.account s.args.t.series s.args.t.side s.args.t.quantity s.args.t.price
 
   -- The position, as it was read.
-  read : s.args.held.position ≡ position_read ps s.args.account s.args.series
+  read : s.args.held.position ≡ position_read ps s.args.t.account s.args.t.series
   read = s.requires.3.read_is
 
   read-sound : sound_position s.args.held.position ≡ true
-  read-sound = ap sound_position read ∙ position-read-sound ps s.requires.1 s.args.account s.args.series
+  read-sound = ap sound_position read ∙ position-read-sound ps s.requires.1 s.args.t.account s.args.t.series
 
-  quantity-valid : valid_quantity s.args.quantity ≡ true
+  quantity-valid : valid_quantity s.args.t.quantity ≡ true
   quantity-valid =
-      trade-quantity rs ps s.args.id s.args.account s.args.series s.args.side s.args.quantity s.args.price s.requires.0 s.requires.1 s.requires.2
+      trade-quantity rs ps s.args.t.id s.args.t.account s.args.t.series s.args.t.side s.args.t.quantity s.args.t.price s.requires.0 s.requires.1 s.requires.2
 
-  price-valid : valid_price s.args.price ≡ true
+  price-valid : valid_price s.args.t.price ≡ true
   price-valid =
-      trade-price rs ps s.args.id s.args.account s.args.series s.args.side s.args.quantity s.args.price s.requires.0 s.requires.1 s.requires.2
+      trade-price rs ps s.args.t.id s.args.t.account s.args.t.series s.args.t.side s.args.t.quantity s.args.t.price s.requires.0 s.requires.1 s.requires.2
 
   insertable : PlaceReady rs s.args.place row_of
   unfolding new_record
   insertable =
       let ready : InsertReady rs row_of =
-      trade-insert rs ps s.args.id s.args.account s.args.series s.args.side s.args.quantity s.args.price s.requires.0 s.requires.1 s.requires.2 in
+      trade-insert rs ps s.args.t.id s.args.t.account s.args.t.series s.args.t.side s.args.t.quantity s.args.t.price s.requires.0 s.requires.1 s.requires.2 in
       (ready.0, ready.1, ready.2, ready.3, s.requires.4)
 
   writable : WriteReady ps s.args.held.found left_of
   writable =
       let ready : PutReady ps left_of =
-      trade-put rs ps s.args.id s.args.account s.args.series s.args.side s.args.quantity s.args.price s.requires.0 s.requires.1 s.requires.2 in (
+      trade-put rs ps s.args.t.id s.args.t.account s.args.t.series s.args.t.side s.args.t.quantity s.args.t.price s.requires.0 s.requires.1 s.requires.2 in (
         ready.0,
         ready.1,
         ready.2,
-        s.requires.3.found-is ∙ ap (λ (k : Key). found_in positions_layout k ps) (sym (left_key ps s.args.account s.args.series s.args.side s.args.quantity s.args.price)),
+        s.requires.3.found-is ∙ ap (λ (k : Key). found_in positions_layout k ps) (sym (left_key ps s.args.t.account s.args.t.series s.args.t.side s.args.t.quantity s.args.t.price)),
       )
 
 -- What the trade closes and books.
@@ -105,25 +105,25 @@ module _ (c : tie.After-booking_of-b) where
   abbrev s : tie.Start
   s = c.before.before
 
-  booked : c.booking_of-b.result ≡ booking_of s.args.side s.args.quantity s.args.price s.args.held.position
-  booked = simp (to_z-of_z s.ranges.side, to_z-of_z s.ranges.quantity, to_z-of_z s.ranges.price) at c.booking_of-b.ensures
+  booked : c.booking_of-b.result ≡ booking_of s.args.t.side s.args.t.quantity s.args.t.price s.args.held.position
+  booked = c.booking_of-b.ensures
 
   closed : c.booking_of-b.result.closed ≡ closed_of s
-  closed = closed_is (ps s) s.args.account s.args.series s.args.side s.args.quantity s.args.price s.args.held.position c.booking_of-b.result (read s) booked
+  closed = closed_is (ps s) s.args.t.account s.args.t.series s.args.t.side s.args.t.quantity s.args.t.price s.args.held.position c.booking_of-b.result (read s) booked
 
-  movement : c.booking_of-b.result.movement ≡ trade_movement (ps s) s.args.account s.args.series s.args.side s.args.quantity s.args.price
-  movement = movement-is (ps s) s.args.account s.args.series s.args.side s.args.quantity s.args.price s.args.held.position c.booking_of-b.result (read s) booked
+  movement : c.booking_of-b.result.movement ≡ trade_movement (ps s) s.args.t.account s.args.t.series s.args.t.side s.args.t.quantity s.args.t.price
+  movement = movement-is (ps s) s.args.t.account s.args.t.series s.args.t.side s.args.t.quantity s.args.t.price s.args.held.position c.booking_of-b.result (read s) booked
 
   error : c.booking_of-b.result.error ≡ error_of s
-  error = error-is (ps s) s.args.account s.args.series s.args.side s.args.quantity s.args.price s.args.held.position c.booking_of-b.result (read s) booked
+  error = error-is (ps s) s.args.t.account s.args.t.series s.args.t.side s.args.t.quantity s.args.t.price s.args.held.position c.booking_of-b.result (read s) booked
 
   left : moved s.args.held.position c.booking_of-b.result.movement ≡ left_of s
-  left = moved-is (ps s) s.args.account s.args.series s.args.side s.args.quantity s.args.price s.args.held.position c.booking_of-b.result (read s) booked
+  left = moved-is (ps s) s.args.t.account s.args.t.series s.args.t.side s.args.t.quantity s.args.t.price s.args.held.position c.booking_of-b.result (read s) booked
 
 -- The row that is made.
 module _ (c : tie.After-new_record-row) where
   abbrev b : tie.After-booking_of-b
-  b = c.before.before.before.before.before.before
+  b = c.before.before.before.before.before.before.before.before.before.before.before.before
 
   kind : to_z w64 c.if-b.kind-bits ≡ trade_kind b.booking_of-b.result.error
   unfolding trade_kind
@@ -136,23 +136,23 @@ module _ (c : tie.After-new_record-row) where
   row : c.new_record-row.result ≡ row_of (s b)
   row =
       let kind-is : to_z w64 c.if-b.kind-bits ≡ trade_kind (error_of (s b)) = kind ∙ ap trade_kind (error b) in
-      let long-is : to_z w64 (of_z w64 b.booking_of-b.result.movement.long) ≡ trade_long (ps (s b)) (s b).args.account (s b).args.series (s b).args.side (s b).args.quantity
-      = read_back b.booking_of-b.result.movement.long c.struct_told-1.given.0.1 ∙ ap (λ (m : Movement). m.long) (movement b) in
-      let short-is : to_z w64 (of_z w64 b.booking_of-b.result.movement.short) ≡ trade_short (ps (s b)) (s b).args.account (s b).args.series (s b).args.side (s b).args.quantity
-      = read_back b.booking_of-b.result.movement.short c.struct_told-2-1.given.1.0.1 ∙ ap (λ (m : Movement). m.short) (movement b) in
+      let long-is : to_z w64 (of_z w64 b.booking_of-b.result.movement.long) ≡ trade_long (ps (s b)) (s b).args.t.account (s b).args.t.series (s b).args.t.side (s b).args.t.quantity
+      = read_back b.booking_of-b.result.movement.long c.struct_told-7-1.given.0.1 ∙ ap (λ (m : Movement). m.long) (movement b) in
+      let short-is : to_z w64 (of_z w64 b.booking_of-b.result.movement.short) ≡ trade_short (ps (s b)) (s b).args.t.account (s b).args.t.series (s b).args.t.side (s b).args.t.quantity
+      = read_back b.booking_of-b.result.movement.short c.struct_told-8-1.given.1.0.1 ∙ ap (λ (m : Movement). m.short) (movement b) in
       let today-is : to_z w64 (of_z w64 c.today-today.result) ≡ current_day (rs (s b))
       = read_back c.today-today.result c.today-today.type_inv ∙ c.today-today.ensures in
       c.new_record-row.ensures
       ∙ (λ i.
       new_record
       (today-is i)
-      (to_z-of_z (s b).ranges.id i)
+      (read_back (s b).args.t.id c.struct_told-1.given.0.1 i)
       (kind-is i)
-      (to_z-of_z (s b).ranges.account i)
-      (to_z-of_z (s b).ranges.series i)
-      (to_z-of_z (s b).ranges.side i)
-      (to_z-of_z (s b).ranges.quantity i)
-      (to_z-of_z (s b).ranges.price i)
+      (read_back (s b).args.t.account c.struct_told-1.given.1.0.1 i)
+      (read_back (s b).args.t.series c.struct_told-1.given.1.1.0.1 i)
+      (read_back (s b).args.t.side c.struct_told-1.given.1.1.1.0.1 i)
+      (read_back (s b).args.t.quantity c.struct_told-1.given.1.1.1.1.0.1 i)
+      (read_back (s b).args.t.price c.struct_told-1.given.1.1.1.1.1.0.1 i)
       (long-is i)
       (short-is i))
 
@@ -176,27 +176,27 @@ put : (c : tie.After-write_position) → c.write_position.new.cells ≡ put_one 
 put c = c.write_position.ensures.0 ∙ ap (put_one positions_layout position_key (ps (s (e c.before.before)))) (leaves c.before.before)
 
 -- The excess of a closing error.
-module _ (c : tie.After-struct_told-then-b-2-1) where
+module _ (c : tie.After-struct_told-then-b-2-2-1) where
   abbrev p : tie.After-write_position
-  p = c.before.before.before.before
+  p = c.before.before.before.before.before.before
 
   abbrev f : tie.After-booking_of-b
   f = e p.before.before
 
-  excess-fits : SFits w64 ((s f).args.quantity -ℤ closed_of (s f))
+  excess-fits : SFits w64 ((s f).args.t.quantity -ℤ closed_of (s f))
   excess-fits =
-      opened-fits (s f).args.side (s f).args.quantity (position_read (ps (s f)) (s f).args.account (s f).args.series) (quantity-valid (s f))
-      (position-read-sound (ps (s f)) (s f).requires.1 (s f).args.account (s f).args.series)
+      opened-fits (s f).args.t.side (s f).args.t.quantity (position_read (ps (s f)) (s f).args.t.account (s f).args.t.series) (quantity-valid (s f))
+      (position-read-sound (ps (s f)) (s f).requires.1 (s f).args.t.account (s f).args.t.series)
 
-  excess : (to_z w64 (of_z w64 (s f).args.quantity) -ℤ to_z w64 (of_z w64 f.booking_of-b.result.closed)) ≡ (s f).args.quantity -ℤ closed_of (s f)
+  excess : (to_z w64 (of_z w64 (s f).args.t.quantity) -ℤ to_z w64 (of_z w64 f.booking_of-b.result.closed)) ≡ (s f).args.t.quantity -ℤ closed_of (s f)
   excess =
       let closed-back : to_z w64 (of_z w64 f.booking_of-b.result.closed) ≡ closed_of (s f)
-      = read_back f.booking_of-b.result.closed c.struct_told-then-b-2-1.given.0.1 ∙ closed f in
-      λ i. to_z-of_z (s f).ranges.quantity i -ℤ closed-back i
+      = read_back f.booking_of-b.result.closed c.struct_told-then-b-2-2-1.given.0.1 ∙ closed f in
+      λ i. read_back (s f).args.t.quantity c.struct_told-then-b-2-1.given.1.1.1.1.0.1 i -ℤ closed-back i
 
 booking-of-requires : tie.Need-booking_of-b-requires
 booking-of-requires c κs =
-    simp (to_z-of_z c.ranges.quantity, to_z-of_z c.ranges.price) (quantity-valid c.before, read-sound c.before, price-valid c.before)
+    (quantity-valid c.before, read-sound c.before, price-valid c.before)
 
 today-requires : tie.Need-today-today-requires
 today-requires c κs = let s : tie.Start = s c.before.before in record-rows-sound (rs s) s.requires.0
@@ -212,7 +212,7 @@ insert-record-requires c κs =
 moved-requires : tie.Need-moved-left-requires
 moved-requires c κs =
     let b : tie.After-booking_of-b = d c.before in
-    booking-moves (s b).args.side (s b).args.quantity (s b).args.held.position (quantity-valid (s b)) (read-sound (s b)) (s b).args.price (price-valid (s b)) b.booking_of-b.result (booked b)
+    booking-moves (s b).args.t.side (s b).args.t.quantity (s b).args.held.position (quantity-valid (s b)) (read-sound (s b)) (s b).args.t.price (price-valid (s b)) b.booking_of-b.result (booked b)
 
 write-position-requires : tie.Need-write_position-requires
 write-position-requires c κs =
@@ -231,11 +231,11 @@ same-length-2 c = search rules
 returns : tie.Need-returns-then-b-2
 returns c =
     let s : tie.Start = s (f c) in
-    let excess-back : to_z w64 (of_z w64 (to_z w64 (of_z w64 s.args.quantity) -ℤ to_z w64 (of_z w64 (f c).booking_of-b.result.closed))) ≡ s.args.quantity -ℤ closed_of s
+    let excess-back : to_z w64 (of_z w64 (to_z w64 (of_z w64 s.args.t.quantity) -ℤ to_z w64 (of_z w64 (f c).booking_of-b.result.closed))) ≡ s.args.t.quantity -ℤ closed_of s
     = ap (λ (z : ℤ). to_z w64 (of_z w64 z)) (excess c) ∙ to_z-of_z (excess-fits c) in
     let i : tie.After-insert_record = (p c).before.before.before.before in
     ap (λ (z : ℤ). answered (ClosingError z) i.insert_record.new.cells (p c).write_position.new.cells) excess-back
-    ∙ trade-returns-error (rs s) (ps s) s.args.id s.args.account s.args.series s.args.side s.args.quantity s.args.price
+    ∙ trade-returns-error (rs s) (ps s) s.args.t.id s.args.t.account s.args.t.series s.args.t.side s.args.t.quantity s.args.t.price
     i.insert_record.new.cells (p c).write_position.new.cells (inserted i) (put (p c)) (sym (error (f c)) ∙ c.if-b-2.true)
 
 same-length-3 : tie.Need-shape_of-records-else-b-2
@@ -249,7 +249,7 @@ returns-2 c =
     let p : tie.After-write_position = c.before.before in
     let s : tie.Start = s (e p.before.before) in
     let i : tie.After-insert_record = p.before.before.before.before in
-    trade-returns-plain (rs s) (ps s) s.args.id s.args.account s.args.series s.args.side s.args.quantity s.args.price
+    trade-returns-plain (rs s) (ps s) s.args.t.id s.args.t.account s.args.t.series s.args.t.side s.args.t.quantity s.args.t.price
     i.insert_record.new.cells p.write_position.new.cells (inserted i) (put p) (sym (error (e p.before.before)) ∙ c.if-b-2.false)
 
 pub book_spec : {M : Type 1} → statement M

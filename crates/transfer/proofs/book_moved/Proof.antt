@@ -22,6 +22,7 @@ use Rattle.cells.proofs.RowCells.{positions-lawful}
 use Rattle.cells.proofs.SoundCells.{record-rows-sound, positions-known}
 use Rattle.soundness.proofs.NamedRecord.{next_of}
 use Rattle.soundness.proofs.ReadPosition.{read-key}
+use Rattle.lookup.specs.Found.{found_told}
 use Rattle.lookup.specs.Lookup.{found_in}
 use Rattle.lookup.proofs.KeysKept.{found-kept}
 use Rattle.lookup.proofs.TableLookup.{positions-first}
@@ -33,6 +34,7 @@ use Rattle.verdict.proofs.Ready.{PutReady}
 use Rattle.verdict.proofs.SoundReads.{FoundRecord, found-record, position-read-sound}
 use Rattle.verdict.proofs.Moving.{moving_inverse, moving_arrived, moving_rows, moving_old, moving_new}
 use Rattle.verdict.proofs.MovingReady.{Movable, moving-ready, moving-adjusted, moving-next, moving-old-there, moving-put-old, moving-put-new, moving-returns}
+use Rattle.transfer.proofs.Negated.{negated_fits, negated-small, negated}
 use Rattle.transfer.proofs.book_moved.Statement.{statement}
 use Rattle.transfer.proofs.book_moved.Tie as tie
 
@@ -124,7 +126,7 @@ module _ (s : tie.Start) where
   old-puts : PutReady ps left
   old-puts = moving-put-old rs ps id suffix from to series leaving arriving r may
 
-  old-found : s.args.old.found ≡ found_in positions_layout (position_key left) ps
+  old-found : found_told s.args.old.found ≡ found_in positions_layout (position_key left) ps
   unfolding moved
   old-found = s.requires.old-known.found-is ∙ ap (λ (k : Key). found_in positions_layout k ps) (sym (read-key from series (rows_of positions_layout ps)))
 
@@ -133,7 +135,7 @@ module _ (s : tie.Start) where
     new-puts : sound_positions ps₁ ≡ true → PutReady ps₁ reached
     new-puts = moving-put-new rs ps id suffix from to series leaving arriving r may ps₁ put
 
-    new-found : s.args.new.found ≡ found_in positions_layout (position_key reached) ps₁
+    new-found : found_told s.args.new.found ≡ found_in positions_layout (position_key reached) ps₁
     unfolding moved
     new-found =
         let there = moving-old-there rs ps id suffix from to series leaving arriving r may in
@@ -181,29 +183,38 @@ module _ (c : tie.After-adjust_named) where
   unfolding rows_like adjustable_record
   records-put = simp (inverse-is at-quantity.before.before, arrived-is at-quantity.before, quantity-is at-quantity) at c.adjust_named.ensures
 
-module _ (c : tie.After-taken_from) where
+module _ (c : tie.After-shifted-taken) where
   abbrev start4 : tie.Start
-  start4 = start3 c.before.before.before.before
+  start4 = start3 c.before.before.before.before.before
 
-  taken_is : c.taken_from.result ≡ left start4
-  taken_is = c.taken_from.ensures ∙ ap (λ (p : Position). moved p (in_side (r start4).side (neg_ℤ (r start4).quantity) (r start4).price)) start4.requires.old-known.read_is
+  left_is : c.shifted-taken.result ≡ left start4
+  left_is =
+      let q = (r start4).quantity in
+      (rw (negated q (found start4).quantity-small c.struct_told-3-1.given.1.1.1.1.1.1.1.1.0.1) at c.shifted-taken.ensures)
+      ∙ ap (λ (p : Position). moved p (in_side (r start4).side (neg_ℤ q) (r start4).price)) start4.requires.old-known.read_is
+
+module _ (c : tie.After-shifted-given) where
+  abbrev at-left : tie.After-shifted-taken
+  at-left = c.before.before.before
+
+  abbrev start5 : tie.Start
+  start5 = start4 at-left
+
+  reached_is : c.shifted-given.result ≡ reached start5
+  reached_is =
+      let q = (r start5).quantity in
+      (rw (read_back q c.struct_told-4-1.given.1.1.1.1.1.1.1.1.0.1) at c.shifted-given.ensures)
+      ∙ ap (λ (p : Position). moved p (in_side (r start5).side q (r start5).price)) start5.requires.new-known.read_is
 
 module _ (c : tie.After-write_position) where
-  abbrev start5 : tie.Start
-  start5 = start4 c.before
-
-  old-put : c.write_position.new.cells ≡ put_one positions_layout position_key (ps start5) (left start5)
-  old-put = rw (taken_is c.before) at c.write_position.ensures.0
-
-module _ (c : tie.After-given_to) where
-  abbrev put : tie.After-write_position
-  put = c.before.before.before.before
+  abbrev at-reached : tie.After-shifted-given
+  at-reached = c.before.before
 
   abbrev start6 : tie.Start
-  start6 = start5 put
+  start6 = start5 at-reached
 
-  given_is : c.given_to.result ≡ reached start6
-  given_is = c.given_to.ensures ∙ ap (λ (p : Position). moved p (in_side (r start6).side (r start6).quantity (r start6).price)) start6.requires.new-known.read_is
+  old-put : c.write_position.new.cells ≡ put_one positions_layout position_key (ps start6) (left start6)
+  old-put = rw (left_is (at-left at-reached)) at c.write_position.ensures.0
 
 -- ---- what the calls require
 
@@ -222,36 +233,43 @@ adjust-named-requires c κs =
     let s : tie.Start = start2 q.before in
     simp (to_z-of_z s.ranges.id, to_z-of_z s.ranges.suffix, inverse-is q.before.before, arrived-is q.before, quantity-is q) (adjusts s)
 
-taken-from-requires : tie.Need-taken_from-requires
-taken-from-requires c κs =
-    let s : tie.Start = start3 c.before.before.before in
-    (old-ready s, (found s).quantity-small, (found s).sound.price)
+sub-left : tie.Need-overflow_sub-r
+sub-left c =
+    let s : tie.Start = start3 c.before.before.before.before in
+    simp (read_back (r s).quantity c.struct_told-3-1.given.1.1.1.1.1.1.1.1.0.1) (negated_fits (r s).quantity (found s).quantity-small)
+
+shifted-taken-requires : tie.Need-shifted-taken-requires
+shifted-taken-requires c κs =
+    let s : tie.Start = start3 c.before.before.before.before in
+    rw (negated (r s).quantity (found s).quantity-small c.struct_told-3-1.given.1.1.1.1.1.1.1.1.0.1)
+    (old-ready s, negated-small (r s).quantity (found s).quantity-small, (found s).sound.price)
+
+shifted-given-requires : tie.Need-shifted-given-requires
+shifted-given-requires c κs =
+    let s : tie.Start = start4 c.before.before in
+    rw (read_back (r s).quantity c.struct_told-4-1.given.1.1.1.1.1.1.1.1.0.1) (new-ready s, (found s).quantity-small, (found s).sound.price)
 
 write-position-requires : tie.Need-write_position-requires
 write-position-requires c κs =
-    let p : PutReady (ps (start4 c)) (left (start4 c)) = old-puts (start4 c) in
-    rw (taken_is c) (p.0, p.1, p.2, old-found (start4 c))
-
-given-to-requires : tie.Need-given_to-requires
-given-to-requires c κs =
-    let s : tie.Start = start5 c.before.before.before in
-    (new-ready s, (found s).quantity-small, (found s).sound.price)
+    let at : tie.After-shifted-given = c.before in
+    let p : PutReady (ps (start5 at)) (left (start5 at)) = old-puts (start5 at) in
+    rw (left_is (at-left at)) (p.0, p.1, p.2, old-found (start5 at))
 
 write-position-requires-2 : tie.Need-write_position-requires-2
 write-position-requires-2 c κs =
-    let w : tie.After-write_position = put c in
-    let s : tie.Start = start6 c in
+    let w : tie.After-write_position = c.before.before in
+    let s : tie.Start = start6 w in
     let p : PutReady w.write_position.new.cells (reached s) = new-puts s w.write_position.new.cells (old-put w) w.write_position.ensures.1 in
-    rw (given_is c) (p.0, p.1, p.2, new-found s w.write_position.new.cells (old-put w))
+    rw (reached_is (at-reached w)) (p.0, p.1, p.2, new-found s w.write_position.new.cells (old-put w))
 
 returns : tie.Need-returns
 returns c =
-    let g : tie.After-given_to = c.before.before in
-    let s : tie.Start = start6 g in
-    let a : tie.After-adjust_named = (put g).before.before.before.before.before in (
+    let w : tie.After-write_position = c.before.before.before.before in
+    let s : tie.Start = start6 w in
+    let a : tie.After-adjust_named = (at-left (at-reached w)).before.before.before.before.before in (
       records-put a,
       moving-returns (rs s) (ps s) (id s) (suffix s) (from s) (to s) (series s) (leaving s) (arriving s) (r s) (may s)
-          (put g).write_position.new.cells c.write_position-2.new.cells (old-put (put g)) (rw (given_is g) at c.write_position-2.ensures.0),
+          w.write_position.new.cells c.write_position-2.new.cells (old-put w) (rw (reached_is (at-reached w)) at c.write_position-2.ensures.0),
     )
 
 pub book_moved_spec : {M : Type 1} → statement M
@@ -264,9 +282,10 @@ book_moved_spec =
     (λ c κs. search rules)
     (λ c. search rules)
     adjust-named-requires
-    taken-from-requires
+    sub-left
+    shifted-taken-requires
+    shifted-given-requires
     write-position-requires
-    given-to-requires
     write-position-requires-2
     (λ c. search rules)
     (λ c. search rules)

@@ -8,13 +8,12 @@ use mir.Syntax.{w64}
 use mir.Val.{SFits}
 use borrow.Author.Rules.{rules, sfits_of}
 use Rattle.rules.specs.Figures.{is_to_close}
-use Rattle.rules.specs.NamedRecord.{is_elsewhere, is_not_adjustable}
+use Rattle.rules.specs.NamedRecord.{is_elsewhere, is_not_adjustable, status_refusal}
 use Rattle.rules.specs.declared.Record.{Record}
 use Rattle.figures.proofs.Tests.{is-literal, not-literal}
 use Rattle.scan.proofs.ReadBack.{read_back}
-use Rattle.requests.proofs.StatusRefusal.{status-number}
 use Rattle.verdict.specs.Moving.{moving_verdict}
-use Rattle.verdict.specs.declared.Verdict.TheVariants.{Refused}
+use Rattle.verdict.specs.Verdict.{Refused, judged}
 use Rattle.verdict.proofs.Remaining.{◌past◌, stops}
 use Rattle.verdict.proofs.Transfer.{TransferFrom, transfer-named, transfer-moving}
 use Rattle.transfer.proofs.verdict.Statement.{statement}
@@ -72,7 +71,7 @@ returns-2 : tie.Need-returns-then-r-ne-ADJUSTABLE
 unfolding is_not_adjustable
 returns-2 c =
     let t : tie.After-struct_told-1 = c.before.before.before in
-    ap (λ (n : ℤ). Refused n (pos 0)) (status-number (sfits_of c.status_refusal.type_inv) (status-fits t) c.status_refusal.ensures)
+    ap (λ (n : ℤ). Refused n (pos 0)) (c.status_refusal.ensures ∙ ap (λ (z : ℤ). pos (status_refusal z)) (to_z-of_z (status-fits t)))
     ∙ stops (at_7 t) (ap not (not-literal 0 (status-fits t) c.if-r-ne-ADJUSTABLE.true))
 
 -- ---- test 8
@@ -110,7 +109,7 @@ returns-4 : tie.Need-returns
 returns-4 c =
     let e : tie.Else-is_to_close = c.before in
     let s : tie.Start = start2 e.before in
-    let moving : c.verdict_on_positions.result ≡ moving_verdict s.args.records.now s.args.positions.now (r s) s.args.id (from s) s.args.to (series s) =
+    let moving : judged c.verdict_on_positions.result ≡ moving_verdict s.args.records.now s.args.positions.now (r s) s.args.id (from s) s.args.to (series s) =
     simp (to_z-of_z s.ranges.id, to_z-of_z s.ranges.from, to_z-of_z s.ranges.to, to_z-of_z s.ranges.series) at c.verdict_on_positions.ensures in
     moving
     ∙ transfer-moving s.args.records.now s.args.positions.now s.args.id s.args.suffix (from s) s.args.to (series s) (r s)

@@ -6,7 +6,7 @@ use mathlib.Core.Path.{◌≡◌, sym, ◌∙◌, ap, ap₂}
 use mathlib.Core.Bool.{Bool, true, not, ◌&&◌}
 use mathlib.Core.List.{List}
 use lib.Dec.{ltb}
-use lib.IntN.{ℤ, pos, ◌+ℤ◌}
+use lib.IntN.{ℤ, pos, neg_ℤ, ◌+ℤ◌}
 use lib.ListN.{length}
 use lib.Signed.{◌≤ℤ◌}
 use mir.Facts.{to_z-of_z}
@@ -15,8 +15,8 @@ use mir.Val.{SFits, to_z, of_z}
 use borrow.Author.Rules.{rules}
 use Rattle.integers.proofs.Linear.{zarith, +-lin}
 use Rattle.rules.specs.Figures.{magnitude_at_most, valid_price}
-use Rattle.rules.specs.Rows.{sound_position}
-use Rattle.rules.specs.Transfer.{holds_too_little}
+use Rattle.rules.specs.Rows.{sound_position, moved}
+use Rattle.rules.specs.Transfer.{holds_too_little, in_side}
 use Rattle.rules.specs.Layout.{room_of, rows_of}
 use Rattle.rules.specs.Tables.{records_layout, positions_layout}
 use Rattle.rules.specs.declared.Record.{Record}
@@ -30,6 +30,7 @@ use Rattle.verdict.proofs.Room.{position_read, absent-at-most-one}
 use Rattle.verdict.proofs.SoundReads.{found-record, next-range, position-read-sound}
 use Rattle.verdict.proofs.Remaining.{◌past◌, stops, ends}
 use Rattle.verdict.proofs.Moving.{moving_old, moving_new, MovingFrom, moving-tests}
+use Rattle.transfer.proofs.Negated.{negated_fits, negated-small, negated}
 use Rattle.transfer.proofs.verdict_on_positions.Statement.{statement}
 use Rattle.transfer.proofs.verdict_on_positions.Tie as tie
 
@@ -180,45 +181,61 @@ module _ (c : tie.Else-lacks_positions_room) where
   at-16 : From start5 16
   at-16 = at-15 c.before.before past sym (answer-15 c.before) ∙ c.if-lacks_positions_room.false
 
-taken-from-requires : tie.Need-taken_from-requires
-taken-from-requires c κs =
-    let s : tie.Start = start5 c.before in
-    (rw (old-is s) (position-read-sound (ps s) s.requires.0.1 (from s) (series s)), quantity-small s, price-valid s)
-
-old-answer : (c : tie.After-sound_position) → c.sound_position.result ≡ sound_position (left (start5 c.before.before.before))
-old-answer c =
+sub-left : tie.Need-overflow_sub-r
+sub-left c =
     let s : tie.Start = start5 c.before.before.before in
-    c.sound_position.ensures ∙ ap sound_position (rw (old-is s) at c.taken_from.ensures)
+    simp (read_back (r s).quantity c.struct_told-2-1.given.1.1.1.1.1.1.1.1.0.1) (negated_fits (r s).quantity (quantity-small s))
+
+shifted-left-requires : tie.Need-shifted-left-requires
+shifted-left-requires c κs =
+    let s : tie.Start = start5 c.before.before.before in
+    rw (negated (r s).quantity (quantity-small s) c.struct_told-2-1.given.1.1.1.1.1.1.1.1.0.1)
+    (rw (old-is s) (position-read-sound (ps s) s.requires.0.1 (from s) (series s)), negated-small (r s).quantity (quantity-small s), price-valid s)
+
+module _ (c : tie.After-sound_position) where
+  abbrev else4 : tie.Else-lacks_positions_room
+  else4 = c.before.before.before.before.before
+
+  old-answer : c.sound_position.result ≡ sound_position (left (start5 else4))
+  old-answer =
+      let s : tie.Start = start5 else4 in
+      let q = (r s).quantity in
+      let negative : c.shifted-left.result ≡ moved s.args.old.position (in_side (r s).side (neg_ℤ q) (r s).price) = rw (negated q (quantity-small s) c.struct_told-2-1.given.1.1.1.1.1.1.1.1.0.1) at c.shifted-left.ensures in
+      c.sound_position.ensures ∙ ap sound_position (negative ∙ ap (λ (p : Position). moved p (in_side (r s).side (neg_ℤ q) (r s).price)) (old-is s))
 
 returns-5 : tie.Need-returns-then-not-sound_position
 returns-5 c =
-    let e : tie.Else-lacks_positions_room = c.before.before.before.before in
+    let e : tie.Else-lacks_positions_room = else4 c.before in
     stops (at-16 e) (ap (λ (b : Bool). not (b && sound_position (reached (start5 e)))) (failed (old-answer c.before) c.if-not-sound_position.true-raw))
 
-given-to-requires : tie.Need-given_to-requires
-given-to-requires c κs =
-    let s : tie.Start = start5 c.before.before.before.before.before in
+shifted-reached-requires : tie.Need-shifted-reached-requires
+shifted-reached-requires c κs =
+    let s : tie.Start = start5 (else4 c.before.before.before) in
+    rw (read_back (r s).quantity c.struct_told-3-1.given.1.1.1.1.1.1.1.1.0.1)
     (rw (new_is s) (position-read-sound (ps s) s.requires.0.1 (to s) (series s)), quantity-small s, price-valid s)
 
 module _ (c : tie.After-sound_position-2) where
   abbrev else5 : tie.Else-not-sound_position
-  else5 = c.before.before.before
+  else5 = c.before.before.before.before
 
   abbrev start6 : tie.Start
-  start6 = start5 else5.before.before.before.before
+  start6 = start5 (else4 else5.before)
 
   new-answer : c.sound_position-2.result ≡ sound_position (reached start6)
-  new-answer = c.sound_position-2.ensures ∙ ap sound_position (rw (new_is start6) at c.given_to.ensures)
+  new-answer =
+      let q = (r start6).quantity in
+      let positive : c.shifted-reached.result ≡ moved start6.args.new.position (in_side (r start6).side q (r start6).price) = rw (read_back q c.struct_told-3-1.given.1.1.1.1.1.1.1.1.0.1) at c.shifted-reached.ensures in
+      c.sound_position-2.ensures ∙ ap sound_position (positive ∙ ap (λ (p : Position). moved p (in_side (r start6).side q (r start6).price)) (new_is start6))
 
   -- The old account's position stays sound: the test is that of the new one's.
   new-alone : not (sound_position (left start6) && sound_position (reached start6)) ≡ not (sound_position (reached start6))
   new-alone = rw (passed (old-answer else5.before) else5.if-not-sound_position.false-raw)
 
 returns-6 : tie.Need-returns-then-not-sound_position-2
-returns-6 c = stops (at-16 (else5 c.before).before.before.before.before) (new-alone c.before ∙ ap not (failed (new-answer c.before) c.if-not-sound_position-2.true-raw))
+returns-6 c = stops (at-16 (else4 (else5 c.before).before)) (new-alone c.before ∙ ap not (failed (new-answer c.before) c.if-not-sound_position-2.true-raw))
 
 returns-7 : tie.Need-returns
-returns-7 c = ends (at-16 (else5 c.before).before.before.before.before past new-alone c.before ∙ ap not (passed (new-answer c.before) c.if-not-sound_position-2.false-raw))
+returns-7 c = ends (at-16 (else4 (else5 c.before).before) past new-alone c.before ∙ ap not (passed (new-answer c.before) c.if-not-sound_position-2.false-raw))
 
 pub verdict_on_positions_spec : {M : Type 1} → statement M
 verdict_on_positions_spec =
@@ -235,10 +252,11 @@ verdict_on_positions_spec =
     add-absent
     lacks-positions-room-requires
     returns-4
-    taken-from-requires
+    sub-left
+    shifted-left-requires
     (λ c κs. search rules)
     returns-5
-    given-to-requires
+    shifted-reached-requires
     (λ c κs. search rules)
     returns-6
     returns-7)

@@ -7,7 +7,7 @@ use Rattle.velichundam.proofs.velichundam_day.Statement.{statement}
 use Rattle.velichundam.proofs.velichundam_day.Tie as tie
 
 returns : tie.Need-returns
-returns c = handed c.code_of.ensures (simp (to_z-of_z c.ranges.day) at c.day.ensures)
+returns c = handed c.from.ensures (simp (to_z-of_z c.ranges.day) at c.day.ensures)
 
 pub velichundam_day_spec : {M : Type 1} → statement M
 velichundam_day_spec = tie.close (tie.spec (λ c κs. search rules) (λ c κs. search rules) (λ c. search rules) returns)

@@ -9,7 +9,7 @@ use Rattle.velichundam.proofs.velichundam_give_up_cancel.Tie as tie
 returns : tie.Need-returns
 returns c =
     let s : tie.Start = c.before.before.before.before.before.before.before.before in
-    handed-all c.code_of.ensures
+    handed-all c.from.ensures
     (simp (to_z-of_z s.ranges.process, to_z-of_z s.ranges.id, to_z-of_z s.ranges.suffix, to_z-of_z s.ranges.giving, to_z-of_z s.ranges.taking, to_z-of_z s.ranges.series)
     at c.give_up.ensures)
 

@@ -6,7 +6,7 @@ use Rattle.velichundam.proofs.velichundam_reportable.Statement.{statement}
 use Rattle.velichundam.proofs.velichundam_reportable.Tie as tie
 
 returns : tie.Need-returns
-returns c = handed-with c.code_of.ensures c.reportable.ensures
+returns c = handed-with c.from.ensures c.reportable.ensures
 
 pub velichundam_reportable_spec : {M : Type 1} → statement M
 velichundam_reportable_spec = tie.close (tie.spec (λ c κs. search rules) (λ c κs. search rules) (λ c. search rules) returns)

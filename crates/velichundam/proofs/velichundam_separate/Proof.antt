@@ -9,7 +9,7 @@ use Rattle.velichundam.proofs.velichundam_separate.Tie as tie
 separate-requires : tie.Need-separate-requires
 separate-requires c κs = search rules
 
-code-of-requires : tie.Need-code_of-requires
+code-of-requires : tie.Need-from-requires
 code-of-requires c κs = search rules
 
 same_length : tie.Need-shape_of-records
@@ -21,7 +21,7 @@ same-length-2 c = search rules
 returns : tie.Need-returns
 returns c =
     let s : tie.Start = c.before.before.before.before.before.before in
-    handed c.code_of.ensures (simp (to_z-of_z s.ranges.id, to_z-of_z s.ranges.suffix, to_z-of_z s.ranges.account, to_z-of_z s.ranges.series) at c.separate.ensures)
+    handed c.from.ensures (simp (to_z-of_z s.ranges.id, to_z-of_z s.ranges.suffix, to_z-of_z s.ranges.account, to_z-of_z s.ranges.series) at c.separate.ensures)
 
 pub velichundam_separate_spec : {M : Type 1} → statement M
 velichundam_separate_spec = tie.close (tie.spec separate-requires code-of-requires same_length same-length-2 returns)

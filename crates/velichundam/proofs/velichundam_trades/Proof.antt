@@ -6,7 +6,7 @@ use Rattle.velichundam.proofs.velichundam_trades.Statement.{statement}
 use Rattle.velichundam.proofs.velichundam_trades.Tie as tie
 
 returns : tie.Need-returns
-returns c = handed-with c.code_of.ensures c.trades.ensures
+returns c = handed-with c.from.ensures c.trades.ensures
 
 pub velichundam_trades_spec : {M : Type 1} → statement M
 velichundam_trades_spec =

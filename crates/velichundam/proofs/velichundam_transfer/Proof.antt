@@ -9,7 +9,7 @@ use Rattle.velichundam.proofs.velichundam_transfer.Tie as tie
 transfer-requires : tie.Need-transfer-requires
 transfer-requires c κs = search rules
 
-code-of-requires : tie.Need-code_of-requires
+code-of-requires : tie.Need-from-requires
 code-of-requires c κs = search rules
 
 same_length : tie.Need-shape_of-records
@@ -21,7 +21,7 @@ same-length-2 c = search rules
 returns : tie.Need-returns
 returns c =
     let s : tie.Start = c.before.before.before.before.before.before in
-    handed c.code_of.ensures (simp (to_z-of_z s.ranges.id, to_z-of_z s.ranges.suffix, to_z-of_z s.ranges.from, to_z-of_z s.ranges.to, to_z-of_z s.ranges.series) at c.transfer.ensures)
+    handed c.from.ensures (simp (to_z-of_z s.ranges.id, to_z-of_z s.ranges.suffix, to_z-of_z s.ranges.from, to_z-of_z s.ranges.to, to_z-of_z s.ranges.series) at c.transfer.ensures)
 
 pub velichundam_transfer_spec : {M : Type 1} → statement M
 velichundam_transfer_spec = tie.close (tie.spec transfer-requires code-of-requires same_length same-length-2 returns)

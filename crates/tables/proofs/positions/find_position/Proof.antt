@@ -6,6 +6,7 @@ use Rattle.rules.specs.Rows.{key_of, position_key, sound_position}
 use Rattle.rules.specs.Tables.{positions_layout}
 use Rattle.cells.proofs.Count.{length-rows_of}
 use Rattle.cells.proofs.SoundCells.{positions-known}
+use Rattle.lookup.specs.Found.{found_told}
 use Rattle.lookup.specs.Lookup.{row_found}
 use Rattle.lookup.proofs.TableLookup.{positions-first, table-searchable}
 use borrow.Author.Rules.{rules}
@@ -22,7 +23,7 @@ find-row-requires c κs =
 returns : tie.Need-returns
 returns c =
     let s : tie.Start = c.before.before in
-    let answer : c.find_row.result ≡ row_found positions_layout.header positions_layout.width (key_of s.args.account s.args.series) c.count.result s.args.cells.now = simp (to_z-of_z s.ranges.account, to_z-of_z s.ranges.series) at c.find_row.ensures in
+    let answer : found_told c.find_row.result ≡ row_found positions_layout.header positions_layout.width (key_of s.args.account s.args.series) c.count.result s.args.cells.now = simp (to_z-of_z s.ranges.account, to_z-of_z s.ranges.series) at c.find_row.ensures in
     answer ∙ ap (λ (n : ℕ). row_found positions_layout.header positions_layout.width (key_of s.args.account s.args.series) n s.args.cells.now) (c.count.ensures ∙ length-rows_of positions_layout s.args.cells.now)
 
 pub find_position_spec : {M : Type 1} → statement M

@@ -1,7 +1,7 @@
 -- `tables::positions::write_position` meets its contract: the row with the key is written over, or the row's cells go in at the place of its key. Assumes nothing.
 use native.Mathlib.Omega.{arith}
 use Prim.Native.Nat.{ℕ, ◌<◌}
-use mathlib.Core.Path.{◌≡◌, sym, ◌∙◌}
+use mathlib.Core.Path.{ap, ◌≡◌, sym, ◌∙◌}
 use mathlib.Core.Option.{none}
 use lib.ListN.{length}
 use borrow.Author.Rules.{rules}
@@ -13,7 +13,7 @@ use Rattle.cells.specs.SoundTable.{SoundPositions}
 use Rattle.cells.proofs.RowCells.{positions-lawful}
 use Rattle.cells.proofs.SoundCells.{positions-known}
 use Rattle.lookup.specs.Lookup.{found_in, place_in}
-use Rattle.lookup.specs.declared.Found.TheVariants.{Row}
+use Rattle.lookup.specs.Found.{Row, found_told}
 use Rattle.lookup.proofs.TableLookup.{positions-first, table-absent}
 use Rattle.tables.proofs.RowFits.{room-for-one, insertion-fits, replacement-fits}
 use Rattle.tables.proofs.RowPut.{put-inserted, put-replaced}
@@ -27,34 +27,34 @@ abbrev start : tie.After-position_cells-row → tie.Start
 start c = c.before.before
 
 -- The row with the key.
-module _ (c : tie.In-Row) where
+module _ (c : tie.In-Ok) where
   abbrev f : tie.After-position_cells-row
   f = c.before
 
   abbrev row : ℕ
-  row = c.in-Row.at
+  row = c.in-Ok.at
 
   there : Row row ≡ found_in positions_layout (position_key (start f).args.p) (start f).args.cells.now
-  there = sym c.in-Row.is ∙ (start f).requires.3
+  there = ap found_told (sym c.in-Ok.is) ∙ (start f).requires.3
 
 -- No row with the key, the place where it belongs, and room for it.
-module _ (c : tie.In-Absent) where
+module _ (c : tie.In-Err) where
   abbrev g : tie.After-position_cells-row
   g = c.before
 
   abbrev place : ℕ
-  place = c.in-Absent.place
+  place = c.in-Err.place
 
   lacking : (find position_key (position_key (start g).args.p) (rows_of positions_layout (start g).args.cells.now) ≡ none)
       × (place ≡ place_in positions_layout (position_key (start g).args.p) (start g).args.cells.now)
-  lacking = table-absent positions_layout position_key positions-first (start g).args.cells.now (position_key (start g).args.p) place (sym (start g).requires.3 ∙ c.in-Absent.is)
+  lacking = table-absent positions_layout position_key positions-first (start g).args.cells.now (position_key (start g).args.p) place (sym (start g).requires.3 ∙ ap found_told c.in-Err.is)
 
   room : length (rows_of positions_layout (start g).args.cells.now) < room_of positions_layout (start g).args.cells.now
   room = room-for-one position_key (start g).args.p (rows_of positions_layout (start g).args.cells.now) lacking.0 (start g).requires.2
 
 replace-row-requires : tie.Need-replace_row-requires
 replace-row-requires c κs =
-    let a : tie.In-Row = c.before.before in
+    let a : tie.In-Ok = c.before.before in
     let f : tie.After-position_cells-row = f a in
     omega (
       arith,
@@ -66,7 +66,7 @@ replace-row-requires c κs =
 
 insert-row-requires : tie.Need-insert_row-requires
 insert-row-requires c κs =
-    let a : tie.In-Absent = c.before.before in
+    let a : tie.In-Err = c.before.before in
     let f : tie.After-position_cells-row = g a in
     omega (
       arith,
@@ -76,20 +76,20 @@ insert-row-requires c κs =
           (omega arith) (room a) (place a) (lacking a).1,
     )
 
-returns : tie.Need-returns-in-Row
+returns : tie.Need-returns-in-Ok
 unfolding sound_positions
 returns c =
-    let a : tie.In-Row = c.before.before.before.before in
+    let a : tie.In-Ok = c.before.before.before.before in
     let f : tie.After-position_cells-row = f a in
     put-replaced positions_layout positions-lawful position_key positions-first sound_position (start f).args.cells.now (table (start f))
     (start f).args.p (start f).requires.1 f.count-n.result f.count-n.ensures
     f.position_cells-row.result f.position_cells-row.ensures
     c.replace_row.new.cells (row a) (there a) c.replace_row.ensures
 
-returns-2 : tie.Need-returns-in-Absent
+returns-2 : tie.Need-returns-in-Err
 unfolding sound_positions
 returns-2 c =
-    let a : tie.In-Absent = c.before.before.before.before in
+    let a : tie.In-Err = c.before.before.before.before in
     let f : tie.After-position_cells-row = g a in
     put-inserted positions_layout positions-lawful position_key positions-first sound_position (start f).args.cells.now (table (start f))
     (start f).args.p (start f).requires.1 f.count-n.result f.count-n.ensures

@@ -6,6 +6,7 @@ use Rattle.rules.specs.Rows.{key_of, record_key, sound_record}
 use Rattle.rules.specs.Tables.{records_layout}
 use Rattle.cells.proofs.Count.{length-rows_of}
 use Rattle.cells.proofs.SoundCells.{records-known}
+use Rattle.lookup.specs.Sought.{sought_told}
 use Rattle.lookup.specs.Lookup.{row_sought}
 use Rattle.lookup.proofs.TableLookup.{records-first, table-searchable}
 use borrow.Author.Rules.{rules}
@@ -22,7 +23,7 @@ look-up-requires c κs =
 returns : tie.Need-returns
 returns c =
     let s : tie.Start = c.before.before in
-    let answer : c.look_up.result ≡ row_sought records_layout.header records_layout.width (key_of s.args.id s.args.suffix) c.count.result s.args.cells.now = simp (to_z-of_z s.ranges.id, to_z-of_z s.ranges.suffix) at c.look_up.ensures in
+    let answer : sought_told c.look_up.result ≡ row_sought records_layout.header records_layout.width (key_of s.args.id s.args.suffix) c.count.result s.args.cells.now = simp (to_z-of_z s.ranges.id, to_z-of_z s.ranges.suffix) at c.look_up.ensures in
     answer ∙ ap (λ (n : ℕ). row_sought records_layout.header records_layout.width (key_of s.args.id s.args.suffix) n s.args.cells.now) (c.count.ensures ∙ length-rows_of records_layout s.args.cells.now)
 
 pub look_up_spec : {M : Type 1} → statement M

@@ -1,6 +1,6 @@
 -- `tables::records::read_record` meets its contract: the cells of a row that the count names lie in the slice. Assumes nothing.
 use native.Mathlib.Omega.{arith}
-use Prim.Native.Nat.{suc, ◌+◌, ◌*◌, ◌≤◌}
+use Prim.Native.Nat.{suc, ◌≤◌}
 use lib.ListN.{length}
 use Rattle.rules.specs.Layout.{start_of}
 use Rattle.rules.specs.Tables.{records_layout}

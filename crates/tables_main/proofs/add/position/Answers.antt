@@ -1,10 +1,8 @@
-use Rattle.std.proofs.Common.{◌<◌, length, sym, arith, w64, of_z, to_z, ℤ}
-use Rattle.rules.specs.Layout.{room_of, rows_of}
-use Rattle.rules.specs.Tables.{positions_layout}
+use Rattle.std.proofs.Common.{rules, sym, arith, w64, of_z, to_z, ℤ}
 use Rattle.rules.specs.declared.Position.{Position}
-use Rattle.tables_main.proofs.Fits.{over_fits, made_fits}
+use Rattle.tables_main.proofs.Fits.{fits}
 use Rattle.tables_main.proofs.add.position.Goals as goal
-use Rattle.tables_main.proofs.add.position.Goals.{in-Absent+else-room-n, in_default}
+use Rattle.tables_main.proofs.add.position.Goals.{else-is_err-via-then-is_err+else-room-count, else-is_err-via-else-is_err}
 
 -- A figure, as it is read from its local.
 abbrev read : ℤ → ℤ
@@ -26,11 +24,9 @@ write_position-requires c =
     let sound = sym c.if-not-positions_sound.ensures in (
       sound,
       sym c.if-not-sound_position.ensures,
-      elim c.match-found.branch [
-        | in-Absent+else-room-n w ↦
-            let room : length (rows_of positions_layout cells) < room_of positions_layout cells = omega (arith, w.if-room-n.false, c.count-n.ensures, c.room-room.ensures) in
-            made_fits cells new _ w.in-Absent.ensures room
-        | in_default w ↦ over_fits cells new sound _ w.in_default.ensures
-      ],
+      fits cells new sound c.find_position-found.result c.is_err.result c.is_err.ensures.value c.find_position-found.ensures (elim c.else-is_err.branch [
+        | else-is_err-via-then-is_err+else-room-count w ↦ λ absent. omega (arith, w.if-room-count.false, w.count.ensures, w.room.ensures)
+        | else-is_err-via-else-is_err w ↦ λ absent. search rules
+      ]),
       c.find_position-found.ensures,
     )

@@ -8,7 +8,7 @@ use Rattle.velichundam.proofs.text_calls.velichundam_write_day.Tie as tie
 returns : tie.Need-returns
 returns c =
     let s : tie.Start = c.before.before.before.before.before.before in
-    handed-text c.code_of.ensures (simp (to_z-of_z s.ranges.day) at c.write_day.ensures)
+    handed-text c.from.ensures (simp (to_z-of_z s.ranges.day) at c.write_day.ensures)
 
 pub velichundam_write_day_spec : {M : Type 1} → statement M
 velichundam_write_day_spec = tie.close (tie.spec (λ c κs. search rules) (λ c κs. search rules) (λ c. search rules) returns)

@@ -8,7 +8,7 @@ use Rattle.velichundam.proofs.text_calls.velichundam_write_give_up.Tie as tie
 returns : tie.Need-returns
 returns c =
     let s : tie.Start = c.before.before.before.before.before.before in
-    handed-text c.code_of.ensures (simp (to_z-of_z s.ranges.step, to_z-of_z s.ranges.process, to_z-of_z s.ranges.id, to_z-of_z s.ranges.suffix, to_z-of_z s.ranges.giving, to_z-of_z s.ranges.taking, to_z-of_z s.ranges.series) at c.write_give_up.ensures)
+    handed-text c.from.ensures (simp (to_z-of_z s.ranges.step, to_z-of_z s.ranges.process, to_z-of_z s.ranges.id, to_z-of_z s.ranges.suffix, to_z-of_z s.ranges.giving, to_z-of_z s.ranges.taking, to_z-of_z s.ranges.series) at c.write_give_up.ensures)
 
 pub velichundam_write_give_up_spec : {M : Type 1} → statement M
 velichundam_write_give_up_spec = tie.close (tie.spec (λ c κs. search rules) (λ c κs. search rules) (λ c. search rules) returns)

@@ -8,7 +8,7 @@ use Rattle.velichundam.proofs.text_calls.velichundam_write_merge.Tie as tie
 returns : tie.Need-returns
 returns c =
     let s : tie.Start = c.before.before.before.before.before.before in
-    handed-text c.code_of.ensures (simp (to_z-of_z s.ranges.id, to_z-of_z s.ranges.account, to_z-of_z s.ranges.series) at c.write_merge.ensures)
+    handed-text c.from.ensures (simp (to_z-of_z s.ranges.id, to_z-of_z s.ranges.account, to_z-of_z s.ranges.series) at c.write_merge.ensures)
 
 pub velichundam_write_merge_spec : {M : Type 1} → statement M
 velichundam_write_merge_spec = tie.close (tie.spec (λ c κs. search rules) (λ c κs. search rules) (λ c. search rules) returns)

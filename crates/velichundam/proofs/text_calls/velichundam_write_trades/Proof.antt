@@ -6,7 +6,7 @@ use Rattle.velichundam.proofs.text_calls.velichundam_write_trades.Tie as tie
 
 returns : tie.Need-returns
 returns c =
-    handed-text c.code_of.ensures c.write_trades.ensures
+    handed-text c.from.ensures c.write_trades.ensures
 
 pub velichundam_write_trades_spec : {M : Type 1} → statement M
 velichundam_write_trades_spec = tie.close (tie.spec (λ c κs. search rules) (λ c κs. search rules) (λ c. search rules) returns)

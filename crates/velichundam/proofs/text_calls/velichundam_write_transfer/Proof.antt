@@ -8,7 +8,7 @@ use Rattle.velichundam.proofs.text_calls.velichundam_write_transfer.Tie as tie
 returns : tie.Need-returns
 returns c =
     let s : tie.Start = c.before.before.before.before.before.before in
-    handed-text c.code_of.ensures (simp (to_z-of_z s.ranges.id, to_z-of_z s.ranges.suffix, to_z-of_z s.ranges.from, to_z-of_z s.ranges.to, to_z-of_z s.ranges.series) at c.write_transfer.ensures)
+    handed-text c.from.ensures (simp (to_z-of_z s.ranges.id, to_z-of_z s.ranges.suffix, to_z-of_z s.ranges.from, to_z-of_z s.ranges.to, to_z-of_z s.ranges.series) at c.write_transfer.ensures)
 
 pub velichundam_write_transfer_spec : {M : Type 1} → statement M
 velichundam_write_transfer_spec = tie.close (tie.spec (λ c κs. search rules) (λ c κs. search rules) (λ c. search rules) returns)

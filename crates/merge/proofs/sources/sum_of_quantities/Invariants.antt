@@ -1,0 +1,7 @@
+use Rattle.std.proofs.Common.{◌≡◌, take}
+use Rattle.merge_sources.specs.Sources.{source_records}
+use Rattle.merge_sources.proofs.Sums.{sum_over, quantity_of}
+use Rattle.merge.proofs.sources.sum_of_quantities.Given as goal
+
+abbrev pub invariant-loop-i : goal.invariant-loop-i
+invariant-loop-i l = l.sum ≡ sum_over quantity_of (take l.i (source_records l.records l.pairs))

@@ -1,0 +1,98 @@
+-- Refused by its figures, since its record is absent, or by the verdict on what was looked up; or booked.
+use Rattle.std.proofs.Common.{◌≡◌, true, refl, sym, ap, ◌∙◌, not}
+use mathlib.Core.Option.{Option}
+use mir.Facts.{to_z-of_z}
+use Rattle.rules.specs.Keyed.{is_some}
+use Rattle.rules.specs.Rows.{key_of, record_key}
+use Rattle.rules.specs.Request.{separate}
+use Rattle.rules.specs.Separation.{separation_figures}
+use Rattle.rules.specs.Tables.{records_layout}
+use Rattle.rules.specs.declared.Record.{Record}
+use Rattle.rules.specs.declared.refusals.Reason.TheVariants.{OutOfRange, NoRecord}
+use Rattle.cells.proofs.SoundCells.{record-rows-sound}
+use Rattle.figures.proofs.Tests.{failed, passed}
+use Rattle.lookup.specs.Lookup.{record_sought}
+use Rattle.lookup.specs.Sought.{sought_told}
+use Rattle.lookup.proofs.TableLookup.{records-first}
+use Rattle.lookup.proofs.TableSought.{table-lacks}
+use Rattle.requests.proofs.OnSound.{refused-for, refused-by, booked-soundly}
+use Rattle.requests.specs.KnownRecord.{KnownRecord}
+use Rattle.verdict.specs.Verdict.{judged, verdict_on}
+use Rattle.verdict.proofs.Remaining.{◌past◌, stops}
+use Rattle.verdict.proofs.Separation.{separation-tests}
+use Rattle.separation.proofs.on_sound.Goals.{After-figures_valid, After-look_up, After-record_named-named, After-verdict}
+use Rattle.separation.proofs.on_sound.Goals as goal
+
+-- ---- test 3
+
+answer-3 : (c : After-figures_valid) → c.figures_valid.result ≡ separation_figures c.args.id c.args.suffix c.args.account c.args.series c.args.parts.now
+answer-3 c = simp (to_z-of_z c.ranges.id, to_z-of_z c.ranges.suffix, to_z-of_z c.ranges.account, to_z-of_z c.ranges.series) at c.figures_valid.ensures
+
+pub returns-then-not-figures_valid : goal.returns-then-not-figures_valid
+returns-then-not-figures_valid c =
+    let a = c.args in
+    refused-for a.records.now a.positions.now c.requires (separate a.id a.suffix a.account a.series a.parts.now) OutOfRange c.from.result c.from.ensures
+    (stops (separation-tests a.records.now a.positions.now a.id a.suffix a.account a.series a.parts.now c.requires.1 _ refl) (ap not (failed (answer-3 c.before.before) c.if-not-figures_valid.true-raw)))
+
+-- ---- test 5
+
+pub look_up-requires : goal.look_up-requires
+look_up-requires c = record-rows-sound c.args.records.now c.requires.0
+
+module _ (c : After-look_up) where
+  figures : separation_figures c.args.id c.args.suffix c.args.account c.args.series c.args.parts.now ≡ true
+  figures = passed (answer-3 c.before.before) c.if-not-figures_valid.false-raw
+
+  looked : sought_told c.look_up.result ≡ record_sought c.args.records.now c.args.id c.args.suffix
+  looked = simp (to_z-of_z c.ranges.id, to_z-of_z c.ranges.suffix) at c.look_up.ensures
+
+pub returns-in_default : goal.returns-in_default
+unfolding is_some
+returns-in_default c =
+    let a = c.args in
+    let l : After-look_up = c.before.before in
+    let lacks = table-lacks records_layout record_key records-first a.records.now (key_of a.id a.suffix) _ _ (sym (looked l) ∙ ap sought_told c.in_default.is) in
+    refused-for a.records.now a.positions.now c.requires (separate a.id a.suffix a.account a.series a.parts.now) NoRecord c.from-in_default.result c.from-in_default.ensures
+    (stops
+    (separation-tests a.records.now a.positions.now a.id a.suffix a.account a.series a.parts.now c.requires.1 _ refl past ap not (figures l))
+    (ap (λ (o : Option Record). not (is_some o)) lacks.absent))
+
+-- ---- what was looked up
+
+pub record_named-named-requires : goal.record_named-named-requires
+record_named-named-requires c =
+    simp (to_z-of_z c.ranges.id, to_z-of_z c.ranges.suffix)
+    (record-rows-sound c.args.records.now c.requires.0, sym (looked c.before) ∙ ap sought_told c.in-Ok.is)
+
+module _ (c : After-record_named-named) where
+  named : KnownRecord c.args.records.now c.args.id c.args.suffix c.record_named-named.result
+  named = simp (to_z-of_z c.ranges.id, to_z-of_z c.ranges.suffix) at c.record_named-named.ensures
+
+-- ---- the verdict
+
+pub verdict-requires : goal.verdict-requires
+verdict-requires c =
+    simp (to_z-of_z c.ranges.id, to_z-of_z c.ranges.suffix, to_z-of_z c.ranges.account, to_z-of_z c.ranges.series)
+    (c.requires.0, c.requires.1, figures c.before.before, named c)
+
+judgement : (c : After-verdict) → judged c.verdict.result ≡ verdict_on c.args.records.now c.args.positions.now (separate c.args.id c.args.suffix c.args.account c.args.series c.args.parts.now)
+judgement c = simp (to_z-of_z c.ranges.id, to_z-of_z c.ranges.suffix, to_z-of_z c.ranges.account, to_z-of_z c.ranges.series) at c.verdict.ensures
+
+pub returns-in_err-verdict : goal.returns-in_err-verdict
+returns-in_err-verdict c =
+    let a = c.args in
+    refused-by a.records.now a.positions.now c.requires (separate a.id a.suffix a.account a.series a.parts.now) c.in_err-verdict.field-0.0 c.from_residual.result c.from_residual.ensures
+    (ap judged (sym c.in_err-verdict.was) ∙ judgement c.before.before.before)
+
+pub book-requires : goal.book-requires
+book-requires c =
+    let v : After-verdict = c.before.before.before in
+    simp (to_z-of_z c.ranges.id, to_z-of_z c.ranges.suffix, to_z-of_z c.ranges.account, to_z-of_z c.ranges.series)
+    (c.requires.0, c.requires.1, sym (judgement v) ∙ ap judged c.in_ok-verdict.was, named v.before)
+
+pub returns : goal.returns
+returns c =
+    let a = c.args in
+    let v : After-verdict = c.before.before.before.before.before in
+    booked-soundly a.records.now a.positions.now c.requires (separate a.id a.suffix a.account a.series a.parts.now) (judgement v) (ap judged c.in_ok-verdict.was) _
+    (simp (to_z-of_z c.ranges.id, to_z-of_z c.ranges.suffix, to_z-of_z c.ranges.account, to_z-of_z c.ranges.series) at c.book.ensures)
