@@ -201,7 +201,7 @@
  *
  * A call needs stack, and nothing sees to it that there is enough: a thread with a small stack should allow for the call it makes. Lineage calls
  * itself on the parent, once for each link, and a table of 4,096 records has chains of up to 4,095 links. A merge keeps of each source its row and
- * the greatest suffix of its id, in two arrays of 1,000 numbers of 16 bits; a replay keeps the figures of a line, 2,003 numbers. In bytes, from the
+ * the greatest suffix of its id, in an array of 1,000 pairs of numbers of 16 bits; a replay keeps the figures of a line, 2,003 numbers. In bytes, from the
  * host's call down, rounded up:
  *
  *     lineage                                330,000 at the longest chain: 80 for each link, and 300

@@ -35,7 +35,7 @@ use Rattle.lookup.proofs.TableLookup.{records-first}
 use Rattle.lookup.proofs.TableSought.{table-present, table-lacks}
 use Rattle.soundness.proofs.FigureRanges.{suffix-range}
 use Rattle.verdict.proofs.Lineage.{origin-missing, origin-first, origin-parent}
-use Rattle.verdict.proofs.LineageAnswer.{records_of_id, origin_in, descending, links-range, parent-valid}
+use Rattle.verdict.proofs.LineageAnswer.{records_of_id, origin_in, descending, links-range}
 
 -- ---- figures read back from their bits
 
@@ -108,12 +108,14 @@ module _ (rs : List ℤ) (id suffix : ℤ) where
         unfolding one_more_link
         step-onward p e = sym (onward ∙ ap (λ (w : Maybe Original). one_more_link (origin_told w)) e)
 
-        -- Links that one more fits: they are no more than the parent.
-        pub links-few : (p : Original) → o ≡ Some p → (pos 0 ≤ℤ p.links) × (p.links ≤ℤ greatest_of_suffixes)
-        links-few p e =
-            let v = parent-valid rs sound id suffix r named in
-            let range = links-range rs sound id r.parent (record { price = p.price; links = p.links }) v (sym told ∙ ap origin_told e) in
-            (range.0, omega (zarith, range.1, (suffix-range r.parent v).1))
+-- ---- how many links
+
+-- Links that one more fits: they are no more than the suffix.
+pub links-few : (rs : List ℤ) → sound_record_rows rs ≡ true → (id suffix : ℤ) → valid_suffix suffix ≡ true → (o : Maybe Original) → origin_told o ≡ origin_in rs id suffix
+    → (p : Original) → o ≡ Some p → (pos 0 ≤ℤ p.links) × (p.links ≤ℤ greatest_of_suffixes)
+links-few rs sound id suffix v o told p e =
+    let range = links-range rs sound id suffix (record { price = p.price; links = p.links }) v (sym told ∙ ap origin_told e) in
+    (range.0, omega (zarith, range.1, (suffix-range suffix v).1))
 
 -- ---- the original that the code answers, or the refusal
 

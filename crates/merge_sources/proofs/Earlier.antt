@@ -14,10 +14,11 @@ use lib.ListN.{length, get_or, take, length-map}
 use lib.Seq.{take-suc}
 use lib.Signed.{◌≤ℤ◌}
 use Rattle.std.specs.List.{filter, count_by}
-use Rattle.std.proofs.lemmas.List.{map-append}
+use Rattle.std.proofs.lemmas.List.{map-append, get_or-take}
 use Rattle.std.proofs.lemmas.List.Sums.{length-filter, count_by_more_yes, count_by_more_no}
 use Rattle.integers.specs.Order.{eq_z}
 use Rattle.integers.proofs.Linear.{zarith, +-lin}
+use Rattle.integers.proofs.Parts.{true-eq_z, false-eq_z}
 use Rattle.rules.specs.Keyed.{Key, same}
 use Rattle.rules.specs.Merge.{pairs_of, is_among, times_in, stood_earlier}
 use Rattle.rules.specs.declared.Record.{Record}
@@ -142,6 +143,21 @@ module _ (pairs : List ℤ) (list : List (List ℤ)) (is : map pair_of list ≡ 
       repeat-at pairs i (omega (arith, listed-count)) ∙ stands-earlier pairs i
       ∙ ap (λ (k : Key). is_among k (earlier_pairs pairs i)) (sym (listed-at i h))
       ∙ sym (among-listed (pair_of (get_or list i [])) i (omega arith))
+
+  -- One place more of the first so many, and how often the id stands then.
+  times-next : (id : ℤ) (place j : ℕ) → j < place → place ≤ length list →
+      times_in (earlier_ids pairs (j + 1)) id ≡ cond (has_id id (get_or (take place list) j [])) (pos 1) (pos 0) +ℤ times_in (earlier_ids pairs j) id
+  times-next id place j h k =
+      ap (λ (n : ℕ). times_in (earlier_ids pairs n) id) (add-one j) ∙ times_more pairs j id
+      ∙ ap (λ (e : Key). cond (eq_z e.major id) (pos 1) (pos 0) +ℤ times_in (earlier_ids pairs j) id)
+      (sym (ap (λ (x : List ℤ). pair_of x) (get_or-take place list j [] h) ∙ listed-at j (omega arith)))
+
+  module _ (id : ℤ) (place j : ℕ) (h : j < place) (k : place ≤ length list) (t : ℤ) (counted : t ≡ times_in (earlier_ids pairs j) id) where
+    pub times-one-more : (pair_of (get_or (take place list) j [])).major ≡ id → t +ℤ pos 1 ≡ times_in (earlier_ids pairs (j + 1)) id
+    times-one-more e = rw (times-next id place j h k, true-eq_z _ id e) (omega (zarith, counted, +-lin t (pos 1), +-lin (pos 1) (times_in (earlier_ids pairs j) id)))
+
+    pub times-no-more : ((pair_of (get_or (take place list) j [])).major ≡ id → ⊥) → t ≡ times_in (earlier_ids pairs (j + 1)) id
+    times-no-more n = rw (times-next id place j h k, false-eq_z _ id n) (omega (zarith, counted, +-lin (pos 0) (times_in (earlier_ids pairs j) id)))
 
   pub times-listed : (id : ℤ) (i : ℕ) → i ≤ length list → pos (length (filter (has_id id) (take i list))) ≡ times_in (earlier_ids pairs i) id
   times-listed id i h = ap pos (length-filter (has_id id) (take i list)) ∙ counted i h

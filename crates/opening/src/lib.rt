@@ -38,17 +38,19 @@ fn verdict(processes: &[i64], r: Record, giving: i64, series: i64) -> Result<(),
     requires { sound_processes processes.now ≡ true }
     ensures { judged result ≡ verdict_of (first_refusal (opening_tests processes.now r giving series)) }
 {
-    if requests::is_elsewhere(r, giving, series) {
+    let elsewhere = requests::is_elsewhere(r, giving, series);
+    let status = r.status;
+    let full = lacks_room(processes);
+    if elsewhere {
         return Err(Reason::Elsewhere);
     }
-    let status = r.status;
     if status != ADJUSTABLE {
         return Err(requests::status_refusal(status));
     }
     if figures::is_to_close(r.side) {
         return Err(Reason::ToClose);
     }
-    if lacks_room(processes) {
+    if full {
         return Err(Reason::NoProcessesRoom);
     }
     Ok(())

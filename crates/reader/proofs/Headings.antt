@@ -36,7 +36,7 @@ module _ (text : List ℕ) (at : ℕ) {b : ℕ} (read : b ≡ get_or text at 0) 
   no-tab other = rw (first-there text at read, ne_eqb b 9 other)
 
   -- The text from there on, where these two bytes stand.
-  begins-step : {l letter : ℕ} → b ≡ 9 → l ≡ get_or text (at + 1) 0 → l ≡ letter → 0 < letter → drop at text ≡ 9 ∷ letter ∷ drop (at + 2) text
+  pub begins-step : {l letter : ℕ} → b ≡ 9 → l ≡ get_or text (at + 1) 0 → l ≡ letter → 0 < letter → drop at text ≡ 9 ∷ letter ∷ drop (at + 2) text
   begins-step {l} {letter} tab second e above =
       let two : at + 1 + 1 ≡ at + 2 = omega arith in
       begins text at read tab (omega arith) ∙ ap (λ (rest : List ℕ). 9 ∷ rest) (begins text (at + 1) second e above) ∙ ap (λ (place : ℕ). 9 ∷ letter ∷ drop place text) two

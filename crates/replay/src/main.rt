@@ -114,7 +114,7 @@ fn replay<W: Write, E: Write>(out: &mut W, err: &mut E, text: &[u8]) -> io::Resu
             )?;
             printed
         }
-        _ => printing::line(err, b"replay: no answer of a replay"),
+        _ => printing::text(err, b"replay: no answer of a replay\n"),
     }
 }
 
@@ -142,19 +142,19 @@ fn main(rt: HostRuntime) -> io::Result<()> {
     let mut out = io::writer(&rt);
     let mut err = rt.stderr();
     if !has_argument(&rt, 1) || has_argument(&rt, 2) {
-        return printing::line(&mut err, b"usage: replay JOURNAL");
+        return printing::text(&mut err, b"usage: replay JOURNAL\n");
     }
     let mut name = [0u8; PATH];
     let Ok(n) = rt.arg(1, &mut name) else {
-        return printing::line(
+        return printing::text(
             &mut err,
-            b"replay: can't take the journal's name: File name too long",
+            b"replay: can't take the journal's name: File name too long\n",
         );
     };
     let Ok(path) = str::from_utf8(&name[..n]) else {
-        return printing::line(
+        return printing::text(
             &mut err,
-            b"replay: can't take the journal's name: it is no UTF-8",
+            b"replay: can't take the journal's name: it is no UTF-8\n",
         );
     };
     match fs::open(&rt, path) {

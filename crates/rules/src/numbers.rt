@@ -1,6 +1,7 @@
 // The steps and stages of a give-up, told from their letters and numbers.
 ghost use Rattle.rules.specs.Numbers.{StepTold, StageTold};
 
+use crate::codes::{CANCELLED, CLAIMED, DONE, PENDING, REFUSED};
 use crate::{Stage, Step};
 
 // A letter that no step has.
@@ -38,11 +39,11 @@ impl TryFrom<i64> for Stage {
     #[tactic(auto, unfolding(crate::specs::ProcessRows::stage_number))]
     fn try_from(number: i64) -> Result<Stage, NoStage> {
         match number {
-            6 => Ok(Stage::Pending),
-            9 => Ok(Stage::Claimed),
-            10 => Ok(Stage::Refused),
-            12 => Ok(Stage::Cancelled),
-            0 => Ok(Stage::Done),
+            PENDING => Ok(Stage::Pending),
+            CLAIMED => Ok(Stage::Claimed),
+            REFUSED => Ok(Stage::Refused),
+            CANCELLED => Ok(Stage::Cancelled),
+            DONE => Ok(Stage::Done),
             _ => Err(NoStage(number)),
         }
     }

@@ -1,7 +1,7 @@
 // Writes requests, answers and tables, for the programs that run worked figures through the calls. What `printing` promises of a text is not carried further here.
 #![tactic(auto)]
 
-ghost use Rattle.std.specs.Prelude.{◌<◌, ◌≤◌, length, IfOk};
+ghost use Rattle.std.specs.Prelude.{◌≡◌, ◌<◌, ◌≤◌, true, length, IfOk};
 
 use rules::Reply;
 use rules::layout::{
@@ -153,13 +153,20 @@ fn rows<W: Write>(to: &mut W, cells: &[i64], count: usize, shape: Shape) -> io::
     Ok(end)
 }
 
+// Whether two cells have the same value: only such stand in one run.
+fn same(a: &i64, b: &i64) -> bool
+    ensures { (result ≡ true → a.now ≡ b.now) × (a.now ≡ b.now → result ≡ true) }
+{
+    a == b
+}
+
 // The cells that hold no row: how many in turn have which value.
 fn past<W: Write>(to: &mut W, cells: &[i64]) -> io::Result<()> {
     printing::text(to, b"past the last row:")?;
     if cells.is_empty() {
         printing::text(to, b" no cell")?;
     }
-    for (i, run) in cells.chunk_by(|a, b| a == b).enumerate() {
+    for (i, run) in cells.chunk_by(same).enumerate() {
         let comma = if i == 0 { "" } else { "," };
         write!(to, "{comma} {} times {}", run.len(), run[0])?;
     }

@@ -1,4 +1,4 @@
-// The process of a give-up by value: whose turn it is, what a step makes of it, and when it is complete.
+// The process of a give-up by value: whose turn it is, what a step makes of it, and when it is complete. Each step matches the stage, and writes the struct anew.
 #![tactic(auto, unfolding(rules::proofs::Computed::Computed))]
 
 ghost use Rattle.std.specs.Prelude.{◌≡◌};
@@ -12,11 +12,11 @@ use rules::{Process, Stage, Step};
 pub fn has_turn(step: Step, p: Process) -> bool
     ensures { result ≡ has_turn step (row_of_process p) }
 {
-    match step {
-        Step::Open => false,
-        Step::Claim | Step::Cancel | Step::Refuse => p.stage == Stage::Pending,
-        Step::ApproveGiver => matches!(p.stage, Stage::Pending | Stage::Claimed) && p.giver == 0,
-        Step::ApproveTaker => p.stage == Stage::Claimed && p.taker == 0,
+    match (step, p.stage) {
+        (Step::Claim | Step::Cancel | Step::Refuse, Stage::Pending) => true,
+        (Step::ApproveGiver, Stage::Pending | Stage::Claimed) => p.giver == 0,
+        (Step::ApproveTaker, Stage::Claimed) => p.taker == 0,
+        _ => false,
     }
 }
 
@@ -67,7 +67,10 @@ pub fn stepped(step: Step, p: Process) -> Process
 pub fn is_complete(p: Process) -> bool
     ensures { result ≡ is_complete (row_of_process p) }
 {
-    p.stage == Stage::Claimed && p.giver == 1 && p.taker == 1
+    match p.stage {
+        Stage::Claimed => p.giver == 1 && p.taker == 1,
+        _ => false,
+    }
 }
 
 // A process that is complete is done.

@@ -21,7 +21,7 @@ module _ (cells : List ℤ) (new : Position) where
   Room = length rows + absent_from position_key rows (new ∷ []) ≤ room_of positions_layout cells
 
   -- A row is written over.
-  over_fits : sound_positions cells ≡ true → (row : ℕ) → Found.Row row ≡ position_found cells new.account new.series → Room
+  pub over_fits : sound_positions cells ≡ true → (row : ℕ) → Found.Row row ≡ position_found cells new.account new.series → Room
   over_fits sound row e =
       omega (
         arith,
@@ -31,7 +31,7 @@ module _ (cells : List ℤ) (new : Position) where
       )
 
   -- A row is made.
-  made_fits : (place : ℕ) → Found.Absent place ≡ position_found cells new.account new.series → length rows < room_of positions_layout cells → Room
+  pub made_fits : (place : ℕ) → Found.Absent place ≡ position_found cells new.account new.series → length rows < room_of positions_layout cells → Room
   made_fits place e room =
       omega (
         arith,

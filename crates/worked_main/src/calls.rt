@@ -1,6 +1,7 @@
 // The calls, each printed: its figures and its list, the answer, and both tables as it leaves them.
 
 ghost use Rattle.std.specs.Prelude.{◌≤◌};
+ghost use Rattle.printing.specs.NoRow.{HoldsNoRow};
 
 use rules::Reply;
 use rules::layout::{POSITIONS_HEADER, RECORDS_HEADER};
@@ -19,16 +20,13 @@ impl<const R: usize, const P: usize> Tables<R, P> {
     pub fn new() -> Self
         requires records { 2 ≤ R }
         requires positions { 1 ≤ P }
+        ensures no_records { HoldsNoRow 2 result.records }
+        ensures no_positions { HoldsNoRow 1 result.positions }
     {
         Tables {
             records: printing::no_rows(RECORDS_HEADER),
             positions: printing::no_rows(POSITIONS_HEADER),
         }
-    }
-
-    // The name of an example, and its tables at the start.
-    pub fn start<W: Write>(&self, out: &mut W, name: &str) -> io::Result<()> {
-        showing::start(out, name.as_bytes(), &self.records, &self.positions)
     }
 
     fn answer<W: Write>(&self, out: &mut W, r: Reply) -> io::Result<()> {

@@ -10,6 +10,15 @@ use rules::layout::POSITIONS_HEADER;
 use std::io;
 use std::io::Write;
 
+// The name of an example, and its tables at the start.
+fn start<W: Write, const R: usize, const P: usize>(
+    out: &mut W,
+    name: &str,
+    tables: &Tables<R, P>,
+) -> io::Result<()> {
+    showing::start(out, name.as_bytes(), &tables.records, &tables.positions)
+}
+
 // One position, of account 1 and series 1, with room for two.
 fn one_position(long: i64, short: i64) -> [i64; 15] {
     [1, 1, 1, long, short, 0, 0, 0, -1, -1, -1, -1, -1, -1, -1]
@@ -24,7 +33,7 @@ fn closing<W: Write>(
 ) -> io::Result<()> {
     let mut tables = Tables::<30, 15>::new();
     tables.positions = positions;
-    tables.start(out, name)?;
+    start(out, name, &tables)?;
     tables.trade(out, [7, 1, 1, 3, quantity, 5])
 }
 
@@ -39,7 +48,7 @@ fn merging<W: Write>(
     p2: i64,
 ) -> io::Result<()> {
     let mut tables = Tables::<86, 8>::new();
-    tables.start(out, name)?;
+    start(out, name, &tables)?;
     tables.trade(out, [1, 4, 9, side, q1, p1])?;
     tables.trade(out, [2, 4, 9, side, q2, p2])?;
     tables.merge(out, [3, 4, 9], &[1, 0, 2, 0])
@@ -48,7 +57,7 @@ fn merging<W: Write>(
 // A trade, then its separation.
 fn separating<W: Write>(out: &mut W, name: &str, quantity: i64, parts: &[i64]) -> io::Result<()> {
     let mut tables = Tables::<72, 8>::new();
-    tables.start(out, name)?;
+    start(out, name, &tables)?;
     tables.trade(out, [8, 1, 1, 1, quantity, 5])?;
     tables.separate(out, [8, 0, 1, 1], parts)
 }
@@ -56,7 +65,7 @@ fn separating<W: Write>(out: &mut W, name: &str, quantity: i64, parts: &[i64]) -
 // The same pair twice.
 fn p10<W: Write>(out: &mut W) -> io::Result<()> {
     let mut tables = Tables::<72, 8>::new();
-    tables.start(out, "P10")?;
+    start(out, "P10", &tables)?;
     tables.trade(out, [8, 1, 1, 1, 100, 5])?;
     tables.merge(out, [9, 1, 1], &[8, 0, 8, 0])
 }
@@ -64,7 +73,7 @@ fn p10<W: Write>(out: &mut W) -> io::Result<()> {
 fn p11<W: Write>(out: &mut W) -> io::Result<()> {
     let id = 456_789;
     let mut tables = Tables::<114, 22>::new();
-    tables.start(out, "P11")?;
+    start(out, "P11", &tables)?;
     tables.trade(out, [id, 1, 1, 1, 100, 1_250_000_000])?;
     tables.transfer(out, [id, 0, 1, 2, 1])?;
     tables.separate(out, [id, 2, 2, 1], &[50, 25, 25])
@@ -79,7 +88,7 @@ fn trading<W: Write>(
     price: i64,
 ) -> io::Result<()> {
     let mut tables = Tables::<16, 8>::new();
-    tables.start(out, name)?;
+    start(out, name, &tables)?;
     tables.trade(out, [7, 1, 1, side, quantity, price])
 }
 
@@ -89,13 +98,13 @@ fn without_room<W: Write, const R: usize, const P: usize>(
     name: &str,
     mut tables: Tables<R, P>,
 ) -> io::Result<()> {
-    tables.start(out, name)?;
+    start(out, name, &tables)?;
     tables.trade(out, [7, 1, 1, 1, 100, 5])
 }
 
 fn shared_id<W: Write>(out: &mut W) -> io::Result<()> {
     let mut tables = Tables::<100, 8>::new();
-    tables.start(out, "Two sources that share an id, and lineage")?;
+    start(out, "Two sources that share an id, and lineage", &tables)?;
     tables.trade(out, [5, 1, 1, 1, 4, -1])?;
     tables.separate(out, [5, 0, 1, 1], &[3, 1])?;
     tables.merge(out, [6, 1, 1], &[5, 2, 5, 3])?;
@@ -104,8 +113,7 @@ fn shared_id<W: Write>(out: &mut W) -> io::Result<()> {
 }
 
 // P6 as document 01's rule booked it, at 0 with a residual of 1.
-fn p6_before() -> Tables<156, 15> {
-    let mut tables = Tables::<156, 15>::new();
+fn book_p6(tables: &mut Tables<156, 15>) {
     let records = &mut tables.records;
     let positions = &mut tables.positions;
     book::trade(records, positions, 1, 4, 9, 1, 1, -1);
@@ -114,13 +122,13 @@ fn p6_before() -> Tables<156, 15> {
     records[67] = 0;
     positions[5] = 1;
     positions[7] = 0;
-    tables
 }
 
 // The merged record is transferred, and merged with a trade.
 fn merged_before<W: Write>(out: &mut W) -> io::Result<()> {
-    let mut tables = p6_before();
-    tables.start(out, "A record merged before, at 0")?;
+    let mut tables = Tables::<156, 15>::new();
+    book_p6(&mut tables);
+    start(out, "A record merged before, at 0", &tables)?;
     tables.transfer(out, [3, 0, 4, 5, 9])?;
     tables.trade(out, [4, 5, 9, 1, 2, -1])?;
     tables.merge(out, [6, 5, 9], &[3, 2, 4, 0])?;
@@ -175,7 +183,7 @@ fn others<W: Write>(out: &mut W) -> io::Result<()> {
 fn batch<W: Write>(out: &mut W, name: &str, figures: &[i64], excess: &mut [i64]) -> io::Result<()> {
     let mut tables = Tables::<44, 15>::new();
     tables.positions = one_position(100, 120);
-    tables.start(out, name)?;
+    start(out, name, &tables)?;
     tables.trades(out, figures, excess)
 }
 

@@ -16,12 +16,12 @@ use Rattle.integers.proofs.Linear.{zarith}
 use Rattle.text.specs.Decimal.{minus, digits_of, number_text}
 use Rattle.text.specs.Fields.{tab, fields_text}
 
-below-zero : (z : ℤ) → z <ℤ pos 0 → number_text z ≡ minus ∷ digits_of (nat_abs z)
+pub below-zero : (z : ℤ) → z <ℤ pos 0 → number_text z ≡ minus ∷ digits_of (nat_abs z)
 unfolding number_text
 below-zero (pos n) below = absurd (omega (zarith, below))
 below-zero (negsuc n) below = refl
 
-not-below-zero : (z : ℤ) → pos 0 ≤ℤ z → number_text z ≡ digits_of (nat_abs z)
+pub not-below-zero : (z : ℤ) → pos 0 ≤ℤ z → number_text z ≡ digits_of (nat_abs z)
 unfolding number_text
 not-below-zero (pos n) left = refl
 not-below-zero (negsuc n) left = absurd (omega (zarith, left))

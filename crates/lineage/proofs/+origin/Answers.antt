@@ -64,8 +64,8 @@ overflow_add-result t c =
     let original = c.in_ok-original.original in
     let links-fit : FitsSigned w64 original.links = search rules in
     let named = row-read a.records.now a.id a.suffix c.look_up.result (simp to_z-of_z at c.look_up.ensures) c.in-Ok.there (ap result_ok c.in-Ok.is) r c.read_record-r.ensures in
-    let not-zero = not-literal 0 suffix-fits c.if-suffix-eq0.false in
-    let few = links-few a.records.now a.id a.suffix r named c.requires.0 not-zero c.origin.result (simp to_z-of_z at c.origin.ensures) original c.in_ok-original.was in
+    let parent-is-valid = parent-valid a.records.now c.requires.0 a.id a.suffix r named in
+    let few = links-few a.records.now c.requires.0 a.id r.parent parent-is-valid c.origin.result (simp to_z-of_z at c.origin.ensures) original c.in_ok-original.was in
     simp to_z-of_z (omega (zarith, few, +-lin))
 
 pub returns : goal.returns
@@ -80,7 +80,8 @@ returns t c =
     let named = row-read a.records.now a.id a.suffix c.look_up.result (simp to_z-of_z at c.look_up.ensures) c.in-Ok.there (ap result_ok c.in-Ok.is) r c.read_record-r.ensures in
     let not-zero = not-literal 0 suffix-fits c.if-suffix-eq0.false in
     let told = simp to_z-of_z at c.origin.ensures in
-    let few = links-few a.records.now a.id a.suffix r named c.requires.0 not-zero c.origin.result told original c.in_ok-original.was in
+    let parent-is-valid = parent-valid a.records.now c.requires.0 a.id a.suffix r named in
+    let few = links-few a.records.now c.requires.0 a.id r.parent parent-is-valid c.origin.result told original c.in_ok-original.was in
     let next = original.links +ℤ pos 1 in
     let next-fits : FitsSigned w64 next = omega (zarith, few, +-lin) in
     rw (to_z-of_z w64 original.links)

@@ -24,16 +24,16 @@ last : (qs : List ℤ) (r : Record) (giving series : ℤ) {elsewhere to-close : 
 last qs r giving series f e here s t to-open =
     at-23 qs r giving series (sym (told giving series r f.0 f.1 e) ∙ here) (is-literal 0 tt f.2 s) (sym (t ∙ ap is_to_close (to_z-of_z f.3)) ∙ to-open)
 
-pub returns-then-is_elsewhere : goal.returns-then-is_elsewhere
+pub returns-then-elsewhere : goal.returns-then-elsewhere
 unfolding test
-returns-then-is_elsewhere c =
-    stops (at-6 c.args.processes.now c.args.r c.args.giving c.args.series) (sym (told _ _ c.args.r c.ranges.giving c.ranges.series c.is_elsewhere.ensures) ∙ c.if-is_elsewhere.true)
+returns-then-elsewhere c =
+    stops (at-6 c.args.processes.now c.args.r c.args.giving c.args.series) (sym (told _ _ c.args.r c.ranges.giving c.ranges.series c.is_elsewhere-elsewhere.ensures) ∙ c.if-elsewhere.true)
 
 pub returns-then-status-ne-ADJUSTABLE : goal.returns-then-status-ne-ADJUSTABLE
 unfolding test status_test is_not_adjustable
 returns-then-status-ne-ADJUSTABLE c =
     let fits : SFits w64 c.args.r.status = search rules in
-    let here : is_elsewhere c.args.giving c.args.series c.args.r ≡ false = sym (told _ _ c.args.r c.ranges.giving c.ranges.series c.is_elsewhere.ensures) ∙ c.if-is_elsewhere.false in
+    let here : is_elsewhere c.args.giving c.args.series c.args.r ≡ false = sym (told _ _ c.args.r c.ranges.giving c.ranges.series c.is_elsewhere-elsewhere.ensures) ∙ c.if-elsewhere.false in
     ap (λ (n : ℤ). Refused n (pos 0)) (c.status_refusal.ensures ∙ ap (λ (z : ℤ). pos (status_refusal z)) (to_z-of_z fits))
     ∙ stops (at_7 c.args.processes.now c.args.r c.args.giving c.args.series here) (ap not (not-literal 0 fits c.if-status-ne-ADJUSTABLE.true))
 
@@ -42,17 +42,17 @@ unfolding test
 returns-then-is_to_close c =
     let fits : SFits w64 c.args.r.status = search rules in
     let side : SFits w64 c.args.r.side = search rules in
-    let here : is_elsewhere c.args.giving c.args.series c.args.r ≡ false = sym (told _ _ c.args.r c.ranges.giving c.ranges.series c.is_elsewhere.ensures) ∙ c.if-is_elsewhere.false in
+    let here : is_elsewhere c.args.giving c.args.series c.args.r ≡ false = sym (told _ _ c.args.r c.ranges.giving c.ranges.series c.is_elsewhere-elsewhere.ensures) ∙ c.if-elsewhere.false in
     let to-close : c.is_to_close.result ≡ is_to_close c.args.r.side = c.is_to_close.ensures ∙ ap is_to_close (to_z-of_z side) in
     stops (at_8 c.args.processes.now c.args.r c.args.giving c.args.series here (is-literal 0 tt fits c.if-status-ne-ADJUSTABLE.false)) (sym to-close ∙ c.if-is_to_close.true)
 
-pub returns-then-lacks_room : goal.returns-then-lacks_room
+pub returns-then-full : goal.returns-then-full
 unfolding test
-returns-then-lacks_room c =
+returns-then-full c =
     let qs : List ℤ = c.args.processes.now in
     let status : SFits w64 c.args.r.status = search rules in
     let side : SFits w64 c.args.r.side = search rules in
-    stops (last qs c.args.r c.args.giving c.args.series (c.ranges.giving, c.ranges.series, status, side) c.is_elsewhere.ensures c.if-is_elsewhere.false c.if-status-ne-ADJUSTABLE.false c.is_to_close.ensures c.if-is_to_close.false) (sym c.lacks_room.ensures ∙ c.if-lacks_room.true)
+    stops (last qs c.args.r c.args.giving c.args.series (c.ranges.giving, c.ranges.series, status, side) c.is_elsewhere-elsewhere.ensures c.if-elsewhere.false c.if-status-ne-ADJUSTABLE.false c.is_to_close.ensures c.if-is_to_close.false) (sym c.lacks_room-full.ensures ∙ c.if-full.true)
 
 pub returns : goal.returns
 unfolding test
@@ -60,4 +60,4 @@ returns c =
     let qs : List ℤ = c.args.processes.now in
     let status : SFits w64 c.args.r.status = search rules in
     let side : SFits w64 c.args.r.side = search rules in
-    ends (last qs c.args.r c.args.giving c.args.series (c.ranges.giving, c.ranges.series, status, side) c.is_elsewhere.ensures c.if-is_elsewhere.false c.if-status-ne-ADJUSTABLE.false c.is_to_close.ensures c.if-is_to_close.false past sym c.lacks_room.ensures ∙ c.if-lacks_room.false)
+    ends (last qs c.args.r c.args.giving c.args.series (c.ranges.giving, c.ranges.series, status, side) c.is_elsewhere-elsewhere.ensures c.if-elsewhere.false c.if-status-ne-ADJUSTABLE.false c.is_to_close.ensures c.if-is_to_close.false past sym c.lacks_room-full.ensures ∙ c.if-full.false)
