@@ -239,9 +239,11 @@ pub fn on_sound(
     let named = requests::record_named(records, id, suffix, there);
     let old = requests::position_held(positions, from, series);
     let new = requests::position_held(positions, to, series);
-    verdict(
+    // Bound before it is handed on, as opening::verdict binds its tests: a wrong answer in its place is then refused by a fact.
+    let passed = verdict(
         records, positions, named, old, new, id, suffix, from, to, series,
-    )?;
+    );
+    passed?;
     Ok(book(
         records, positions, named, old, new, id, suffix, from, to, series,
     ))

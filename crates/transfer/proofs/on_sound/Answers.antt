@@ -18,10 +18,10 @@ use Rattle.lookup.proofs.TableSought.{table-lacks}
 use Rattle.requests.proofs.OnSound.{refused-for, refused-by, booked-soundly}
 use Rattle.requests.specs.KnownPosition.{KnownPosition}
 use Rattle.requests.specs.KnownRecord.{KnownRecord}
-use Rattle.verdict.specs.Verdict.{judged, verdict_on}
+use Rattle.verdict.specs.Verdict.{judged}
 use Rattle.verdict.proofs.Remaining.{◌past◌, stops}
 use Rattle.verdict.proofs.Transfer.{transfer-tests}
-use Rattle.transfer.proofs.on_sound.Goals.{After-figures_valid, After-look_up, After-verdict}
+use Rattle.transfer.proofs.on_sound.Goals.{After-figures_valid, After-look_up}
 use Rattle.transfer.proofs.on_sound.Goals as goal
 
 -- ---- test 3
@@ -65,47 +65,46 @@ record_named-named-requires c =
     simp (to_z-of_z c.ranges.id, to_z-of_z c.ranges.suffix)
     (record-rows-sound c.args.records.now c.requires.0, sym (looked c.before) ∙ ap sought_told c.in-Ok.is)
 
-module _ (c : goal.After-position_held-new) where
-  named : KnownRecord c.args.records.now c.args.id c.args.suffix c.record_named-named.result
-  named = simp (to_z-of_z c.ranges.id, to_z-of_z c.ranges.suffix) at c.record_named-named.ensures
-
-  old : KnownPosition c.args.positions.now c.args.from c.args.series c.position_held-old.result
-  old = simp (to_z-of_z c.ranges.from, to_z-of_z c.ranges.series) at c.position_held-old.ensures
-
-  new : KnownPosition c.args.positions.now c.args.to c.args.series c.position_held-new.result
-  new = simp (to_z-of_z c.ranges.to, to_z-of_z c.ranges.series) at c.position_held-new.ensures
-
--- ---- the verdict
-
-pub verdict-requires : goal.verdict-requires
-verdict-requires c =
+pub verdict-passed-requires : goal.verdict-passed-requires
+verdict-passed-requires c =
+    let a = c.args in
+    let named : KnownRecord a.records.now a.id a.suffix c.record_named-named.result = simp (to_z-of_z c.ranges.id, to_z-of_z c.ranges.suffix) at c.record_named-named.ensures in
+    let old : KnownPosition a.positions.now a.from a.series c.position_held-old.result = simp (to_z-of_z c.ranges.from, to_z-of_z c.ranges.series) at c.position_held-old.ensures in
+    let new : KnownPosition a.positions.now a.to a.series c.position_held-new.result = simp (to_z-of_z c.ranges.to, to_z-of_z c.ranges.series) at c.position_held-new.ensures in
     simp (to_z-of_z c.ranges.id, to_z-of_z c.ranges.suffix, to_z-of_z c.ranges.from, to_z-of_z c.ranges.to, to_z-of_z c.ranges.series)
     (record {
       tables_sound = (record-rows-sound c.args.records.now c.requires.0, c.requires.1);
-      looked_up = (figures c.before.before.before.before, named c, old c, new c);
+      looked_up = (figures c.before.before.before.before, named, old, new);
     })
 
-judgement : (c : After-verdict) → judged c.verdict.result ≡ verdict_on c.args.records.now c.args.positions.now (transfer c.args.id c.args.suffix c.args.from c.args.to c.args.series)
-judgement c = simp (to_z-of_z c.ranges.id, to_z-of_z c.ranges.suffix, to_z-of_z c.ranges.from, to_z-of_z c.ranges.to, to_z-of_z c.ranges.series) at c.verdict.ensures
-
-pub returns-in_err-verdict : goal.returns-in_err-verdict
-returns-in_err-verdict c =
+pub returns-in_err-passed : goal.returns-in_err-passed
+returns-in_err-passed c =
     let a = c.args in
-    refused-by a.records.now a.positions.now c.requires (transfer a.id a.suffix a.from a.to a.series) c.in_err-verdict.field-0.0 c.from_residual.result c.from_residual.ensures
-    (ap judged (sym c.in_err-verdict.was) ∙ judgement c.before.before.before)
+    refused-by a.records.now a.positions.now c.requires (transfer a.id a.suffix a.from a.to a.series) c.in_err-passed.field-0.0 c.from_residual.result c.from_residual.ensures
+    (ap judged (sym c.in_err-passed.was)
+    ∙ simp (to_z-of_z c.ranges.id, to_z-of_z c.ranges.suffix, to_z-of_z c.ranges.from, to_z-of_z c.ranges.to, to_z-of_z c.ranges.series) at c.verdict-passed.ensures)
 
 pub book-requires : goal.book-requires
 book-requires c =
-    let v : After-verdict = c.before.before.before.before in
+    let a = c.args in
+    let named : KnownRecord a.records.now a.id a.suffix c.record_named-named.result = simp (to_z-of_z c.ranges.id, to_z-of_z c.ranges.suffix) at c.record_named-named.ensures in
+    let old : KnownPosition a.positions.now a.from a.series c.position_held-old.result = simp (to_z-of_z c.ranges.from, to_z-of_z c.ranges.series) at c.position_held-old.ensures in
+    let new : KnownPosition a.positions.now a.to a.series c.position_held-new.result = simp (to_z-of_z c.ranges.to, to_z-of_z c.ranges.series) at c.position_held-new.ensures in
     simp (to_z-of_z c.ranges.id, to_z-of_z c.ranges.suffix, to_z-of_z c.ranges.from, to_z-of_z c.ranges.to, to_z-of_z c.ranges.series)
     (record {
-      accepted = (c.requires.0, c.requires.1, sym (judgement v) ∙ ap judged c.in_ok-verdict.was);
-      looked_up = (named v.before, old v.before, new v.before);
+      accepted = (
+        c.requires.0,
+        c.requires.1,
+        sym (simp (to_z-of_z c.ranges.id, to_z-of_z c.ranges.suffix, to_z-of_z c.ranges.from, to_z-of_z c.ranges.to, to_z-of_z c.ranges.series) at c.verdict-passed.ensures)
+            ∙ ap judged c.in_ok-passed.was,
+      );
+      looked_up = (named, old, new);
     })
 
 pub returns : goal.returns
 returns c =
     let a = c.args in
-    let v : After-verdict = c.before.before.before.before.before.before.before in
-    booked-soundly a.records.now a.positions.now c.requires (transfer a.id a.suffix a.from a.to a.series) (judgement v) (ap judged c.in_ok-verdict.was) _
+    booked-soundly a.records.now a.positions.now c.requires (transfer a.id a.suffix a.from a.to a.series)
+    (simp (to_z-of_z c.ranges.id, to_z-of_z c.ranges.suffix, to_z-of_z c.ranges.from, to_z-of_z c.ranges.to, to_z-of_z c.ranges.series) at c.verdict-passed.ensures)
+    (ap judged c.in_ok-passed.was) _
     (simp (to_z-of_z c.ranges.id, to_z-of_z c.ranges.suffix, to_z-of_z c.ranges.from, to_z-of_z c.ranges.to, to_z-of_z c.ranges.series) at c.book.ensures)
