@@ -78,7 +78,9 @@ fn gaps<W: Write>(to: &mut W) -> io::Result<()> {
 // A room of 4,096 rows, filled from the greatest id down, in a slice with space for more.
 fn full_room<W: Write>(to: &mut W) -> io::Result<()> {
     printing::line(to, b"4,096 records, added from the greatest id down")?;
-    let mut cells: [i64; 57_400] = printing::no_rows(RECORDS_HEADER);
+    // Filled in its place: handed out by `no_rows`, so long a table may stand on the stack twice.
+    let mut cells = [-1; 57_400];
+    cells[..RECORDS_HEADER].fill(0);
     let n = add::down(&mut cells, 4_097);
     writeln!(to, "added {n}")?;
     ask(to, &cells, 1, 0)?;
