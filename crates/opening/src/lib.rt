@@ -90,10 +90,19 @@ pub fn on_sound(
     };
     let row = there.row;
     let r = records::read_record(records, row);
-    verdict(processes, r, g.giving, g.series)?;
-    book(records, processes, row, absent.place, g);
-    Ok(Confirmation::Booked {
-        rows: 0,
-        residual: 0,
-    })
+    let passed = verdict(processes, r, g.giving, g.series);
+    match passed {
+        // Bound before it is answered: a wrong answer in its place is then refused by a fact.
+        Err(reason) => {
+            let refusal = Refusal::from(reason);
+            Err(refusal)
+        }
+        Ok(()) => {
+            book(records, processes, row, absent.place, g);
+            Ok(Confirmation::Booked {
+                rows: 0,
+                residual: 0,
+            })
+        }
+    }
 }

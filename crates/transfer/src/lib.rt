@@ -239,12 +239,17 @@ pub fn on_sound(
     let named = requests::record_named(records, id, suffix, there);
     let old = requests::position_held(positions, from, series);
     let new = requests::position_held(positions, to, series);
-    // Bound before it is handed on, as opening::verdict binds its tests: a wrong answer in its place is then refused by a fact.
     let passed = verdict(
         records, positions, named, old, new, id, suffix, from, to, series,
     );
-    passed?;
-    Ok(book(
-        records, positions, named, old, new, id, suffix, from, to, series,
-    ))
+    match passed {
+        // Bound before it is answered: a wrong answer in its place is then refused by a fact.
+        Err(reason) => {
+            let refusal = Refusal::from(reason);
+            Err(refusal)
+        }
+        Ok(()) => Ok(book(
+            records, positions, named, old, new, id, suffix, from, to, series,
+        )),
+    }
 }

@@ -1,18 +1,22 @@
 -- Refused by its figures, since the process id is used or the record absent, or by the verdict on what was looked up; or booked.
-use Rattle.std.proofs.Common.{◌≡◌, ℤ, pos, Some, None, Option, true, false, List, sym, ◌∙◌, rules, w64, to_z, of_z}
+use Rattle.std.proofs.Common.{◌≡◌, ℤ, pos, Some, None, Option, true, false, List, sym, ap, ◌∙◌, rules, w64, to_z, of_z}
 use Rattle.std.proofs.Math.Option as Option
 use Rattle.std.proofs.Math.Option.{none, some}
 use Rattle.std.specs.Option.{is_some}
+use mathlib.Core.Path.{subst}
+use Rattle.std.specs.Prelude.{Err}
 use mir.Facts.{to_z-of_z}
-use Rattle.std.proofs.lemmas.Result.{err_from_is_err_and}
 use Rattle.rules.specs.Keyed.{find, greatest}
 use Rattle.rules.specs.Rows.{key_of, record_key}
 use Rattle.rules.specs.ProcessRows.{process_key}
-use Rattle.rules.specs.Reasons.{number_of}
+use Rattle.rules.specs.Reasons.{number_of, answer_of}
+use Rattle.rules.specs.Handle.{answered_by}
 use Rattle.rules.specs.Refusal.{first_refusal}
 use Rattle.rules.specs.Layout.{row_at, rows_of}
-use Rattle.rules.specs.Tables.{records_layout, processes_layout}
+use Rattle.rules.specs.Tables.{all_tables, records_layout, processes_layout}
 use Rattle.rules.specs.declared.Record.{Record}
+use Rattle.rules.specs.declared.Step.TheVariants.{Open}
+use Rattle.rules.specs.declared.refusals.Refusal.{Refusal}
 use Rattle.cells.proofs.SoundCells.{record-rows-sound}
 use Rattle.lookup.specs.Lookup.{greatest_found, sought_in, record_sought}
 use Rattle.lookup.specs.Greatest.{greatest_told}
@@ -25,8 +29,10 @@ use Rattle.lookup.specs.SoughtRows.{PresentAt, AbsentAt}
 use Rattle.lookup.proofs.TableSought.{table-present, table-lacks}
 use Rattle.processes.proofs.ProcessTable.{processes-first}
 use Rattle.soundness.proofs.GiveUp.{give-up-figures, sound-process}
-use Rattle.verdict.specs.Verdict.{Verdict, Accepted, Refused, verdict_of}
+use Rattle.verdict.specs.Verdict.{Verdict, Accepted, Refused, judged, verdict_of}
+use Rattle.give_up_steps.specs.HandledIn.{HandledIn}
 use Rattle.give_up_steps.specs.StepTests.{opening_tests}
+use Rattle.give_up_steps.specs.Terms.{step_of}
 use Rattle.give_up_steps.specs.declared.Terms.{Terms}
 use Rattle.opening.proofs.OpeningStep.{InRange, opening-figures, opening-used, opening-missing, opening-refused, opening-booked}
 use Rattle.opening.proofs.OpeningTests.{accepted-restated, accepted-room}
@@ -118,8 +124,8 @@ read_record-r-requires c =
     let fits : InRange c.args.g = search rules in
     (record-rows-sound c.args.records.now c.requires.records, (named c.args.records.now c.args.processes.now c.args.g fits c.in-Ok.there c.in-Ok.ensures).row_within)
 
-pub returns-in_err-verdict : goal.returns-in_err-verdict
-returns-in_err-verdict c =
+pub returns-in-Err-passed : goal.returns-in-Err-passed
+returns-in-Err-passed c =
     let rs : List ℤ = c.args.records.now in
     let qs : List ℤ = c.args.processes.now in
     let g : Terms = c.args.g in
@@ -127,11 +133,12 @@ returns-in_err-verdict c =
     let lacks = lacks-process rs qs g fits c.in-Err.absent c.in-Err.ensures in
     let there = named rs qs g fits c.in-Ok.there c.in-Ok.ensures in
     let r : Record = row_at records_layout rs c.in-Ok.there.row in
-    let number : ℤ = number_of c.in_err-verdict.field-0.0 in
-    let told = err_from_is_err_and c.from_residual.result c.from_residual.ensures.1 in
-    rw (told.1, told.2)
+    let number : ℤ = number_of c.in-Err-passed.reason in
+    subst
+    (λ (e : Refusal). HandledIn (all_tables rs c.args.positions.now qs) (step_of Open g) (answered_by (answer_of (Err e)) (all_tables rs c.args.positions.now qs)))
+    (sym c.from-refusal.ensures)
     (opening-refused rs c.args.positions.now qs c.requires g (sym c.figures_valid.ensures ∙ c.if-not-figures_valid.false) (unused qs g c.in-Err.absent lacks (sym c.is_some.ensures ∙ c.if-is_some.false))
-    r there.found number (pos 0) (by-verdict rs qs g fits r (Refused number (pos 0)) (rw c.read_record-r.ensures at c.in_err-verdict.ensures)))
+    r there.found number (pos 0) (by-verdict rs qs g fits r (Refused number (pos 0)) (rw c.read_record-r.ensures at (ap judged (sym c.in-Err-passed.is) ∙ c.verdict-passed.ensures))))
 
 -- ---- the booking
 
@@ -144,7 +151,7 @@ book-requires c =
     let lacks = lacks-process rs qs g fits c.in-Err.absent c.in-Err.ensures in
     let there = named rs qs g fits c.in-Ok.there c.in-Ok.ensures in
     let r : Record = row_at records_layout rs c.in-Ok.there.row in
-    let accepted : verdict_of (first_refusal (opening_tests qs r g.giving g.series)) ≡ Accepted = by-verdict rs qs g fits r Accepted (rw c.read_record-r.ensures at c.in_ok-verdict.ensures) in
+    let accepted : verdict_of (first_refusal (opening_tests qs r g.giving g.series)) ≡ Accepted = by-verdict rs qs g fits r Accepted (rw c.read_record-r.ensures at (ap judged (sym c.in-Ok-passed.is) ∙ c.verdict-passed.ensures)) in
     record {
       records-sound = record-rows-sound rs c.requires.records;
       row_within = there.row_within;
@@ -156,8 +163,8 @@ book-requires c =
       place_is = lacks.place_is;
     }
 
-pub returns : goal.returns
-returns c =
+pub returns-in-Ok-passed : goal.returns-in-Ok-passed
+returns-in-Ok-passed c =
     let rs : List ℤ = c.args.records.now in
     let qs : List ℤ = c.args.processes.now in
     let g : Terms = c.args.g in
@@ -166,4 +173,4 @@ returns c =
     let there = named rs qs g fits c.in-Ok.there c.in-Ok.ensures in
     let r : Record = row_at records_layout rs c.in-Ok.there.row in
     opening-booked rs c.args.positions.now qs c.requires g (sym c.figures_valid.ensures ∙ c.if-not-figures_valid.false) (unused qs g c.in-Err.absent lacks (sym c.is_some.ensures ∙ c.if-is_some.false))
-    r there.found (by-verdict rs qs g fits r Accepted (rw c.read_record-r.ensures at c.in_ok-verdict.ensures)) c.book.new.records c.book.new.processes c.book.ensures.0 c.book.ensures.1
+    r there.found (by-verdict rs qs g fits r Accepted (rw c.read_record-r.ensures at (ap judged (sym c.in-Ok-passed.is) ∙ c.verdict-passed.ensures))) c.book.new.records c.book.new.processes c.book.ensures.0 c.book.ensures.1

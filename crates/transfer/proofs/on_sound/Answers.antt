@@ -15,7 +15,7 @@ use Rattle.lookup.specs.Lookup.{record_sought}
 use Rattle.lookup.specs.Sought.{sought_told}
 use Rattle.lookup.proofs.TableLookup.{records-first}
 use Rattle.lookup.proofs.TableSought.{table-lacks}
-use Rattle.requests.proofs.OnSound.{refused-for, refused-by, booked-soundly}
+use Rattle.requests.proofs.OnSound.{refused-for, booked-soundly}
 use Rattle.requests.specs.KnownPosition.{KnownPosition}
 use Rattle.requests.specs.KnownRecord.{KnownRecord}
 use Rattle.verdict.specs.Verdict.{judged}
@@ -77,11 +77,11 @@ verdict-passed-requires c =
       looked_up = (figures c.before.before.before.before, named, old, new);
     })
 
-pub returns-in_err-passed : goal.returns-in_err-passed
-returns-in_err-passed c =
+pub returns-in-Err : goal.returns-in-Err
+returns-in-Err c =
     let a = c.args in
-    refused-by a.records.now a.positions.now c.requires (transfer a.id a.suffix a.from a.to a.series) c.in_err-passed.field-0.0 c.from_residual.result c.from_residual.ensures
-    (ap judged (sym c.in_err-passed.was)
+    refused-for a.records.now a.positions.now c.requires (transfer a.id a.suffix a.from a.to a.series) c.in-Err.reason c.from-refusal.result c.from-refusal.ensures
+    (ap judged (sym c.in-Err.is)
     ∙ simp (to_z-of_z c.ranges.id, to_z-of_z c.ranges.suffix, to_z-of_z c.ranges.from, to_z-of_z c.ranges.to, to_z-of_z c.ranges.series) at c.verdict-passed.ensures)
 
 pub book-requires : goal.book-requires
@@ -96,15 +96,15 @@ book-requires c =
         c.requires.0,
         c.requires.1,
         sym (simp (to_z-of_z c.ranges.id, to_z-of_z c.ranges.suffix, to_z-of_z c.ranges.from, to_z-of_z c.ranges.to, to_z-of_z c.ranges.series) at c.verdict-passed.ensures)
-            ∙ ap judged c.in_ok-passed.was,
+            ∙ ap judged c.in-Ok-passed.is,
       );
       looked_up = (named, old, new);
     })
 
-pub returns : goal.returns
-returns c =
+pub returns-in-Ok-passed : goal.returns-in-Ok-passed
+returns-in-Ok-passed c =
     let a = c.args in
     booked-soundly a.records.now a.positions.now c.requires (transfer a.id a.suffix a.from a.to a.series)
     (simp (to_z-of_z c.ranges.id, to_z-of_z c.ranges.suffix, to_z-of_z c.ranges.from, to_z-of_z c.ranges.to, to_z-of_z c.ranges.series) at c.verdict-passed.ensures)
-    (ap judged c.in_ok-passed.was) _
+    (ap judged c.in-Ok-passed.is) _
     (simp (to_z-of_z c.ranges.id, to_z-of_z c.ranges.suffix, to_z-of_z c.ranges.from, to_z-of_z c.ranges.to, to_z-of_z c.ranges.series) at c.book.ensures)
